@@ -2,6 +2,7 @@
 use Rattle.std.proofs.Common.{◌≡◌, ℕ, ◌+◌, ◌*◌, ◌-◌, ◌^◌, ◌<◌, ◌≤◌, ◌==◌, zero, suc, List, [], ◌∷◌, ◌++◌, length, map, drop, get_or, cond, Bool, true, false, Some, None, slice_get, inl, inr, refl, arith, ap, ap₂, sym, ◌∙◌, subst}
 use Rattle.std.proofs.lemmas.Bool.{cases_Bool, eq-eqb, ne_eqb}
 use Rattle.std.proofs.lemmas.List.{drop_more, drop_all, map_push}
+use Rattle.cf_fold.specs.Cells.{halves, measure_word}
 use Rattle.cf_fold.specs.Quads.{QuadValue, quad_of, IsQuad}
 use Rattle.cf_fold.proofs.Lawful.{AreLow, quad_is_lawful}
 use Rattle.cf_row.specs.Row.{RowValue, Fits, values_fit}
@@ -9,7 +10,7 @@ use Rattle.cf_row.proofs.Bytes.{both}
 use Rattle.cf_shape.specs.Lanes.{ShapeValue, IsShape, measure_of}
 use Rattle.cf_shape.specs.Uses.{is_measured, use_at}
 use Rattle.cf_shape.proofs.Measured.{measure_low}
-use Rattle.cf_words.specs.Words.{Spot, spot, Layout, Ticket, same_path, link_to_newest, version_word, measure_word}
+use Rattle.cf_words.specs.Words.{Spot, spot, Layout, Ticket, same_path, link_to_newest, version_word}
 use Rattle.cf_law.specs.Passes.{Own, Book, Pass}
 use Rattle.cf_law.specs.Lawful.{mine_in}
 use Rattle.cf_law.specs.Steps.{Holds, mine_chain, own_word, own_lane_word}
@@ -150,17 +151,12 @@ top_low sh s (x ∷ xs) shape own = elim (cases_Bool (same_path (sh.path x.row s
     pushed (y ∷ ys) le lt = le
 
 -- words of cells
-pub cell_word_more : (m : Bool) (previous : ℕ) (q : QuadValue) (j : ℕ) → 2 ≤ j → cell_word_of m previous q j ≡ q.least + 2 ^ 32 * q.greatest
-cell_word_more m previous q zero le = absurd (omega arith)
-cell_word_more m previous q (suc zero) le = absurd (omega arith)
-cell_word_more m previous q (suc (suc j)) le = refl
-
 word_is : (shape : ShapeValue) (lane j : ℕ) (c : List (ℕ × RowValue)) (row : RowValue) (m : Bool) (previous : ℕ) (q : QuadValue) → m ≡ is_measured shape lane
     → previous ≡ link_to_newest c → q ≡ quad_of (amounts_with_row shape lane row c) → cell_word_of m previous q j ≡ version_word (layout shape) lane j c row
 unfolding version_word
 word_is shape lane zero c row m previous q me pe qe =
     let count : q.count ≡ length c + 1 = omega (arith, ap (λ (x : QuadValue). x.count) qe, amounts_long shape lane row c) in
-    ap (λ (b : Bool). previous + 2 ^ 32 * cond b q.count 0) me ∙ ap₂ (λ (a n : ℕ). a + 2 ^ 32 * cond (is_measured shape lane) n 0) pe count
+    ap (λ (b : Bool). halves previous (cond b q.count 0)) me ∙ ap₂ (λ (a n : ℕ). halves a (cond (is_measured shape lane) n 0)) pe count
 word_is shape lane (suc j) c row m previous q me pe qe = ap (measure_word j) qe
 
 pub version_is_word : (shape : ShapeValue) (b : Book) (row : RowValue) (lane j word : ℕ) (q : List ℕ) (m : Bool) (previous : ℕ) (quad : QuadValue)

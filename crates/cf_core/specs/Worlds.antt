@@ -1,6 +1,7 @@
 -- A world as it is held: its shape, its words and its passes.
 use Rattle.std.specs.Prelude.{ℕ, zero, ◌+◌, ◌*◌, ◌%◌, ◌^◌, ◌<◌, ◌≤◌, ◌≡◌, ◌⊎◌, suc, List, [], ◌∷◌, cond, nat_lt, length, map, Some, None, slice_get, Bool, true, false}
 use Rattle.cf_fold.specs.Quads.{QuadValue}
+use Rattle.cf_fold.specs.Cells.{halves, measure_word}
 use Rattle.cf_row.specs.Words.{AreSpelled, word_count}
 use Rattle.cf_shape.specs.Lanes.{ShapeValue, IsShape, lane_at, measure_of}
 use Rattle.cf_shape.specs.Uses.{cell_words, use_at}
@@ -8,7 +9,7 @@ use Rattle.cf_shape.specs.Uses.Use.{plain, version}
 use Rattle.cf_row.specs.Row.{RowValue, Fits}
 use Rattle.cf_shape.specs.Places.{Slot, place}
 use Rattle.cf_shape.specs.Places.Slot.{root, body}
-use Rattle.cf_words.specs.Words.{Spot, spot, Ticket as Taken, has, measure_word}
+use Rattle.cf_words.specs.Words.{Spot, spot, Ticket as Taken, has}
 use Rattle.cf_words.specs.Law.{Skips}
 use Rattle.cf_law.specs.Passes.{Own, Flight, Book, Cursor, Pass}
 use Rattle.cf_law.specs.Steps.{book_with_flight, fresh_flight, HoldsInFlight, Holds, IsChild, Knows, IsOwn, IsNamed, label_of}
@@ -154,7 +155,7 @@ amounts_with_row shape lane row chain = map (λ x. measure_of shape lane x) (row
 
 -- word j of a cell with that previous link and that quad
 abbrev pub cell_word_of : Bool → ℕ → QuadValue → ℕ → ℕ
-cell_word_of measured previous quad zero = previous + 2 ^ 32 * cond measured quad.count 0
+cell_word_of measured previous quad zero = halves previous (cond measured quad.count 0)
 cell_word_of measured previous quad (suc j) = measure_word j quad
 
 -- nibble d of that known node is the row's leaf in the lane

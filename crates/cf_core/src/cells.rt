@@ -11,7 +11,7 @@ ghost use Rattle.cf_law.specs.Steps.{IsNext, mine_chain, own_word as own_word_of
 ghost use Rattle.cf_law.specs.Shapes.{layout, path_in};
 ghost use Rattle.cf_core.specs.Worlds.{HasCell, IsPlainUse, IsCellUse, IsPassed, ArePassed, draft, AllLinked, AreOwn, amounts_with_row, cell_word_of};
 
-use cf_fold::Quad;
+use cf_fold::{CellWords, Quad};
 use cf_pass::{OwnTicket, WriterBook};
 use cf_row::{Memory, Row, word_count, words_of};
 use cf_shape::{Lane, Shape, key, levels, measure, measures, selects};
@@ -225,16 +225,12 @@ fn cell_word(measured: bool, previous: u64, quad: Quad, index: u8) -> u64
     requires quad { IsQuad quad }
     ensures { result ≡ cell_word_of measured previous quad index }
 {
+    let words = CellWords::of(previous, quad);
     match index {
-        0 => {
-            if measured {
-                previous + (1 << 32) * quad.count()
-            } else {
-                previous
-            }
-        }
-        1 => quad.sum(),
-        _ => quad.least() + (1 << 32) * quad.greatest(),
+        0 if measured => words.first,
+        0 => previous,
+        1 => words.sum,
+        _ => words.ends,
     }
 }
 

@@ -7,7 +7,9 @@ use Rattle.cf_row.specs.Row.{RowValue, values_fit}
 use Rattle.cf_row.specs.Words.{word_count}
 use Rattle.cf_row.specs.declared.row.Entry.{Entry}
 use Rattle.cf_row.proofs.Bytes.{both}
-use Rattle.cf_fold.specs.Quads.{QuadValue, quad_of, IsQuad}
+use Rattle.cf_fold.specs.Quads.{quad_of, IsQuad}
+use Rattle.cf_fold.specs.Cells.{AreWordsOf}
+use Rattle.cf_fold.specs.declared.cell.CellWords.{CellWords}
 use Rattle.cf_fold.proofs.Lawful.{AreLow, quad_is_lawful}
 use Rattle.cf_shape.specs.Lanes.{ShapeValue, IsShape, lane_at, measure_of}
 use Rattle.cf_shape.specs.Uses.{cells_before, cell_words, is_measured}
@@ -15,6 +17,7 @@ use Rattle.cf_shape.proofs.Used.{before_fits, version_at}
 use Rattle.cf_shape.proofs.Measured.{measure_low}
 use Rattle.cf_shape.specs.Nodes.{levels_of}
 use Rattle.cf_words.specs.Words.{Spot, spot, Layout, version_word, link_to_newest}
+use Rattle.cf_words.proofs.Cells.{version_to_cell}
 use Rattle.cf_law.specs.Nibbles.{nibbles}
 use Rattle.cf_law.specs.Passes.{Cursor, Pass}
 use Rattle.cf_law.specs.Steps.{cursor_after_cell, met_of}
@@ -82,25 +85,6 @@ amounts_upto shape lane key w o seen x =
     ∙ (ap (λ (e : Option Entry). pick_at sh w s o e ++ picks sh w s seen o) x.at
     ∙ ap (λ (xs : List (ℕ × RowValue)). xs ++ picks sh w s seen o) (pick_some sh w s o x.entry x.stands)))
 
--- the four numbers of the words
-pub quad_words : (shape : ShapeValue) (lane o first sum ends : ℕ) (c : List (ℕ × RowValue)) (r : RowValue) → is_measured shape lane ≡ true
-    → link_to_newest c ≤ o → o < 2 ^ 32 → IsQuad (quad_of (map (λ y. measure_of shape lane y) (r ∷ map (λ y. y.1) c)))
-    → first ≡ version_word (layout shape) lane 0 c r → sum ≡ version_word (layout shape) lane 1 c r → ends ≡ version_word (layout shape) lane 2 c r
-    → ◌≡◌ {A = QuadValue} (record { count = first / 4294967296; sum = sum; least = ends % 4294967296; greatest = ends / 4294967296 })
-    (quad_of (map (λ y. measure_of shape lane y) (r ∷ map (λ y. y.1) c)))
-unfolding version_word
-quad_words shape lane o first sum ends c r measured le small counts a b d =
-    let q = quad_of (map (λ y. measure_of shape lane y) (r ∷ map (λ y. y.1) c)) in
-    let low = counts.least_is_low in
-    let n : ◌≡◌ {A = ℕ} (cond (is_measured shape lane) (length c + 1) 0) (length c + 1) = ap (λ (t : Bool). cond {A = ℕ} t (length c + 1) 0) measured in
-    let long : length (map (λ y. measure_of shape lane y) (r ∷ map (λ y. y.1) c)) ≡ length c + 1 =
-    length-map (r ∷ map (λ y. y.1) c) (λ y. measure_of shape lane y) ∙ (let e = length-map c (λ (y : ℕ × RowValue). y.1) in omega (arith, e)) in
-    let count : first / 4294967296 ≡ q.count = omega (arith, a, n, le, small, long) in
-    let least : ends % 4294967296 ≡ q.least = omega (arith, d, low) in
-    let greatest : ends / 4294967296 ≡ q.greatest = omega (arith, d, low) in
-    ap₂ (λ (f : ℕ → QuadValue) (x : ℕ). f x) (ap₂ (λ (x y : ℕ). λ (z : ℕ). record { count = x; sum = sum; least = y; greatest = z }) count least) greatest
-    ∙ ap (λ (x : ℕ). record { count = q.count; sum = x; least = q.least; greatest = q.greatest }) b
-
 -- what the lane measures is below 2^32
 low_at : (f : RowValue → ℕ) (a b : Bool) (o : ℕ) (r : RowValue) (xs : List (ℕ × RowValue)) → f r < 2 ^ 32
     → AreLow (map f (map (λ (y : ℕ × RowValue). y.1) xs)) → AreLow (map f (map (λ (y : ℕ × RowValue). y.1) (cond a (cond b ((o, r) ∷ []) []) [] ++ xs)))
@@ -130,16 +114,13 @@ fits_low : (shape : ShapeValue) (lane : ℕ) (e : Entry) → IsShape shape → l
 fits_low shape lane e is there fit = measure_low shape lane e.row is there (both (values_fit shape.schema (e.row).values) (nat_lt (e.row).num (2 ^ 32)) fit.0).0
 
 -- the three words of a cell of an entry that was seen
-pub record IsRead (shape : ShapeValue) (lane key w o : ℕ) (seen : List Entry) (first sum ends : ℕ) : Type 0 where
-  pub quad : ◌≡◌ {A = QuadValue} (record { count = first / 4294967296; sum = sum; least = ends % 4294967296; greatest = ends / 4294967296 })
-      (quad_of (amounts_below shape lane key seen w (o + 1)))
-  pub lawful : IsQuad (record { count = first / 4294967296; sum = sum; least = ends % 4294967296; greatest = ends / 4294967296 })
-
 pub read : (shape : ShapeValue) (m a b c : PassValue) (lane key w o first sum ends : ℕ) → IsShape shape → lane < length shape.lanes
     → is_measured shape lane ≡ true → o < shape.capacity → IsEntryOf shape lane key w o (m.view).seen
     → ((k : ℕ) (e : Entry) → slice_get (m.view).seen k ≡ Some e → IsFit (layout shape) e) → (a.view).seen ≡ (m.view).seen → (b.view).seen ≡ (m.view).seen
     → HasStepped shape (cell_effect shape m.view o lane 0) m first a → HasStepped shape (cell_effect shape a.view o lane 1) a sum b
-    → HasStepped shape (cell_effect shape b.view o lane 2) b ends c → IsRead shape lane key w o (m.view).seen first sum ends
+    → HasStepped shape (cell_effect shape b.view o lane 2) b ends c
+    → AreWordsOf (record { first = first; sum = sum; ends = ends }) (link_to_newest (picks (layout shape) w (leaf_of shape lane key) (m.view).seen o))
+    (quad_of (amounts_below shape lane key (m.view).seen w (o + 1)))
 read shape m a b c lane key w o first sum ends is there measured few x fit sa sb ma mb mc =
     let seen = (m.view).seen in
     let three = three_words shape lane measured in
@@ -149,15 +130,13 @@ read shape m a b c lane key w o first sum ends is there measured few x fit sa sb
     let low = low_picks shape lane w (leaf_of shape lane key) seen o (λ k e at. fits_low shape lane e is there (fit k e at)) in
     let counts : IsQuad (quad_of (map (λ y. measure_of shape lane y) (r ∷ map (λ y. y.1) before))) =
     quad_is_lawful (map (λ y. measure_of shape lane y) (r ∷ map (λ y. y.1) before)) (fits_low shape lane x.entry is there (fit o x.entry x.at), low) in
-    let words = quad_words shape lane o first sum ends before r measured (top_picks (layout shape) w (leaf_of shape lane key) seen o)
-    (omega (arith, few, capacity)) counts
+    let words : CellWords = record { first = first; sum = sum; ends = ends } in
+    let top = top_picks (layout shape) w (leaf_of shape lane key) seen o in
+    subst (λ (xs : List ℕ). AreWordsOf words (link_to_newest before) (quad_of xs)) (sym (amounts_upto shape lane key w o seen x))
+    (version_to_cell (layout shape) lane before r words measured (omega (arith, top, few, capacity)) counts
     (version_is shape m a lane key w o 0 first seen x there (omega (arith, three)) refl ma)
     (version_is shape a b lane key w o 1 sum seen x there (omega (arith, three)) sa mb)
-    (version_is shape b c lane key w o 2 ends seen x there (omega (arith, three)) sb mc) in
-    record {
-      quad = words ∙ ap quad_of (sym (amounts_upto shape lane key w o seen x));
-      lawful = subst IsQuad (sym words) counts;
-    }
+    (version_is shape b c lane key w o 2 ends seen x there (omega (arith, three)) sb mc))
 
 -- a load of a cell forgets nothing that walks went by
 walk_keeps : (o l i n : ℕ) (c : Option Cursor) (k : ℕ) (x : ℕ × ℕ) → slice_get (met_of c) k ≡ Some x → (j : ℕ)

@@ -7,6 +7,7 @@ ghost use Rattle.cf_table.specs.Effects.{IsLawfulStep, HasStepped, walk_effect};
 ghost use Rattle.cf_table.specs.Loads.{CountsLoads};
 ghost use Rattle.cf_walk.specs.Walks.{IsAbove, OnlyWalked, ChainSteps, chain_places, leaf_places};
 
+use cf_fold::link_in;
 use cf_row::Memory;
 use cf_table::{MultiLog, Pass, Steps};
 use std::sync::ledger::Ledger;
@@ -63,7 +64,8 @@ pub(crate) fn collect_chain<P: Pass, L: Ledger>(
         if place < pass.covered() {
             found.push(place)?;
         }
-        link = log.load_cell(pass, place, leaf.lane, 0, steps) % 4_294_967_296;
+        let first = log.load_cell(pass, place, leaf.lane, 0, steps);
+        link = link_in(first);
     }
     Ok(())
 }

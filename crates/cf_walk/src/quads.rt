@@ -8,7 +8,7 @@ ghost use Rattle.cf_table.specs.Loads.{CountsLoads};
 ghost use Rattle.cf_walk.specs.Walks.{OnlyWalked, Met, IsAbove, IsEntryOf, ChainSteps, amounts_below, leaf_amounts};
 
 use crate::chain::{Leaf, begin};
-use cf_fold::Quad;
+use cf_fold::{CellWords, Quad, link_in};
 use cf_table::{MultiLog, Pass, Steps};
 use std::sync::ledger::Ledger;
 
@@ -37,12 +37,7 @@ fn read_quad<P: Pass, L: Ledger>(
     let first = log.load_cell(pass, place, leaf.lane, 0, steps);
     let sum = log.load_cell(pass, place, leaf.lane, 1, steps);
     let ends = log.load_cell(pass, place, leaf.lane, 2, steps);
-    Quad::new(
-        first / 4_294_967_296,
-        sum,
-        ends % 4_294_967_296,
-        ends / 4_294_967_296,
-    )
+    CellWords { first, sum, ends }.quad()
 }
 
 // The quad of what the lane measures of a writer's entries in the leaf, of those that were seen.
@@ -68,7 +63,8 @@ fn chain_quad<P: Pass, L: Ledger>(
     let mut link = begin(log, pass, leaf, writer, steps);
     while covered < link {
         let place = (link - 1) as u32;
-        link = log.load_cell(pass, place, leaf.lane, 0, steps) % 4_294_967_296;
+        let first = log.load_cell(pass, place, leaf.lane, 0, steps);
+        link = link_in(first);
     }
     if link == 0 {
         return Quad::EMPTY;

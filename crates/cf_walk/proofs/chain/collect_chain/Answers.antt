@@ -1,4 +1,4 @@
-use Rattle.std.proofs.Common.{◌≡◌, ◌∙◌, ◌-◌, ◌%◌, ◌++◌, ◌∷◌, ℕ, suc, List, Vec, Global, length, map, ap, subst, arith, rules}
+use Rattle.std.proofs.Common.{◌≡◌, ◌∙◌, ◌-◌, ◌%◌, ◌++◌, ◌∷◌, ℕ, suc, List, Vec, Global, length, map, ap, sym, subst, arith, rules}
 use Rattle.cf_row.specs.Row.{RowValue}
 use Rattle.cf_table.proofs.Mays.{may_walk}
 use Rattle.cf_table.proofs.Looks.{head_loads, cell_loads}
@@ -54,8 +54,8 @@ loop-link-init g c =
           (omega (arith, long, count));
     }
 
-pub load_cell-link-requires-clause-lawful : goal.load_cell-link-requires-clause-lawful
-load_cell-link-requires-clause-lawful g c =
+pub load_cell-first-requires-clause-lawful : goal.load_cell-first-requires-clause-lawful
+load_cell-first-requires-clause-lawful g c =
     let s = c.args.log.now.shape in
     let leaf = c.args.leaf in
     let o = c.loop-link.link - 1 in
@@ -73,13 +73,14 @@ loop-link-smaller g c =
     let v = c.loop-link.invariant in
     let f = g.P.Pass.held c.args.pass.now in
     let m = g.P.Pass.held c.loop-link.pass in
-    let n = g.P.Pass.held c.load_cell-link.new.pass in
+    let n = g.P.Pass.held c.load_cell-first.new.pass in
     let some = c.loop-link-test.true in
     let st = stepped_from s m n c.args.writer (leaf_of s leaf.lane leaf.key)
-    (f.view).seen c.loop-link.link c.load_cell-link.result some c.shape-lawful.ensures.lawful c.requires.above.exists (some_cell s leaf.lane)
-    (walked_seen f m v.walked) v.walking c.load_cell-link.ensures.made in
+    (f.view).seen c.loop-link.link c.load_cell-first.result some c.shape-lawful.ensures.lawful c.requires.above.exists (some_cell s leaf.lane)
+    (walked_seen f m v.walked) v.walking c.load_cell-first.ensures.made in
     let falls = st.falls in
-    omega (arith, some, falls)
+    let next = c.link_in-link.ensures in
+    omega (arith, some, falls, next)
 
 pub loop-link-preserved : goal.loop-link-preserved
 loop-link-preserved g c =
@@ -90,21 +91,21 @@ loop-link-preserved g c =
     let v = c.loop-link.invariant in
     let f = g.P.Pass.held c.args.pass.now in
     let m = g.P.Pass.held c.loop-link.pass in
-    let n = g.P.Pass.held c.load_cell-link.new.pass in
+    let n = g.P.Pass.held c.load_cell-first.new.pass in
     let seen = (f.view).seen in
     let link = c.loop-link.link in
-    let next = c.load_cell-link.result % 4294967296 in
+    let next = c.link_in-link.result in
     let some = c.loop-link-test.true in
-    let st : HasWalkedOn s m n w spot seen (link - 1) next =
-    stepped_from s m n w spot seen link c.load_cell-link.result some c.shape-lawful.ensures.lawful c.requires.above.exists (some_cell s leaf.lane)
-    (walked_seen f m v.walked) v.walking c.load_cell-link.ensures.made in
+    let st : HasWalkedOn s m n w spot seen (link - 1) next = subst (λ (k : ℕ). HasWalkedOn s m n w spot seen (link - 1) k) (sym c.link_in-link.ensures)
+    (stepped_from s m n w spot seen link c.load_cell-first.result some c.shape-lawful.ensures.lawful c.requires.above.exists (some_cell s leaf.lane)
+    (walked_seen f m v.walked) v.walking c.load_cell-first.ensures.made) in
     let falls = st.falls in
-    let more = c.load_cell-link.ensures.steps in
+    let more = c.load_cell-first.ensures.steps in
     let here = below_next s w spot seen link some in
     let far = ap (λ (es : List Rattle.cf_row.specs.declared.row.Entry.Entry). length es) (walked_seen f m v.walked) in
     let covered = c.covered.ensures in
     let least = v.loads in
-    let loads = cell_loads s m n _ _ _ c.load_cell-link.result _ _ c.load_cell-link.ensures.made more in
+    let loads = cell_loads s m n _ _ _ c.load_cell-first.result _ _ c.load_cell-first.ensures.made more in
     elim c.if-place-covered.branch [
       | then-place-covered+in_ok-push x ↦
           let low = x.if-place-covered.true in

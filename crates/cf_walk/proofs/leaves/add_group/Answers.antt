@@ -16,5 +16,6 @@ returns-else-count-gt0-clause-found g c =
     let none = c.if-count-gt0.false in
     let count = c.count.ensures in
     none_found c.args.log.now.shape c.args.keys.lane c.args.keys.low c.args.keys.high c.measure_key-last.result.0
-    ((g.P.Pass.held c.args.pass.now).view).seen c.measure_key-last.result.1 c.args.groups.now.items c.shape-lawful.ensures.lawful c.requires.lane c.requires.fit c.requires.top
+    ((g.P.Pass.held c.args.pass.now).view).seen c.measure_key-last.result.1 c.args.groups.now.items c.shape-lawful.ensures.lawful c.requires.lane
+    c.requires.fit c.requires.top
     c.measure_key-last.ensures.quad (omega (arith, none, count))

@@ -51,8 +51,8 @@ loop-link-init g c =
       count = counting_begins s c.args.writer m n v 0 (c.args.steps.now + 1) _ b.met (omega (arith, count));
     }
 
-pub load_cell-link-requires-clause-lawful : goal.load_cell-link-requires-clause-lawful
-load_cell-link-requires-clause-lawful g c =
+pub load_cell-first-requires-clause-lawful : goal.load_cell-first-requires-clause-lawful
+load_cell-first-requires-clause-lawful g c =
     let s = c.args.log.now.shape in
     let leaf = c.args.leaf in
     let o = c.loop-link.link - 1 in
@@ -70,14 +70,15 @@ loop-link-smaller g c =
     let v = c.loop-link.invariant in
     let f = g.P.Pass.held c.args.pass.now in
     let m = g.P.Pass.held c.loop-link.pass in
-    let n = g.P.Pass.held c.load_cell-link.new.pass in
+    let n = g.P.Pass.held c.load_cell-first.new.pass in
     let test = c.loop-link-test.true in
     let some : 0 < c.loop-link.link = omega (arith, test) in
     let st = stepped_from s m n c.args.writer (leaf_of s leaf.lane leaf.key)
-    (f.view).seen c.loop-link.link c.load_cell-link.result some c.shape-lawful.ensures.lawful c.requires.above.exists (some_cell s leaf.lane)
-    (walked_seen f m v.walked) v.walking c.load_cell-link.ensures.made in
+    (f.view).seen c.loop-link.link c.load_cell-first.result some c.shape-lawful.ensures.lawful c.requires.above.exists (some_cell s leaf.lane)
+    (walked_seen f m v.walked) v.walking c.load_cell-first.ensures.made in
     let falls = st.falls in
-    omega (arith, some, falls)
+    let next = c.link_in-link.ensures in
+    omega (arith, some, falls, next)
 
 pub loop-link-preserved : goal.loop-link-preserved
 loop-link-preserved g c =
@@ -88,24 +89,24 @@ loop-link-preserved g c =
     let v = c.loop-link.invariant in
     let f = g.P.Pass.held c.args.pass.now in
     let m = g.P.Pass.held c.loop-link.pass in
-    let n = g.P.Pass.held c.load_cell-link.new.pass in
+    let n = g.P.Pass.held c.load_cell-first.new.pass in
     let seen = (f.view).seen in
     let link = c.loop-link.link in
-    let next = c.load_cell-link.result % 4294967296 in
+    let next = c.link_in-link.result in
     let test = c.loop-link-test.true in
     let covered = c.covered.ensures in
     let wide = c.from-covered.ensures in
     let some : 0 < link = omega (arith, test) in
     let past : length seen ≤ link - 1 = omega (arith, test, covered, wide) in
-    let st : HasWalkedOn s m n w spot seen (link - 1) next =
-    stepped_from s m n w spot seen link c.load_cell-link.result some c.shape-lawful.ensures.lawful c.requires.above.exists (some_cell s leaf.lane)
-    (walked_seen f m v.walked) v.walking c.load_cell-link.ensures.made in
-    let more = c.load_cell-link.ensures.steps in
+    let st : HasWalkedOn s m n w spot seen (link - 1) next = subst (λ (k : ℕ). HasWalkedOn s m n w spot seen (link - 1) k) (sym c.link_in-link.ensures)
+    (stepped_from s m n w spot seen link c.load_cell-first.result some c.shape-lawful.ensures.lawful c.requires.above.exists (some_cell s leaf.lane)
+    (walked_seen f m v.walked) v.walking c.load_cell-first.ensures.made) in
+    let more = c.load_cell-first.ensures.steps in
     record {
       walked = walked_then f m n v.walked st.walked;
       walking = st.walking;
       same = sym (st.skips past) ∙ (sym (picks_from s w spot seen link some) ∙ v.same);
-      loads = let least = v.loads in let loads = cell_loads s m n _ _ _ c.load_cell-link.result _ _ c.load_cell-link.ensures.made more in
+      loads = let least = v.loads in let loads = cell_loads s m n _ _ _ c.load_cell-first.result _ _ c.load_cell-first.ensures.made more in
           omega (arith, least, loads);
       count = counting_new s w f m n link next 0 0 (c.args.steps.now + 1) c.loop-link.steps _ v.count st.met st.apart some past v.walking.low st.falls
           (omega arith) more;

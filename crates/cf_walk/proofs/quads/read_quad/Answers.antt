@@ -39,17 +39,21 @@ load_cell-ends-requires-clause-lawful g c =
     may_cell s b.view c.args.place c.args.leaf.lane 2 c.requires.place c.requires.lane (omega (arith, three))
     (inr (inl (subst (λ (es : List Entry). c.args.place < length es) (sym two) (slice_get_within (m.view).seen c.args.place x.entry x.at))))
 
-pub new-requires : goal.new-requires
-new-requires g c =
+pub quad-requires : goal.quad-requires
+quad-requires g c =
     let s = c.args.log.now.shape in
     let m = g.P.Pass.held c.args.pass.now in
     let a = g.P.Pass.held c.load_cell-first.new.pass in
     let b = g.P.Pass.held c.load_cell-sum.new.pass in
     let n = g.P.Pass.held c.load_cell-ends.new.pass in
     let one = walked_seen m a (cell_only s m a c.args.place c.args.leaf.lane 0 c.load_cell-first.result c.load_cell-first.ensures.made) in
-    let two = walked_seen a b (cell_only s a b c.args.place c.args.leaf.lane 1 c.load_cell-sum.result c.load_cell-sum.ensures.made) ∙ one in
-    (read s m a b n c.args.leaf.lane c.args.leaf.key c.args._writer c.args.place c.load_cell-first.result c.load_cell-sum.result c.load_cell-ends.result c.shape-lawful.ensures.lawful c.requires.lane c.requires.measured c.requires.place c.requires.entry c.requires.fit one two
-    c.load_cell-first.ensures.made c.load_cell-sum.ensures.made c.load_cell-ends.ensures.made).lawful
+    let two = walked_seen a b (cell_only s a b c.args.place c.args.leaf.lane 1 c.load_cell-sum.result c.load_cell-sum.ensures.made) ∙ one in (
+      _,
+      _,
+      read s m a b n c.args.leaf.lane c.args.leaf.key c.args._writer c.args.place c.load_cell-first.result c.load_cell-sum.result c.load_cell-ends.result
+          c.shape-lawful.ensures.lawful c.requires.lane c.requires.measured c.requires.place c.requires.entry c.requires.fit one two
+          c.load_cell-first.ensures.made c.load_cell-sum.ensures.made c.load_cell-ends.ensures.made,
+    )
 
 pub returns-clause-quad : goal.returns-clause-quad
 returns-clause-quad g c =
@@ -60,9 +64,10 @@ returns-clause-quad g c =
     let n = g.P.Pass.held c.load_cell-ends.new.pass in
     let one = walked_seen m a (cell_only s m a c.args.place c.args.leaf.lane 0 c.load_cell-first.result c.load_cell-first.ensures.made) in
     let two = walked_seen a b (cell_only s a b c.args.place c.args.leaf.lane 1 c.load_cell-sum.result c.load_cell-sum.ensures.made) ∙ one in
-    c.new.ensures
-    ∙ (read s m a b n c.args.leaf.lane c.args.leaf.key c.args._writer c.args.place c.load_cell-first.result c.load_cell-sum.result c.load_cell-ends.result c.shape-lawful.ensures.lawful c.requires.lane c.requires.measured c.requires.place c.requires.entry c.requires.fit one two
-    c.load_cell-first.ensures.made c.load_cell-sum.ensures.made c.load_cell-ends.ensures.made).quad
+    c.quad.ensures _ _
+    (read s m a b n c.args.leaf.lane c.args.leaf.key c.args._writer c.args.place c.load_cell-first.result c.load_cell-sum.result c.load_cell-ends.result
+    c.shape-lawful.ensures.lawful c.requires.lane c.requires.measured c.requires.place c.requires.entry c.requires.fit one two
+    c.load_cell-first.ensures.made c.load_cell-sum.ensures.made c.load_cell-ends.ensures.made)
 
 pub returns-clause-met : goal.returns-clause-met
 returns-clause-met g c k v x =

@@ -47,7 +47,8 @@ loop-level-init g c =
     ∙ ap (λ (x : ShapeValue). levels_of x c.args.lane) c.shape.ensures.shape in
     let p : Path = record { key = c.args.key; depth = d; nodes = c.args.path.now.nodes } in
     let is : IsPath s c.args.lane p m.view =
-    path_turns s c.args.lane c.levels-levels.result c.args.path.now p m.view all c.requires.path refl c.common_depth-depth.ensures.most c.common_depth-depth.ensures.common in
+    path_turns s c.args.lane c.levels-levels.result c.args.path.now p m.view all c.requires.path refl c.common_depth-depth.ensures.most
+    c.common_depth-depth.ensures.common in
     record {
       path = is;
       key = refl;

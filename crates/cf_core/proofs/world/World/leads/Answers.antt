@@ -14,7 +14,8 @@ returns-clause-some c =
     rw c.shape-shape.ensures.shape at raw) in
     let leaf : c.in_ok-leaf.leaf ≡ spot c.in-Some.above.now.lane (c.args.at.nibble ∷ c.in-Some.above.now.path) = search (rules, c.in_ok-leaf.ensures) in
     let items : c.deref.result.now ≡ c.in-Some-2.path.items = c.deref.ensures.value in
-    λ t. leads_is c.args.self.now c.args.pass.now c.args.row.now c.args.at.lane c.args.at.node c.args.at.nibble c.in-Some.above.now c.in-Some-2.path.items c.in-Some.ensures
+    λ t. leads_is c.args.self.now c.args.pass.now c.args.row.now c.args.at.lane c.args.at.node c.args.at.nibble c.in-Some.above.now c.in-Some-2.path.items
+    c.in-Some.ensures
     there (sym leaf ∙ ((c.is.ensures).0 t ∙ ap (spot c.args.at.lane) items))
 
 pub returns-clause-none : goal.returns-clause-none
@@ -24,6 +25,7 @@ returns-clause-none c =
     rw c.shape-shape.ensures.shape at raw) in
     let leaf : c.in_ok-leaf.leaf ≡ spot c.in-Some.above.now.lane (c.args.at.nibble ∷ c.in-Some.above.now.path) = search (rules, c.in_ok-leaf.ensures) in
     let items : c.deref.result.now ≡ c.in-Some-2.path.items = c.deref.ensures.value in
-    λ e leads. (let same = leads_only c.args.self.now c.args.number c.args.pass.now c.args.row.now c.args.at.lane c.args.at.node c.args.at.nibble c.in-Some.above.now
+    λ e leads. (let same = leads_only c.args.self.now c.args.number c.args.pass.now c.args.row.now c.args.at.lane c.args.at.node c.args.at.nibble
+    c.in-Some.above.now
     c.in-Some-2.path.items c.shape-shape.ensures.lawful c.requires.live c.in-Some.ensures there leads in
     let found : c.is.result ≡ true = (c.is.ensures).1 (leaf ∙ (same ∙ ap (spot c.args.at.lane) (sym items))) in absurd (cc (found, e)))

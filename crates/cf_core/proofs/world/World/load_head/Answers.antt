@@ -70,7 +70,8 @@ put-requires-clause-lawful c =
     rw c.shape-shape.ensures.shape at c.place_head-place.ensures in
     let low : c.args.writer < c.args.self.now.shape.writers =
     (let writers = rw c.shape-shape.ensures.shape at c.writers.ensures.writers in omega (arith, writers, c.if-writer-writers.false)) in
-    let leaf : c.in_ok-leaf.leaf ≡ spot c.in-Some-spot_of.above.now.lane (c.args.nibble ∷ c.in-Some-spot_of.above.now.path) = search (rules, c.in_ok-leaf.ensures) in
+    let leaf : c.in_ok-leaf.leaf ≡ spot c.in-Some-spot_of.above.now.lane (c.args.nibble ∷ c.in-Some-spot_of.above.now.path) =
+    search (rules, c.in_ok-leaf.ensures) in
     let after : c.in_ok-after.after ≡ pass_with_head c.place_head-place.result c.args.writer c.in_ok-leaf.leaf c.in-Some.pass.now c.word-found.result =
     search (rules, c.in_ok-after.ensures) in
     let does = head_does c.args.self.now c.args.number c.place_head-place.result c.args.node c.args.nibble c.args.writer c.word-found.result c.in-Some.pass.now
@@ -84,7 +85,8 @@ returns c =
     rw c.shape-shape.ensures.shape at c.place_head-place.ensures in
     let low : c.args.writer < c.args.self.now.shape.writers =
     (let writers = rw c.shape-shape.ensures.shape at c.writers.ensures.writers in omega (arith, writers, c.if-writer-writers.false)) in
-    let leaf : c.in_ok-leaf.leaf ≡ spot c.in-Some-spot_of.above.now.lane (c.args.nibble ∷ c.in-Some-spot_of.above.now.path) = search (rules, c.in_ok-leaf.ensures) in
+    let leaf : c.in_ok-leaf.leaf ≡ spot c.in-Some-spot_of.above.now.lane (c.args.nibble ∷ c.in-Some-spot_of.above.now.path) =
+    search (rules, c.in_ok-leaf.ensures) in
     let after : c.in_ok-after.after ≡ pass_with_head c.place_head-place.result c.args.writer c.in_ok-leaf.leaf c.in-Some.pass.now c.word-found.result =
     search (rules, c.in_ok-after.ensures) in
     let does = head_does c.args.self.now c.args.number c.place_head-place.result c.args.node c.args.nibble c.args.writer c.word-found.result c.in-Some.pass.now
