@@ -9,10 +9,6 @@ use Rattle.cf_append.specs.Appends.{Rests, HasAppendAnswer}
 use Rattle.cf_append.specs.declared.appends.AppendFault.{AppendFault}
 use Rattle.cf_append.specs.declared.appends.AppendFault.TheVariants.{Full, NodesFull}
 
--- A pass of the log that has moved on is one of the log.
-pub of_then : (log : LogValue) (m n : PassValue) → IsOf m log → n ≡ record m { view = n.view } → IsOf n log
-of_then log m n of same = record { table = ap (λ (h : PassValue). h.table) same ∙ of.table; nodes = ap (λ (h : PassValue). h.nodes) same ∙ of.nodes }
-
 -- A pass is at rest by its books alone.
 pub rests_same : (p q : Pass) → q.books ≡ p.books → Rests p → Rests q
 rests_same p q books rest =

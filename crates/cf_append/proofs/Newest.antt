@@ -154,9 +154,6 @@ read_word shape m n b q o l h found made one N there low =
     made.told.tells.own_cell 0 N.place i l h q b N.own (ap (λ (k : ℕ). cell k i) (sym N.offset)) (ap (λ (bs : List Book). slice_get bs 0) one) N.at
     (omega (arith, fits, low)) (version_at shape l h there low) N.leads
 
-pub three_words : (shape : ShapeValue) (l : ℕ) → is_measured shape l ≡ true → cell_words (lane_at shape l) ≡ 3
-three_words shape l takes = ap (λ (b : Bool). cond {A = ℕ} b 3 1) takes
-
 pub quad_there : (shape : ShapeValue) (b : Book) (q : List ℕ) (o l : ℕ) (words : CellWords) → IsShape shape → l < length shape.lanes
     → is_measured shape l ≡ true → IsBookOf shape b → (N : IsNewest (layout shape) (spot l q) b.mine o)
     → IsCell shape l (mine_chain (layout shape) (spot l q) (take N.place b.mine)) N.own.row words.first words.sum words.ends

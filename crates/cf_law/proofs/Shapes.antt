@@ -8,7 +8,7 @@ use Rattle.cf_row.proofs.Bytes.{both}
 use Rattle.cf_row.proofs.Spelling.{spelled_long, entry_back}
 use Rattle.cf_shape.specs.Lanes.{ShapeValue, IsShape, selected_by, key_of, lane_at, no_lane}
 use Rattle.cf_shape.specs.Nodes.{levels_of}
-use Rattle.cf_shape.specs.Uses.{cells_before, cell_words, has_measure}
+use Rattle.cf_shape.specs.Uses.{cells_before, cell_words, has_measure, is_measured}
 use Rattle.cf_shape.proofs.Used.{plain_at, version_at, version_is, before_fits}
 use Rattle.cf_words.specs.Words.{entry}
 use Rattle.cf_words.specs.Law.{LayoutLaw}
@@ -45,6 +45,9 @@ some_words (Some a) = omega arith
 
 pub some_cell : (s : ShapeValue) (l : ℕ) → 0 < cell_words (lane_at s l)
 some_cell s l = some_words (lane_at s l).measure
+
+pub three_words : (s : ShapeValue) (l : ℕ) → is_measured s l ≡ true → cell_words (lane_at s l) ≡ 3
+three_words s l measured = ap (λ (b : Bool). cond {A = ℕ} b 3 1) measured
 
 pub layout_law : (s : ShapeValue) → IsShape s → LayoutLaw (layout s)
 layout_law s is = record {

@@ -1,7 +1,7 @@
 -- The live answers of a reader beside the writers, batch by batch.
 use Rattle.std.proofs.Common.{◌≡◌, ℕ, ◌+◌, ◌*◌, ◌<◌, ◌≤◌, List, [], ◌∷◌, ◌++◌, length, get_or, take, map, refl, sym, ap, ap₂, subst, ◌∙◌, arith, append_assoc}
 use Rattle.std.proofs.Math.Seq.{take-length}
-use Rattle.std.proofs.lemmas.List.{append-nil, length-take, map-append, map-id, map_push, take-take, take_more, flat_map_more}
+use Rattle.std.proofs.lemmas.List.{append-nil, map-append, map-id, map_push, take-take, take_more, flat_map_more}
 use Rattle.std.proofs.lemmas.List.FromFn.{map-range_with_len_more}
 use Rattle.std.specs.List.{flat_map, range_with_len, AllByRecursion}
 use Rattle.cf_row.specs.declared.row.Entry.{Entry}
@@ -14,7 +14,7 @@ use Rattle.cf_plain.specs.declared.answer.Body.{Body}
 use Rattle.cf_plain.specs.declared.loaded.Live.{Live}
 use Rattle.cf_plain.specs.Answered.{no_ask, turn_of}
 use Rattle.cf_table.specs.Moves.{Begins}
-use Rattle.cf_table.proofs.Settling.{begins_then}
+use Rattle.cf_table.proofs.Settling.{begins_then, begins_long}
 use Rattle.cf_segments.proofs.Alls.{every, all_append, all_weaker, all_both, all_map, all_unmap, all_flat}
 use Rattle.cf_load.specs.Loading.{AsksBatch, AsksSome, HasAnswered}
 
@@ -40,10 +40,6 @@ range_more n = sym (map-id (range_with_len 0 (n + 1)))
 -- what is made of the numbers from 0 on, and of one more
 pub flat_more : {X : Type 0} (f : ℕ → List X) (n : ℕ) → flat_map f (range_with_len 0 (n + 1)) ≡ flat_map f (range_with_len 0 n) ++ f n
 flat_more f n = ap (flat_map f) (range_more n) ∙ sym (flat_map_more f [] (range_with_len 0 n) n)
-
--- a list is no longer than one that begins with it
-pub begins_long : (xs ys : List Entry) → Begins xs ys → length xs ≤ length ys
-begins_long xs ys begins = omega (arith, ap length begins, length-take (length xs) ys)
 
 -- and has the same first entries
 pub begins_take : (t : ℕ) (xs ys : List Entry) → t ≤ length xs → Begins xs ys → take t ys ≡ take t xs

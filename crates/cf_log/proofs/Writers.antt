@@ -19,13 +19,13 @@ use Rattle.cf_append.specs.Appends.{PassGoesOn, Rests, HasAppendAnswer}
 use Rattle.cf_append.specs.declared.appends.AppendFault.{AppendFault}
 use Rattle.cf_append.specs.declared.appends.AppendFault.TheVariants.{Full, NodesFull}
 use Rattle.cf_append.proofs.Appending.{rests_by, rests_all}
-use Rattle.cf_append.proofs.Answering.{of_then, same_writer}
+use Rattle.cf_append.proofs.Answering.{same_writer}
 use Rattle.cf_append.proofs.Settling.{goes_none, goes_then}
 use Rattle.cf_log.specs.Appended.{HasAppended}
 use Rattle.cf_log.specs.Writers.{rows_by, IsWriter, AreWriters, IsOpened, AppendsRows, HasJoined}
 use Rattle.cf_log.specs.declared.passes.Opened.{Opened}
 use Rattle.cf_log.proofs.Chained.{took_more}
-use Rattle.cf_table.proofs.Homing.{book_in, some_at}
+use Rattle.cf_table.proofs.Homing.{book_in, some_at, still_one}
 use Rattle.cf_walk.proofs.Written.{mine_rows, fit_exist}
 
 -- the rows of a book's tickets
@@ -102,7 +102,7 @@ goes_first log rows m of rest =
 pub goes_more : (log : LogValue) (rows : List RowValue) (m n p : PassValue) (i o : ℕ) (row : RowValue) → Goes log rows m i n → slice_get rows i ≡ Some row
     → HasAppended log.shape row n p (Ok o) → Goes log rows m (i + 1) p
 goes_more log rows m n p i o row goes at done = record {
-  of = of_then log n p goes.of (done.goes_on).same;
+  of = still_one log n p goes.of (done.goes_on).same;
   goes_on = goes_then m n p goes.goes_on done.goes_on;
   rest = done.rest;
   writer = same_writer log.shape row n p (Ok o) done.answer ∙ goes.writer;
@@ -155,7 +155,7 @@ all_writers log hs are = record {
 pub joined : (log : LogValue) (m n : PassValue) (hs : List PassValue) → IsOf m log → AreWriters log hs → HasGathered log.shape m hs n → HasJoined log m hs n
 joined log m n hs of are gathered = record {
   gathered = gathered;
-  of = of_then log m n of gathered.same;
+  of = still_one log m n of gathered.same;
   rows = λ k h at.
       let is = are.each k h at in
       let b = book_of h.view in

@@ -16,10 +16,10 @@ use Rattle.cf_table.specs.Moves.{AreDealt, AreAll, OnlyLooked}
 use Rattle.cf_append.specs.Appends.{PassGoesOn, Rests, HasAppendAnswer}
 use Rattle.cf_append.specs.declared.appends.AppendFault.{AppendFault}
 use Rattle.cf_append.proofs.Appending.{rests_by, rests_all}
-use Rattle.cf_append.proofs.Answering.{of_then, rests_same, same_writer}
+use Rattle.cf_append.proofs.Answering.{rests_same, same_writer}
 use Rattle.cf_query.specs.Asking.{HasAsked}
 use Rattle.cf_log_tests.specs.Writers.{IsWriters, AreDealtOut, AreWritersFrom}
-use Rattle.cf_table.proofs.Homing.{some_at}
+use Rattle.cf_table.proofs.Homing.{some_at, still_one}
 
 -- All books are dealt.
 dealt_at : (log : LogValue) (m n : PassValue) (hs : List PassValue) (k : ℕ) (h : PassValue) → m.view ≡ root_pass log.shape → AreDealt log m hs n
@@ -59,7 +59,7 @@ pub same_books : (log : LogValue) (w : ℕ) (m n : PassValue) → IsWriters log 
     → IsWriters log w n
 same_books log w m n is same books =
     record {
-      of = of_then log m n is.of same;
+      of = still_one log m n is.of same;
       rest = rests_same m.view n.view books is.rest;
       writer_is = ap (λ (bs : List Book). (get_or bs 0 (no_book 0)).writer) books ∙ is.writer_is;
     }
@@ -67,7 +67,7 @@ same_books log w m n is same books =
 pub appended : (log : LogValue) (w : ℕ) (row : RowValue) (m n : PassValue) (r : Result ℕ AppendFault) → IsWriters log w m → PassGoesOn m n → Rests n.view
     → HasAppendAnswer log.shape row m n r → IsWriters log w n
 appended log w row m n r is goes rest done =
-    record { of = of_then log m n is.of goes.same; rest = rest; writer_is = same_writer log.shape row m n r done ∙ is.writer_is }
+    record { of = still_one log m n is.of goes.same; rest = rest; writer_is = same_writer log.shape row m n r done ∙ is.writer_is }
 
 looked_books : (log : LogValue) (w : ℕ) (m n : PassValue) → IsWriters log w m → OnlyLooked m n → IsWriters log w n
 looked_books log w m n is looked =

@@ -1,5 +1,5 @@
 -- Entries that were seen fit, and are gone over.
-use Rattle.std.proofs.Common.{◌≡◌, ◌∙◌, ◌+◌, ◌<◌, ◌^◌, ℕ, zero, suc, Bool, true, false, cond, List, [], ◌∷◌, ◌++◌, length, filter, take, get_or, Some, slice_get, ap, ap₂, sym, subst, append-nil}
+use Rattle.std.proofs.Common.{◌≡◌, ◌∙◌, ◌+◌, ◌<◌, ◌^◌, ℕ, Bool, true, false, cond, List, [], ◌∷◌, ◌++◌, length, filter, take, get_or, Some, slice_get, ap, ap₂, sym, subst, append-nil}
 use Rattle.std.specs.List.{range_with_len}
 use Rattle.std.specs.Bool.{nat_lt}
 use Rattle.std.proofs.lemmas.Option.{slice_get-get_or}
@@ -10,7 +10,6 @@ use Rattle.cf_row.specs.declared.schema.Attr.{Attr}
 use Rattle.cf_row.specs.Times.{number_at}
 use Rattle.cf_fold.specs.Quads.{QuadValue, quad_of}
 use Rattle.cf_row.specs.declared.row.Entry.{Entry}
-use Rattle.cf_row.proofs.Bytes.{both}
 use Rattle.cf_shape.specs.Lanes.{ShapeValue}
 use Rattle.cf_law.specs.Shapes.{layout}
 use Rattle.cf_law.specs.Readers.{IsFit}
@@ -21,22 +20,14 @@ use Rattle.cf_plain.proofs.Amounts.{amounts_in, amounts_more}
 use Rattle.cf_table.specs.Values.{PassValue}
 use Rattle.cf_table.specs.Moves.{OnlyLooked, AreFit}
 use Rattle.cf_table.proofs.Reading.{no_entry}
-
-pub entry_fits : (shape : ShapeValue) (e : Entry) → IsFit (layout shape) e → Fits shape.schema e.row
-entry_fits shape e fit = (both (values_fit shape.schema (e.row).values) (nat_lt (e.row).num (2 ^ 32)) fit.0).0
+use Rattle.cf_walk.proofs.Tallied.{fits_of, row_is}
 
 -- an entry that was seen fits, also where words were looked at since
 pub held_fits : (shape : ShapeValue) (attrs : List Attr) (m n : PassValue) (o : ℕ) (e : Entry) → AreFit shape m.view → OnlyLooked m n → attrs ≡ shape.schema
     → slice_get (n.view).seen o ≡ Some e → Fits attrs e.row
 held_fits shape attrs m n o e fit looked schema at =
     subst (λ (kinds : List Attr). Fits kinds e.row) (sym schema)
-    (entry_fits shape e (fit o e (sym (ap (λ (h : PassValue). slice_get (h.view).seen o) looked) ∙ at)))
-
-pub row_is : (seen : List Entry) (o : ℕ) (e : Entry) → slice_get seen o ≡ Some e → e.row ≡ row_at (rows_in seen) o
-row_is [] zero e at = absurd (cc at)
-row_is [] (suc o) e at = absurd (cc at)
-row_is (x ∷ xs) zero e at = (let same : x ≡ e = cc at in ap (λ (y : Entry). y.row) (sym same))
-row_is (x ∷ xs) (suc o) e at = row_is xs o e at
+    (fits_of shape e (fit o e (sym (ap (λ (h : PassValue). slice_get (h.view).seen o) looked) ∙ at)))
 
 -- The places of the entries of which an expression holds, and one entry more.
 abbrev holds_at : List (List Atom) → List Entry → ℕ → Bool

@@ -28,7 +28,7 @@ use Rattle.cf_plain.specs.Totals.{IsNarrow}
 use Rattle.cf_plain.proofs.Amounts.{amount_low}
 use Rattle.cf_query.specs.Selecting.{ArePlaces, compare_numbers, compares_number, is_plain}
 use Rattle.cf_table.proofs.Reading.{no_entry, entry_at, loaded}
-use Rattle.cf_query.proofs.Loaded.{entry_fits, row_is}
+use Rattle.cf_walk.proofs.Tallied.{row_is, fits_of}
 
 -- one attribute's words more
 pub count_front : (attrs : List Attr) (k : ℕ) (attr : Attr) → slice_get attrs k ≡ Some attr
@@ -216,4 +216,4 @@ narrow_low shape m o attr n is fit lt narrow value =
     let at : slice_get (m.view).seen o ≡ Some e = slice_get-get_or (m.view).seen o no_entry lt in
     let row : e.row ≡ row_at (rows_in (m.view).seen) o = row_is (m.view).seen o e at in
     subst (λ (v : Value). number_of v < 2 ^ 32) (ap (λ (r : Rattle.cf_row.specs.Row.RowValue). value_at r attr) row ∙ value)
-    (amount_low shape.schema attr e.row is.schema narrow (entry_fits shape e (fit o e at)))
+    (amount_low shape.schema attr e.row is.schema narrow (fits_of shape e (fit o e at)))

@@ -23,12 +23,13 @@ use Rattle.cf_append.specs.Appends.{PassGoesOn, Rests, HasAppendAnswer}
 use Rattle.cf_append.specs.declared.appends.AppendFault.{AppendFault}
 use Rattle.cf_append.specs.declared.appends.AppendFault.TheVariants.{Full, NodesFull}
 use Rattle.cf_append.proofs.Appending.{rests_by, rests_all}
-use Rattle.cf_append.proofs.Answering.{of_then, rests_same, same_writer}
+use Rattle.cf_append.proofs.Answering.{rests_same, same_writer}
 use Rattle.cf_plain.specs.Asks.{eval}
 use Rattle.cf_plain.specs.declared.ask.Ask.{Ask}
 use Rattle.cf_plain.specs.declared.answer.Answer.{Answer}
 use Rattle.cf_query.specs.Asking.{HasAsked}
 use Rattle.cf_snapshot.specs.Hosts.{HostValue, empty_host, IsAlone, HasCovered, HasUsedFor}
+use Rattle.cf_table.proofs.Homing.{still_one}
 
 -- Entries of writer 0 alone.
 own_first : (k : ℕ) (e : Entry) (es : List Entry) → e.writer < 1 → mine_from 0 k (e ∷ es) ≡ record { offset = k; row = e.row } ∷ mine_from 0 (suc k) es
@@ -167,7 +168,7 @@ pub alone_then : (log : LogValue) (row : RowValue) (m n o : PassValue) (r : Resu
 alone_then log row m n o r alone on rest done then books fit all full =
     let rests : Rests o.view = rests_same n.view o.view books rest in
     record {
-      of = of_then log n o (of_then log m n alone.of on.same) then.same;
+      of = still_one log n o (still_one log m n alone.of on.same) then.same;
       one = alone.one;
       rest = rests;
       writer = ap (λ (bs : List Book). (get_or bs 0 (no_book 0)).writer) books ∙ (same_writer log.shape row m n r done ∙ alone.writer);
@@ -237,7 +238,7 @@ alone_still log m n alone asked =
     let seen = seen_still log m n alone asked in
     let held : (k : ℕ) (b : Book) → Holds n.view k b → Holds m.view k b = λ k b at. ap (λ (bs : List Book). slice_get bs k) (sym asked.books) ∙ at in
     record {
-      of = of_then log m n alone.of asked.same;
+      of = still_one log m n alone.of asked.same;
       one = alone.one;
       rest = rests_same m.view n.view asked.books alone.rest;
       writer = ap (λ (bs : List Book). (get_or bs 0 (no_book 0)).writer) asked.books ∙ alone.writer;

@@ -12,8 +12,8 @@ use Rattle.cf_table.specs.Moves.{AreFit, OnlyLooked, IsReading}
 use Rattle.cf_walk.specs.Walks.{OnlyWalked}
 use Rattle.cf_query.specs.Asking.{HasAsked}
 use Rattle.cf_table.proofs.Reading.{no_entry}
-use Rattle.cf_query.proofs.Loaded.{entry_fits, row_is}
 use Rattle.cf_query.proofs.Walking.{walked_looked}
+use Rattle.cf_walk.proofs.Tallied.{row_is, fits_of}
 
 pub new_aware : (log : LogValue) (n : PassValue) → IsOf n log → n.view ≡ new_pass [] [] → IsReading log n
 new_aware log n of is =
@@ -52,4 +52,4 @@ pub row_fits : (shape : ShapeValue) (p : Pass) (o : ℕ) (row : RowValue) → Ar
 row_fits shape p o row fit lt is =
     let e = get_or p.seen o no_entry in
     let at : slice_get p.seen o ≡ Some e = slice_get-get_or p.seen o no_entry lt in
-    subst (λ (r : RowValue). Fits shape.schema r) (row_is p.seen o e at ∙ sym is) (entry_fits shape e (fit o e at))
+    subst (λ (r : RowValue). Fits shape.schema r) (row_is p.seen o e at ∙ sym is) (fits_of shape e (fit o e at))

@@ -29,15 +29,13 @@ use Rattle.cf_walk.specs.Walks.{OnlyWalked, Met, ChainSteps, IsEntryOf, leaf_of,
 use Rattle.cf_walk.proofs.Counted.{IsCounting}
 use Rattle.cf_walk.proofs.Picked.{picks_next, picks_zero, pick_some}
 use Rattle.cf_walk.proofs.Walked.{walked_by, IsWalking}
+use Rattle.cf_law.proofs.Shapes.{three_words}
 
 pub cell_only : (shape : ShapeValue) (m n : PassValue) (o l i found : ℕ) → HasStepped shape (cell_effect shape m.view o l i) m found n → OnlyWalked m n
 cell_only shape m n o l i found made =
     let told = made.told in
     walked_by m n _ _ _ made.same told.is
     (λ r k known. subst (λ (ks : List (Spot × ℕ)). (j : ℕ) × (slice_get ks j ≡ Some (r, k))) (sym (ap (λ (p : Pass). p.known) told.is)) known)
-
-pub three_words : (shape : ShapeValue) (l : ℕ) → is_measured shape l ≡ true → cell_words (lane_at shape l) ≡ 3
-three_words shape l measured = ap (λ (b : Bool). cond {A = ℕ} b 3 1) measured
 
 -- the word of a version
 pub version_is : (shape : ShapeValue) (m n : PassValue) (lane key w o i found : ℕ) (seen : List Entry) (x : IsEntryOf shape lane key w o seen)

@@ -13,11 +13,11 @@ use Rattle.cf_plain.specs.declared.answer.Answer.{Answer}
 use Rattle.cf_table.specs.Values.{PassValue, LogValue, IsOf}
 use Rattle.cf_table.specs.Moves.{Begins}
 use Rattle.cf_table.proofs.Settling.{begins_then}
-use Rattle.cf_append.proofs.Answering.{of_then}
 use Rattle.cf_log.specs.Writers.{rows_by, IsWriter, AreWriters, IsOpened, AppendsRows, HasJoined}
 use Rattle.cf_log.specs.declared.passes.Opened.{Opened}
 use Rattle.confluo_example.specs.Example.{HasFound, HasWritten}
 use Rattle.confluo_example.specs.declared.Found.{Found}
+use Rattle.cf_table.proofs.Homing.{still_one}
 
 -- one number more
 pub map_more : {X : Type 0} (f : ℕ → X) (a n : ℕ) → map f (range_with_len a (n + 1)) ≡ map f (range_with_len a n) ++ f (a + n) ∷ []
@@ -55,7 +55,7 @@ both_writers shape o a b opened is = (
 
 still_writer : (log : LogValue) (w : ℕ) (rows : List RowValue) (m n : PassValue) → IsWriter log w m → AppendsRows log rows m n (Ok tt) → IsWriter log w n
 still_writer log w rows m n is done =
-    record { of = of_then log m n is.of (done.goes_on).same; rest = done.rest; writer_is = done.writer ∙ is.writer_is }
+    record { of = still_one log m n is.of (done.goes_on).same; rest = done.rest; writer_is = done.writer ∙ is.writer_is }
 
 all_appended : (log : LogValue) (rows : List RowValue) (m n : PassValue) → rows_by m ≡ [] → AppendsRows log rows m n (Ok tt) → rows_by n ≡ rows
 all_appended log rows m n none done =

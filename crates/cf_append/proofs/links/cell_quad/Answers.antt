@@ -5,9 +5,10 @@ use Rattle.cf_law.specs.Steps.{mine_chain}
 use Rattle.cf_law.specs.Shapes.{layout}
 use Rattle.cf_table.specs.Values.{book_of}
 use Rattle.cf_table.proofs.Mays.{may_cell}
-use Rattle.cf_append.proofs.Newest.{own_at, read_books, read_word, three_words, quad_there}
+use Rattle.cf_append.proofs.Newest.{own_at, read_books, read_word, quad_there}
 use Rattle.cf_append.specs.Linking.{IsCell, amounts_in_chain}
 use Rattle.cf_append.proofs.links.cell_quad.Goals as goal
+use Rattle.cf_law.proofs.Shapes.{three_words}
 
 pub load_cell-first-requires-clause-place : goal.load_cell-first-requires-clause-place
 load_cell-first-requires-clause-place g c =

@@ -8,8 +8,8 @@ use Rattle.cf_law.specs.Shapes.{layout}
 use Rattle.cf_append.specs.Linking.{key_path, cell_from}
 use Rattle.cf_append.proofs.Walking.{strides_then}
 use Rattle.cf_append.proofs.Cells.{cell_low, cell_next, filled_at, filled_self, filled_then, filled_mine, may_word, word_filled, store_strides}
-use Rattle.cf_append.proofs.Newest.{three_words}
 use Rattle.cf_append.proofs.links.store_three.Goals as goal
+use Rattle.cf_law.proofs.Shapes.{three_words}
 
 pub store_cell-requires-clause-place : goal.store_cell-requires-clause-place
 store_cell-requires-clause-place g c =

@@ -13,11 +13,12 @@ use Rattle.cf_law.specs.Passes.{Book}
 use Rattle.cf_law.specs.Shapes.{path_in}
 use Rattle.cf_table.specs.Values.{book_of}
 use Rattle.cf_append.specs.Linking.{amounts_in_chain, key_path, leaf_chain, cell_from}
-use Rattle.cf_append.proofs.Newest.{amounts_few, top_few, quad_cell, three_words}
+use Rattle.cf_append.proofs.Newest.{amounts_few, top_few, quad_cell}
 use Rattle.cf_shape.proofs.KeyLevels.{levels_two}
 use Rattle.cf_append.proofs.Pathing.{filed_some, filed_none, filed_path}
 use Rattle.cf_append.proofs.Cells.{cell_next, cell_low, unmeasured_next, head_chain, book_same, filled_skip, filled_more, may_version, store_strides}
 use Rattle.cf_append.proofs.links.store_version.Goals as goal
+use Rattle.cf_law.proofs.Shapes.{three_words}
 
 pub overflow_add-result : goal.overflow_add-result
 overflow_add-result g c =

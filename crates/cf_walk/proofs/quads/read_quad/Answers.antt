@@ -3,8 +3,9 @@ use Rattle.std.proofs.lemmas.Option.{slice_get_within}
 use Rattle.cf_row.specs.declared.row.Entry.{Entry}
 use Rattle.cf_table.proofs.Mays.{may_cell}
 use Rattle.cf_walk.proofs.Walked.{walked_seen}
-use Rattle.cf_walk.proofs.Versions.{cell_only, cell_keeps, three_words, read}
+use Rattle.cf_walk.proofs.Versions.{cell_only, cell_keeps, read}
 use Rattle.cf_walk.proofs.quads.read_quad.Goals as goal
+use Rattle.cf_law.proofs.Shapes.{three_words}
 
 pub load_cell-first-requires-clause-lawful : goal.load_cell-first-requires-clause-lawful
 load_cell-first-requires-clause-lawful g c =

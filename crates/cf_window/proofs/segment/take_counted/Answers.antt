@@ -7,7 +7,7 @@ use Rattle.cf_window.proofs.segment.take_counted.Goals as goal
 
 pub settle-requires-clause-of : goal.settle-requires-clause-of
 settle-requires-clause-of g c =
-    Rattle.cf_append.proofs.Answering.of_then c.args.log.now c.args.pass.now c.append-answer.new.pass c.requires.segment.alone.of
+    Rattle.cf_table.proofs.Homing.still_one c.args.log.now c.args.pass.now c.append-answer.new.pass c.requires.segment.alone.of
     c.append-answer.ensures.goes_on.same
 
 pub settle-requires-clause-place : goal.settle-requires-clause-place

@@ -5,8 +5,9 @@ use Rattle.cf_shape.specs.Lanes.{ShapeValue}
 use Rattle.cf_table.specs.Moves.{AreFit}
 use Rattle.cf_table.proofs.Reading.{looked_none}
 use Rattle.cf_query.specs.Selecting.{SelectionValue}
-use Rattle.cf_query.proofs.Loaded.{held_fits, row_is}
+use Rattle.cf_query.proofs.Loaded.{held_fits}
 use Rattle.cf_query.proofs.selection.Selection.selects_whole.Goals as goal
+use Rattle.cf_walk.proofs.Tallied.{row_is}
 
 pub holds-requires-clause-fits : goal.holds-requires-clause-fits
 holds-requires-clause-fits g c =
