@@ -3,7 +3,9 @@ use cf_packet6::PacketSchema;
 use std::alloc::Global;
 use std::test::Fail;
 
-// The writers, capacity, nodes and live rounds of a `run` whose words have spaces between them; the count in place of the rounds of a `synth`; zeros of a `dump`; how many captures a `snapshot` has in place of the writers, and its turns in place of the rounds; the segments and the live interval of a `watch` in place of the writers and the rounds.
+// Four numbers of a command, whose words have spaces between them: the writers, capacity, nodes and live rounds of a `run`. A `synth`
+// has its count in place of the rounds, a `snapshot` its captures in place of the writers and its turns in place of the rounds, a `watch`
+// its segments and its live interval in place of the writers and the rounds. Those of a `dump` are zeros.
 fn numbers_of(alloc: Global, text: &str) -> Result<Option<(u32, u32, u32, u32)>, Memory> {
     let mut words = Vec::new(alloc);
     for word in text.split(' ') {

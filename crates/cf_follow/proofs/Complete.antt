@@ -14,8 +14,8 @@ use Rattle.cf_window.specs.Watched.{bytes_in_all}
 use Rattle.cf_window.specs.Windows.{goes_in, is_refused, is_small, rows_in_all, window}
 use Rattle.cf_window.proofs.Rows.{rows_one}
 use Rattle.cf_follow.specs.Completed.{IsWatchable, Yields}
-use Rattle.cf_follow.specs.Followed.{AreRead, IsDue, IsFollowed, IsTurnedAway}
-use Rattle.cf_follow.specs.Followed.IsDue.{done, broken, refused, unread}
+use Rattle.cf_follow.specs.Followed.{AreRead, IsDueOfStream, IsFollowed, IsTurnedAway}
+use Rattle.cf_follow.specs.Followed.IsDueOfStream.{done, broken, refused, unread}
 use Rattle.cf_follow.specs.Followed.IsFollowed.{wrote, cut, cut_round, out}
 use Rattle.cf_follow.specs.declared.ending.Ending.{Ending}
 use Rattle.cf_follow.specs.declared.ending.Ending.TheVariants.{Done}
@@ -82,7 +82,7 @@ module _ (schema : PacketSchema) (begun : RoundsValue) (truncated : Bool) (file 
   unbroken : (at code : ℕ) → HasPacketFaultTo Any schema truncated file at code → ⊥
   unbroken at code fault = packets_never Any schema truncated file is.what.rows is.what.cut at code is.says fault
 
-  of_due : (now : Option (List ℕ)) (ending : Ending) (text : List ℕ) → IsDue schema begun truncated (Some file) now ending text → (ending ≡ Done)
+  of_due : (now : Option (List ℕ)) (ending : Ending) (text : List ℕ) → IsDueOfStream schema begun truncated (Some file) now ending text → (ending ≡ Done)
       ⊎ Yields ending
   of_due now ending text (done bytes reads cut_at read taken end are same text_is) = inl same
   of_due now ending text (broken bytes reads at code read taken (inl bad) same text_is) =

@@ -29,8 +29,8 @@ use Rattle.cf_window.specs.Held.{count_of}
 use Rattle.cf_window.specs.Rounds.{Course, after_reads, came, span_of, start, was_read, with_round}
 use Rattle.cf_window.specs.Windows.{rows_in_all}
 use Rattle.cf_window.proofs.Rows.{rows_one}
-use Rattle.cf_follow.specs.Followed.{AreRead, IsDue, IsFollowed, HasBrokenOff, IsGoingOn, IsTurnedAway, GoesOn, halted, spoken, truncated_line, whole}
-use Rattle.cf_follow.specs.Followed.IsDue.{done, broken, refused, unread}
+use Rattle.cf_follow.specs.Followed.{AreRead, IsDueOfStream, IsFollowed, HasBrokenOff, IsGoingOn, IsTurnedAway, GoesOn, halted, spoken, truncated_line, whole}
+use Rattle.cf_follow.specs.Followed.IsDueOfStream.{done, broken, refused, unread}
 use Rattle.cf_follow.specs.Followed.IsFollowed.{wrote, cut, cut_round, out}
 use Rattle.cf_follow.specs.Heard.{Concludes, Hears, Refuses, SaysAll, SaysPart, Stops, through}
 use Rattle.cf_follow.specs.declared.ending.Ending.{Ending}
@@ -223,7 +223,7 @@ module _ (schema : PacketSchema) (begun m : RoundsValue) (old new : Reads) (befo
         (ap₂ (λ (s : ShapeValue) (k : ℕ). Rattle.cf_window.specs.Windows.is_refused s (Rattle.cf_window.specs.Windows.window s k (rows ++ part.front)) part.row)
         (sym (on.set).shape) (sym (on.set).most) ∙ is) (nodes ∙ ap (λ (s : ShapeValue). refusals.Nodes s.nodes) (on.set).shape)
 
-    pub due_part : (truncated : Bool) → IsDue schema begun truncated before now (Refused why) (spoken begun on.reads ++ text)
+    pub due_part : (truncated : Bool) → IsDueOfStream schema begun truncated before now (Refused why) (spoken begun on.reads ++ text)
     due_part truncated =
         refused bytes on.reads part.front part.rest part.row why
         (subst (λ (rs : List RowValue). AreRead schema bytes (on.reads ++ rs ∷ [])) part.rows_are are_read) taken_more

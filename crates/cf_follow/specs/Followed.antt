@@ -59,25 +59,26 @@ HasBrokenOff schema truncated now bytes at code =
 
 -- With which text the following of a capture ends so, from what was left of it to what is. The whole capture was read, and says its rows, or
 -- it has a fault. Or a record is turned away: those before it in its read have gone in. Or the shelf failed.
-pub data IsDue (schema : PacketSchema) (begun : RoundsValue) (truncated : Bool) (before now : Option (List ℕ)) (ending : Ending) (text : List ℕ) : Type 0 where
+pub data IsDueOfStream (schema : PacketSchema) (begun : RoundsValue) (truncated : Bool) (before now : Option (List ℕ)) (ending : Ending)
+    (text : List ℕ) : Type 0 where
   done : (bytes : List ℕ) (reads : List (List RowValue)) (cut : Option ℕ) → AreRead schema bytes reads → Consumes before now bytes → IsAtEnd now
       → ArePacketsTo Any schema truncated bytes (rows_in_all reads) cut → ending ≡ Done → text ≡ whole begun reads ++ truncated_line cut
-      → IsDue schema begun truncated before now ending text
+      → IsDueOfStream schema begun truncated before now ending text
   broken : (bytes : List ℕ) (reads : List (List RowValue)) (at code : ℕ) → AreRead schema bytes reads → Consumes before now bytes
       → HasBrokenOff schema truncated now bytes at code → ending ≡ Refused (refusals.Capture at code)
-      → text ≡ halted begun reads (line_of (refusals.Capture at code)) → IsDue schema begun truncated before now ending text
+      → text ≡ halted begun reads (line_of (refusals.Capture at code)) → IsDueOfStream schema begun truncated before now ending text
   refused : (bytes : List ℕ) (reads : List (List RowValue)) (front rest : List RowValue) (row : RowValue) (why : Refusal)
       → AreRead schema bytes (reads ++ (front ++ row ∷ rest) ∷ []) → Consumes before now bytes → IsTurnedAway begun (rows_in_all reads ++ front) row why
-      → ending ≡ Refused why → text ≡ halted begun (reads ++ front ∷ []) (line_of why) → IsDue schema begun truncated before now ending text
+      → ending ≡ Refused why → text ≡ halted begun (reads ++ front ∷ []) (line_of why) → IsDueOfStream schema begun truncated before now ending text
   unread : (bytes : List ℕ) (reads : List (List RowValue)) → AreRead schema bytes reads → Consumes before now bytes → ending ≡ Stopped stops.ReadFault
-      → text ≡ halted begun reads [] → IsDue schema begun truncated before now ending text
+      → text ≡ halted begun reads [] → IsDueOfStream schema begun truncated before now ending text
 
 -- What was written, from what the sink held to what it holds. The text that is due is written whole. Or the sink failed within it, or within
 -- what is said after a read, and nothing was read after that. Or memory ran out, and what the rounds said before stays.
 pub data IsFollowed (schema : PacketSchema) (begun : RoundsValue) (truncated : Bool) (before now held kept : Option (List ℕ)) (ending : Ending) : Type 0 where
-  wrote : (text : List ℕ) → IsDue schema begun truncated before now ending text → Appends held kept text
+  wrote : (text : List ℕ) → IsDueOfStream schema begun truncated before now ending text → Appends held kept text
       → IsFollowed schema begun truncated before now held kept ending
-  cut : (due : Ending) (text : List ℕ) → ending ≡ Unwritten → IsDue schema begun truncated before now due text → WritesFront held kept text
+  cut : (due : Ending) (text : List ℕ) → ending ≡ Unwritten → IsDueOfStream schema begun truncated before now due text → WritesFront held kept text
       → IsFollowed schema begun truncated before now held kept ending
   cut_round : (bytes : List ℕ) (reads : List (List RowValue)) → ending ≡ Unwritten → AreRead schema bytes reads → Consumes before now bytes
       → WritesFront held kept (spoken begun reads) → IsFollowed schema begun truncated before now held kept ending

@@ -4,37 +4,27 @@ ghost use Rattle.std.specs.Io.KnownBytes.{IsAtEnd};
 ghost use Rattle.cf_outside.specs.Causes.{Rose};
 ghost use Rattle.cf_packet6.specs.declared.PacketSchema.{PacketSchema};
 ghost use Rattle.cf_rounds.specs.Held.{HasEnded, RoundsValue};
-ghost use Rattle.cf_follow.specs.Followed.{IsFollowed, IsGoingOn, truncated_line as line_of_cut};
+ghost use Rattle.cf_follow.specs.Followed.{IsFollowed, IsGoingOn, truncated_line};
 ghost use Rattle.cf_follow.specs.Heard.{Concludes};
 ghost use Rattle.cf_intake.specs.declared.refusal.Stop.TheVariants as stops;
 ghost use Rattle.cf_follow.specs.declared.ending.Ending.TheVariants as endings;
 
 use crate::Ending;
 use crate::said::refuse;
+use crate::truncated::push_truncated;
 use cf_intake::{Halt, Reads, write_all};
 use cf_outside::Sink;
 use cf_rounds::Rounds;
 use cf_row::Memory;
 use std::alloc::Global;
 
-// The line of a capture that ends within a record.
-fn truncated_line(alloc: Global, cut: Option<u32>) -> Result<String, Memory>
-    ensures { IfOk result (λ line. string_bytes line ≡ line_of_cut cut) }
-{
-    match cut {
-        None => Ok(String::new(alloc)),
-        Some(num) => format!(in alloc; "truncated: record {num}\n"),
-    }
-}
-
 // The text of the end.
 fn end_text(alloc: Global, rounds: &mut Rounds, cut: Option<u32>) -> Result<String, Memory>
-    ensures { IfOk result (λ text. (after : List ℕ) × HasEnded rounds.old [] after × (string_bytes text ≡ after ++ line_of_cut cut)) }
+    ensures { IfOk result (λ text. (after : List ℕ) × HasEnded rounds.old [] after × (string_bytes text ≡ after ++ truncated_line cut)) }
 {
     let mut text = String::new(alloc);
     rounds.finish(alloc, &mut text)?;
-    let line = truncated_line(alloc, cut)?;
-    text.push_str(line.as_str())?;
+    push_truncated(&mut text, cut)?;
     Ok(text)
 }
 

@@ -11,7 +11,9 @@ mod gone;
 mod said;
 #[cfg(test)]
 mod tests;
+mod truncated;
 mod watch;
 
 pub use ending::Ending;
+pub use truncated::push_truncated;
 pub use watch::{Watch, follow};

@@ -27,8 +27,7 @@ use std::thread::Threads;
 /// Records are numbered below 2^32 - 1.
 const LIMIT: u32 = u32::MAX;
 
-/// A capture that is to be followed: the rounds, of which none was made, and its reads, of which none either. One that may be
-/// truncated ends well within a record.
+/// A capture to follow, before its first round and its first read. If it may be truncated, an end within a record is no fault.
 #[derive(Drop)]
 pub struct Watch {
     pub(crate) rounds: Rounds,
@@ -37,7 +36,8 @@ pub struct Watch {
 }
 
 impl Watch {
-    /// A window of these sizes for the records of a setup, of which each live question is asked where so many came since it was.
+    /// Has a window of these sizes for the records of a setup. The live questions are asked once `every` records came since they were
+    /// last asked.
     pub fn begin(
         alloc: Global,
         setup: Setup,

@@ -56,7 +56,8 @@ module _ (setup : SetupValue) (capacity writers nodes rounds : ℕ) (rows : List
   pub final_is : text_of Final setup (log_of rows writers order) answered ≡ final_text (shaped setup capacity writers nodes) setup rows
   final_is = printed_final
 
-no_rounds : (batches lives : List ℕ)
+-- no round asks nothing
+pub no_rounds : (batches lives : List ℕ)
     → ◌≡◌ {A = List Turn}
     (flat_map (λ batch. flat_map (λ round. map (λ ask. record { batch = batch; round = round; ask = ask }) lives) (range_with_len 0 0)) batches) []
 no_rounds [] lives = refl

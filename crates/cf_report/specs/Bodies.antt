@@ -33,7 +33,8 @@ bound_text count bound = if count == 0 then codes "-" else decimal bound
 -- ` count C sum S least L greatest G`
 abbrev pub quad_text : QuadValue → List ℕ
 quad_text quad =
-    codes " count " ++ decimal quad.count ++ codes " sum " ++ decimal quad.sum ++ codes " least " ++ bound_text quad.count quad.least ++ codes " greatest " ++ bound_text quad.count quad.greatest
+    codes " count " ++ decimal quad.count ++ codes " sum " ++ decimal quad.sum ++ codes " least " ++ bound_text quad.count
+    quad.least ++ codes " greatest " ++ bound_text quad.count quad.greatest
 
 -- ` BUCKET=VALUE`, or ` KEY=VALUE` of a key among the first
 abbrev pub mark_text : Fired → List ℕ
@@ -52,6 +53,13 @@ word_of (asks.Measure lane low high) = codes "measure"
 word_of (asks.Fired trigger) = codes "fired"
 word_of (asks.Top lane part count) = codes "top"
 word_of (asks.Total attr expr) = codes "total"
+
+-- the places of rows that the body is; none if it is of another kind
+abbrev pub places_in : Body → List ℕ
+places_in (bodies.Places places) = places
+places_in (bodies.Total quad) = []
+places_in (bodies.Marks marks) = []
+places_in (bodies.Tops tops) = []
 
 -- what is shown of a body, where places are shown as these numbers
 abbrev pub shown : (List ℕ → List ℕ) → Body → List ℕ

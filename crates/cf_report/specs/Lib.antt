@@ -7,3 +7,4 @@ pub mod Meaning
 pub mod Snapshot
 pub mod Laws
 pub mod Tags
+pub mod Dump

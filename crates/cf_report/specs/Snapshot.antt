@@ -1,7 +1,7 @@
 -- The text of a snapshot over several hosts: how many rows are in the cut, and of each host how many of its rows, and its answers
 -- on them.
 use Rattle.std.specs.Prelude.{ℕ, List, [], ◌++◌, length, take, slice_index_or, codes, decimal}
-use Rattle.std.specs.List.{flat_map, range_with_len, sum}
+use Rattle.std.specs.List.{flat_map, range_with_len}
 use Rattle.cf_row.specs.Row.{RowValue}
 use Rattle.cf_history.specs.History.{AskReply}
 use Rattle.cf_plain.specs.declared.ask.Ask.{Ask}
@@ -35,7 +35,3 @@ rows_of_cut cut hosts host = take (slice_index_or cut host 0) (slice_index_or ho
 -- the part of a host at a cut
 abbrev pub host_text_at : ShapeValue → SetupValue → List ℕ → List (List RowValue) → ℕ → List ℕ
 host_text_at shape setup cut hosts host = host_text shape setup host (rows_of_cut cut hosts host)
-
--- The text of a cut of hosts that have these rows: the sum of the cut, and then each host, the first being host 0.
-abbrev pub snapshot_text : ShapeValue → SetupValue → List ℕ → List (List RowValue) → List ℕ
-snapshot_text shape setup cut hosts = cut_line (sum cut) ++ flat_map (host_text_at shape setup cut hosts) (range_with_len 0 (length hosts))

@@ -1,10 +1,10 @@
 // The text of a question's answer.
-ghost use Rattle.std.specs.Prelude.{◌≡◌, ◌<◌, ◌++◌, All, length, OnOk, IfOk, string_bytes};
+ghost use Rattle.std.specs.Prelude.{◌≡◌, ℕ, List, ◌<◌, ◌++◌, All, length, OnOk, IfOk, string_bytes};
 ghost use Rattle.std.specs.List.{flat_map};
 ghost use Rattle.cf_fold.specs.Sort.{sort};
 ghost use Rattle.cf_plain.specs.Asks.{rows_in, row_at};
 ghost use Rattle.cf_report.specs.Answered.{IsWithin};
-ghost use Rattle.cf_report.specs.Bodies.{numbers_text, number_text, quad_text, bound_text, mark_text, marks_text, word_of, shown, nums_at};
+ghost use Rattle.cf_report.specs.Bodies.{numbers_text, number_text, quad_text, bound_text, mark_text, marks_text, word_of, shown, nums_at, places_in};
 
 use crate::Tags;
 use cf_fold::Quad;
@@ -13,8 +13,8 @@ use cf_row::Memory;
 use std::alloc::Global;
 use std::fmt::Write;
 
-/// Appends how many numbers there are, and each. If memory runs out, the text may end with a part of it.
-pub fn push_numbers(text: &mut String, nums: &[u32]) -> Result<(), Memory>
+// How many numbers there are, and each.
+fn push_numbers(text: &mut String, nums: &[u32]) -> Result<(), Memory>
     ensures { OnOk result (string_bytes text.new ≡ string_bytes text.old ++ numbers_text nums.now) }
 {
     let count = nums.len();
@@ -42,8 +42,8 @@ fn push_bound(text: &mut String, count: u64, bound: u64) -> Result<(), Memory>
     }
 }
 
-/// Appends a quad: its count, sum, least and greatest number. If memory runs out, the text may end with a part of it.
-pub fn push_quad(text: &mut String, quad: Quad) -> Result<(), Memory>
+// The count, sum, least and greatest number of a quad.
+fn push_quad(text: &mut String, quad: Quad) -> Result<(), Memory>
     ensures { OnOk result (string_bytes text.new ≡ string_bytes text.old ++ quad_text quad) }
 {
     let count = quad.count();
@@ -54,8 +54,8 @@ pub fn push_quad(text: &mut String, quad: Quad) -> Result<(), Memory>
     push_bound(text, count, quad.greatest())
 }
 
-/// Appends how many marks there are, and each. If memory runs out, the text may end with a part of it.
-pub fn push_marks(text: &mut String, marks: &[Fired]) -> Result<(), Memory>
+/// How many marks there are, and each.
+pub(crate) fn push_marks(text: &mut String, marks: &[Fired]) -> Result<(), Memory>
     ensures { OnOk result (string_bytes text.new ≡ string_bytes text.old ++ marks_text marks.now) }
 {
     let count = marks.len();
@@ -119,6 +119,32 @@ fn sorted_nums_of(alloc: Global, entries: &Tags, places: &[u32]) -> Result<Vec<u
     Ok(nums)
 }
 
+/// The places of rows that a body is; none if it is of another kind.
+pub fn places_of(body: &Body) -> &[u32]
+    ensures is { result.now ≡ places_in body.now }
+    ensures within { (count : ℕ) → IsWithin count body.now → All (λ place. place < count) result.now }
+{
+    match body {
+        Body::Places(places) => places.as_slice(),
+        Body::Total(_) => &[],
+        Body::Marks(_) => &[],
+        Body::Tops(_) => &[],
+    }
+}
+
+/// Appends a body, whose places are shown as these numbers. If memory runs out, the text may end with a part of it.
+pub fn push_body(text: &mut String, body: &Body, nums: &[u32]) -> Result<(), Memory>
+    ensures { (show : List ℕ → List ℕ) → nums.now ≡ show (places_in body.now)
+        → OnOk result (string_bytes text.new ≡ string_bytes text.old ++ shown show body.now) }
+{
+    match body {
+        Body::Places(_) => push_numbers(text, nums),
+        Body::Total(quad) => push_quad(text, *quad),
+        Body::Marks(marks) => push_marks(text, marks.as_slice()),
+        Body::Tops(tops) => push_marks(text, tops.as_slice()),
+    }
+}
+
 /// A body, where rows are shown by their numbers, ascending.
 pub(crate) fn push_final(
     alloc: Global,
@@ -129,15 +155,8 @@ pub(crate) fn push_final(
     requires { IsWithin (length entries.now) body.now }
     ensures { OnOk result (string_bytes text.new ≡ string_bytes text.old ++ shown (λ places. sort (nums_at (rows_in entries.now) places)) body.now) }
 {
-    match body {
-        Body::Places(places) => push_numbers(
-            text,
-            &sorted_nums_of(alloc, entries, places.as_slice())?,
-        ),
-        Body::Total(quad) => push_quad(text, *quad),
-        Body::Marks(marks) => push_marks(text, marks.as_slice()),
-        Body::Tops(tops) => push_marks(text, tops.as_slice()),
-    }
+    let nums = sorted_nums_of(alloc, entries, places_of(body))?;
+    push_body(text, body, &nums)
 }
 
 /// A body, where rows are shown by their numbers in the order of the log.
@@ -150,10 +169,6 @@ pub(crate) fn push_live(
     requires { IsWithin (length entries.now) body.now }
     ensures { OnOk result (string_bytes text.new ≡ string_bytes text.old ++ shown (nums_at (rows_in entries.now)) body.now) }
 {
-    match body {
-        Body::Places(places) => push_numbers(text, &nums_of(alloc, entries, places.as_slice())?),
-        Body::Total(quad) => push_quad(text, *quad),
-        Body::Marks(marks) => push_marks(text, marks.as_slice()),
-        Body::Tops(tops) => push_marks(text, tops.as_slice()),
-    }
+    let nums = nums_of(alloc, entries, places_of(body))?;
+    push_body(text, body, &nums)
 }

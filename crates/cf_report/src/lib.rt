@@ -1,11 +1,16 @@
-//! The text of a report: what questions and triggers found on a log, what live questions found while it was written, and the
-//! order in which its writers wrote. And the text of a snapshot over several hosts.
+//! The texts of a report, of a snapshot and of a dump.
+//!
+//! A report has what questions and triggers found on a log, what live questions found while it was written, and the order in which its
+//! writers wrote. A snapshot has each host's answers at a cut, and a dump a line for each row, with its values by name.
 #![tactic(auto)]
 
 mod body;
 mod condition;
+#[cfg(test)]
+mod dump_tests;
 mod laws;
 mod lines;
+mod listing;
 mod live;
 mod order;
 mod snapshot;
@@ -13,14 +18,15 @@ mod tags;
 #[cfg(test)]
 mod tests;
 mod text;
+mod value;
 
-pub use body::{push_marks, push_numbers, push_quad, word};
-pub use cf_plain::{Live, Loaded};
+pub use body::{places_of, push_body, word};
 pub use condition::is_answering;
 pub use laws::{
     final_part_has_no_sizes, final_part_is_one, meant_answers_make_reports, reports_are_histories,
 };
-pub use lines::{name_at, push_alerts};
+pub use lines::{marks_at, name_at, push_alerts};
+pub use listing::dump;
 pub use snapshot::{push_cut, push_host, push_host_by_tags};
 pub use tags::Tags;
 pub use text::{Form, report, report_by_tags};

@@ -83,11 +83,14 @@ fn push_each_alert(text: &mut String, name: &str, marks: &[Fired]) -> Result<(),
     Ok(())
 }
 
-fn marks_at(alerts: &[Marks], place: usize) -> &[Fired]
-    requires { place < length alerts.now }
+/// The marks of the trigger at a place; none if there is no such trigger.
+pub fn marks_at(alerts: &[Marks], place: usize) -> &[Fired]
     ensures { result.now ≡ slice_index_or alerts.now place [] }
 {
-    alerts[place].as_slice()
+    match alerts.get(place) {
+        Some(marks) => marks.as_slice(),
+        None => &[],
+    }
 }
 
 /// Appends a line for each mark of each trigger of the setup, in its order. If memory runs out, the text may end with a part of it.

@@ -1,6 +1,6 @@
 use super::*;
 use cf_fold::Quad;
-use cf_plain::{Answer, Body, Fired, Marks, Places};
+use cf_plain::{Answer, Body, Fired, Live, Loaded, Marks, Places};
 use cf_row::{Entry, Memory, Row};
 use cf_setup::parse_setup;
 use std::alloc::Global;
@@ -120,8 +120,18 @@ fn text_of(alloc: Global, case: &Case, form: Form) -> Result<Option<Vec<u8>>, Me
     Ok(Some(text))
 }
 
-const FEW: &str =
-    "schema packet\nindex n len\nfilter f caplen<2 || len==60\naggregate a f len\ntrigger t a sum > 70\nask q find n 60 99\nask b between f 2 2\nask m measure a 1 2\nask g fired t\ntally s src len *\nask h top s sum 2\nask w total len len<=70\n";
+const FEW: &str = "schema packet\n\
+        index n len\n\
+        filter f caplen<2 || len==60\n\
+        aggregate a f len\n\
+        trigger t a sum > 70\n\
+        ask q find n 60 99\n\
+        ask b between f 2 2\n\
+        ask m measure a 1 2\n\
+        ask g fired t\n\
+        tally s src len *\n\
+        ask h top s sum 2\n\
+        ask w total len len<=70\n";
 
 #[test]
 fn each_kind_of_body_is_printed(rt: HostRuntime) -> Result<(), Fail> {
@@ -143,11 +153,26 @@ fn each_kind_of_body_is_printed(rt: HostRuntime) -> Result<(), Fail> {
     for (form, text) in [
         (
             Form::Whole,
-            "records 2\nask q find 1: 0\nask b between 1: 1\nask m measure count 2 sum 160 least 60 greatest 100\nask g fired 1: 2=100\nask h top 2: 167772161=120 167772162=70\nask w total count 3 sum 160 least 20 greatest 70\nalert t 2 100\norder 0*2\n",
+            "records 2\n\
+                ask q find 1: 0\n\
+                ask b between 1: 1\n\
+                ask m measure count 2 sum 160 least 60 greatest 100\n\
+                ask g fired 1: 2=100\n\
+                ask h top 2: 167772161=120 167772162=70\n\
+                ask w total count 3 sum 160 least 20 greatest 70\n\
+                alert t 2 100\n\
+                order 0*2\n",
         ),
         (
             Form::Final,
-            "records 2\nask q find 1: 0\nask b between 1: 1\nask m measure count 2 sum 160 least 60 greatest 100\nask g fired 1: 2=100\nask h top 2: 167772161=120 167772162=70\nask w total count 3 sum 160 least 20 greatest 70\nalert t 2 100\n",
+            "records 2\n\
+                ask q find 1: 0\n\
+                ask b between 1: 1\n\
+                ask m measure count 2 sum 160 least 60 greatest 100\n\
+                ask g fired 1: 2=100\n\
+                ask h top 2: 167772161=120 167772162=70\n\
+                ask w total count 3 sum 160 least 20 greatest 70\n\
+                alert t 2 100\n",
         ),
     ] {
         assert_eq!(rt;
@@ -188,7 +213,20 @@ fn of_no_number_the_least_and_greatest_are_a_dash(rt: HostRuntime) -> Result<(),
 fn live_answers_are_printed_with_what_is_new(rt: HostRuntime) -> Result<(), Fail> {
     let alloc = rt.alloc();
     let case = Case {
-        setup: "schema packet\nfilter f len>=0\naggregate a f len\ntrigger t a sum > 70\ntrigger u a count > 1\nask all list len>=0\nask g fired t\nask h fired u\ntally s src len *\nask k top s count 1\nlive g\nlive all\nlive h\nlive k\n",
+        setup: "schema packet\n\
+            filter f len>=0\n\
+            aggregate a f len\n\
+            trigger t a sum > 70\n\
+            trigger u a count > 1\n\
+            ask all list len>=0\n\
+            ask g fired t\n\
+            ask h fired u\n\
+            tally s src len *\n\
+            ask k top s count 1\n\
+            live g\n\
+            live all\n\
+            live h\n\
+            live k\n",
         log: &[(1, 1), (0, 0), (0, 2), (1, 3)],
         finals: &[
             Found::At(&[0, 1, 2, 3]),
@@ -210,8 +248,20 @@ fn live_answers_are_printed_with_what_is_new(rt: HostRuntime) -> Result<(), Fail
     };
     let finals =
         "records 4\nask all list 4: 0 1 2 3\nask g fired 2: 1=90 2=100\nask h fired 0:\nask k top 1: 7=3\nalert t 1 90\nalert t 2 100\n";
-    let lives =
-        "live g @1 fired 1: 1=71\nnew g @1 fired 1: 1=71\nlive all @2 list 2: 1 0\nlive h @2 fired 1: 1=2\nnew h @2 fired 1: 1=2\nlive k @3 top 1: 7=2\nlive g @3 fired 2: 1=90 2=100\nnew g @3 fired 1: 2=100\nlive all @4 list 4: 1 0 2 3\nlive h @4 fired 1: 1=2\nnew h @4 fired 0:\nlive g @4 fired 2: 1=90 2=100\nnew g @4 fired 0:\norder 1*1 0*2 1*1\n";
+    let lives = "live g @1 fired 1: 1=71\n\
+            new g @1 fired 1: 1=71\n\
+            live all @2 list 2: 1 0\n\
+            live h @2 fired 1: 1=2\n\
+            new h @2 fired 1: 1=2\n\
+            live k @3 top 1: 7=2\n\
+            live g @3 fired 2: 1=90 2=100\n\
+            new g @3 fired 1: 2=100\n\
+            live all @4 list 4: 1 0 2 3\n\
+            live h @4 fired 1: 1=2\n\
+            new h @4 fired 0:\n\
+            live g @4 fired 2: 1=90 2=100\n\
+            new g @4 fired 0:\n\
+            order 1*1 0*2 1*1\n";
     let whole = format!(in alloc; "{finals}{lives}")?;
     for (form, text) in [(Form::Whole, whole.as_str()), (Form::Final, finals)] {
         assert_eq!(rt;

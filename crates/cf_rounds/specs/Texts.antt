@@ -1,10 +1,9 @@
 -- The text of a stream: what its rounds have said, and its end.
-use Rattle.std.specs.Prelude.{◌≡◌, ℕ, List, ◌++◌, fold}
+use Rattle.std.specs.Prelude.{ℕ, List, ◌++◌, fold}
 use Rattle.cf_row.specs.Row.{RowValue}
 use Rattle.cf_setup.specs.Setups.{SetupValue}
 use Rattle.cf_shape.specs.Lanes.{ShapeValue}
 use Rattle.cf_window.specs.Rounds.{Course, Span, after_reads, span_of, with_round, within}
-use Rattle.cf_window.specs.Watched.{AreCut, AreEnded}
 use Rattle.cf_window.specs.Windows.{rows_in_all}
 use Rattle.cf_rounds.specs.Lines.{Said, View, end_text, nothing_said, with_view}
 
@@ -32,11 +31,3 @@ watch_text shape setup most every reads =
 -- the text of one that ends with a fault, whose line this is
 abbrev pub halted_text : ShapeValue → SetupValue → ℕ → ℕ → List (List RowValue) → List ℕ → List ℕ
 halted_text shape setup most every reads fault = rounds_text shape setup most every reads ++ fault
-
--- The text is that of the bytes, for some way in which reads cut them.
-pub record IsWatched (Given : List ℕ → List RowValue → Type 0) (shape : ShapeValue) (setup : SetupValue) (most every : ℕ) (bytes text : List ℕ) : Type 0 where
-  pub pieces : List (List ℕ)
-  pub reads : List (List RowValue)
-  pub cut : AreCut bytes pieces
-  pub ended : AreEnded Given pieces reads
-  pub text_is : text ≡ watch_text shape setup most every reads

@@ -1,11 +1,11 @@
-// What a question found in a window's records, which are told by their numbers.
+// What a question found in a window's records, which are shown by their numbers.
 ghost use Rattle.std.specs.Prelude.{◌≡◌, ◌+◌, ◌-◌, ◌<◌, ◌^◌, ◌++◌, All, map, OnOk, IfOk, string_bytes};
 ghost use Rattle.cf_fold.specs.Sort.{sort};
 ghost use Rattle.cf_report.specs.Answered.{IsWithin};
 ghost use Rattle.cf_report.specs.Bodies.{shown};
 
 use cf_plain::Body;
-use cf_report::{push_marks, push_numbers, push_quad};
+use cf_report::{places_of, push_body};
 use cf_row::Memory;
 use std::alloc::Global;
 
@@ -31,7 +31,7 @@ fn sorted_from(alloc: Global, from: u32, places: &[u32]) -> Result<Vec<u32>, Mem
     Ok(nums)
 }
 
-/// A body, where records are told by their numbers in the order in which they came.
+/// A body, where records are shown by their numbers in the order in which they came.
 pub(crate) fn push_live_body(
     alloc: Global,
     text: &mut String,
@@ -41,15 +41,11 @@ pub(crate) fn push_live_body(
     requires { IsWithin (2 ^ 32 - from) body.now }
     ensures { OnOk result (string_bytes text.new ≡ string_bytes text.old ++ shown (map (λ place. from + place)) body.now) }
 {
-    match body {
-        Body::Places(places) => push_numbers(text, &nums_from(alloc, from, places.as_slice())?),
-        Body::Total(quad) => push_quad(text, *quad),
-        Body::Marks(marks) => push_marks(text, marks.as_slice()),
-        Body::Tops(tops) => push_marks(text, tops.as_slice()),
-    }
+    let nums = nums_from(alloc, from, places_of(body))?;
+    push_body(text, body, &nums)
 }
 
-/// A body, where records are told by their numbers, ascending.
+/// A body, where records are shown by their numbers, ascending.
 pub(crate) fn push_final_body(
     alloc: Global,
     text: &mut String,
@@ -59,10 +55,6 @@ pub(crate) fn push_final_body(
     requires { IsWithin (2 ^ 32 - from) body.now }
     ensures { OnOk result (string_bytes text.new ≡ string_bytes text.old ++ shown (λ places. sort (map (λ place. from + place) places)) body.now) }
 {
-    match body {
-        Body::Places(places) => push_numbers(text, &sorted_from(alloc, from, places.as_slice())?),
-        Body::Total(quad) => push_quad(text, *quad),
-        Body::Marks(marks) => push_marks(text, marks.as_slice()),
-        Body::Tops(tops) => push_marks(text, tops.as_slice()),
-    }
+    let nums = sorted_from(alloc, from, places_of(body))?;
+    push_body(text, body, &nums)
 }

@@ -1,11 +1,11 @@
 // The lines of marks that are new in a round.
-ghost use Rattle.std.specs.Prelude.{◌≡◌, ◌++◌, [], OnOk, string_bytes, slice_index_or};
+ghost use Rattle.std.specs.Prelude.{◌≡◌, ◌++◌, OnOk, string_bytes};
 ghost use Rattle.std.specs.List.{flat_map};
 ghost use Rattle.cf_watch.specs.New.{newly as newly_of};
 ghost use Rattle.cf_rounds.specs.Lines.{fresh_line, fresh_lines};
 
 use cf_plain::{Fired, Marks};
-use cf_report::name_at;
+use cf_report::{marks_at, name_at};
 use cf_row::Memory;
 use cf_setup::Setup;
 use cf_watch::newly;
@@ -41,16 +41,6 @@ fn push_new(
 {
     let fresh = newly(alloc, before, now)?;
     push_each_fresh(text, name, to, &fresh)
-}
-
-// The marks of the trigger at a place, none where there is no such trigger.
-fn marks_at(alerts: &[Marks], place: usize) -> &[Fired]
-    ensures { result.now ≡ slice_index_or alerts.now place [] }
-{
-    match alerts.get(place) {
-        Some(marks) => marks.as_slice(),
-        None => &[],
-    }
 }
 
 /// A line for each mark of each trigger whose bucket is in none of the trigger's marks of before; so many records had come.

@@ -27,10 +27,10 @@ use Rattle.cf_intake.specs.Files.{Grammar, setups, captures, IsFileRefused}
 use Rattle.cf_intake.specs.Files.IsFileRefused.{missing, broken}
 use Rattle.cf_intake.specs.Refusals.{line_of}
 use Rattle.cf_run.specs.Refusals.{status_of, stop_status}
-use Rattle.cf_run.specs.Parts.{draft_status, draft_seals}
+use Rattle.cf_run.specs.Parts.{reply_status, reply_seals}
 use Rattle.cf_run.specs.Work.{draws, drawn_rows, rows_told, ends_told}
-use Rattle.cf_run.specs.declared.draft.Draft.{Draft}
-use Rattle.cf_run.specs.declared.draft.Draft.TheVariants as drafts
+use Rattle.cf_run.specs.declared.reply.Reply.{Reply}
+use Rattle.cf_run.specs.declared.reply.Reply.TheVariants as replies
 use Rattle.cf_load.specs.Planned.{tails_of}
 use Rattle.cf_run.proofs.Counted.{seals_within}
 use Rattle.cf_run.proofs.Deciding.{one_due, lawful_done}
@@ -302,7 +302,7 @@ due_as told call before now status other text seals owed due is also =
     subst (λ (s : Status). IsDue told call before now s text owed) (sym is)
     (subst (λ (q : List SealValue). IsDue told call before now status text q) (sym also) due)
 
--- a draft has none of the statuses that devices and want of memory give, and seals only where the work was done
+-- a reply has none of the statuses that devices and lack of memory give, and seals only if the work was done
 none_of : {A B C : Type 0} → (A → ⊥) → (B → ⊥) → (C → ⊥) → A ⊎ B ⊎ C → ⊥
 none_of {A} {B} {C} a b c (inl x) = a x
 none_of {A} {B} {C} a b c (inr (inl x)) = b x
@@ -316,14 +316,14 @@ refusal_yields (refusals.Capture at code) yields = none_of (λ e. cc e) (λ e. c
 refusal_yields (refusals.Full capacity) yields = none_of (λ e. cc e) (λ e. cc e) (λ e. cc e) yields
 refusal_yields (refusals.Nodes nodes) yields = none_of (λ e. cc e) (λ e. cc e) (λ e. cc e) yields
 
-draft_yields : (draft : Draft) → Yields (draft_status draft) → ⊥
-draft_yields (drafts.Done text seals) yields = none_of (λ e. cc e) (λ e. cc e) (λ e. cc e) yields
-draft_yields (drafts.Refused why text) yields = refusal_yields why yields
+reply_yields : (reply : Reply) → Yields (reply_status reply) → ⊥
+reply_yields (replies.Done text seals) yields = none_of (λ e. cc e) (λ e. cc e) (λ e. cc e) yields
+reply_yields (replies.Refused why text) yields = refusal_yields why yields
 
-pub never_yields : (draft : Draft) (status : Status) → status ≡ draft_status draft → Yields status → ⊥
-never_yields draft status is yields = draft_yields draft (subst Yields is yields)
+pub never_yields : (reply : Reply) (status : Status) → status ≡ reply_status reply → Yields status → ⊥
+never_yields reply status is yields = reply_yields reply (subst Yields is yields)
 
-pub draft_unsealed : (draft : Draft) (status : Status) (seals : List SealValue) → status ≡ draft_status draft → seals ≡ draft_seals draft
+pub reply_unsealed : (reply : Reply) (status : Status) (seals : List SealValue) → status ≡ reply_status reply → seals ≡ reply_seals reply
     → (status ≡ Done → ⊥) → seals ≡ []
-draft_unsealed (drafts.Done text seals) status sealed is also undone = absurd (undone is)
-draft_unsealed (drafts.Refused why text) status sealed is also undone = also
+reply_unsealed (replies.Done text seals) status sealed is also undone = absurd (undone is)
+reply_unsealed (replies.Refused why text) status sealed is also undone = also

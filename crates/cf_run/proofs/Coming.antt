@@ -9,7 +9,8 @@ use Rattle.cf_setup.specs.declared.source.Source.{Source}
 use Rattle.cf_setup.specs.declared.source.Source.TheVariants.{Packets, Records}
 use Rattle.cf_command.specs.Call.{Call, RunCall, SynthCall, DumpCall, SnapshotCall, WatchCall}
 use Rattle.cf_command.specs.Call.Call.{run, synth, dump, snapshot, watch}
-use Rattle.cf_dump.specs.Dump.{dump_text}
+use Rattle.cf_follow.specs.Followed.{truncated_line}
+use Rattle.cf_report.specs.Dump.{dump_text}
 use Rattle.cf_setup.specs.Setups.{SetupValue}
 use Rattle.cf_table.specs.Moves.{SealValue}
 use Rattle.cf_run.specs.Due.{Work, CallsBy, CallsByAll, CallsFor, RunAfter, SynthAfter, SnapshotAfter, WatchFrom, WatchAfter, ComesTo, Exceeds, GivesLog, HostsExceed, HasRoom, IsSnapshotOf, GivesCut, IsReportOf, AreAnswersOf, IsDue, StopsAt, drawn_work}
@@ -20,7 +21,7 @@ use Rattle.cf_run.specs.Due.GivesCut.{refuses_hosts, tells_hosts}
 use Rattle.cf_run.specs.Due.GivesLog.{refuses, tells}
 use Rattle.cf_intake.specs.Files.{HasLeft, IsStopped, Grammar, setups, captures, IsFileAs, IsFileRefused, IsReadAs, Halts}
 use Rattle.cf_intake.specs.Files.IsFileRefused.{missing, broken}
-use Rattle.cf_run.specs.Parts.{EndsWith, IsPrepared, draft_status, draft_text, draft_seals, ends_each}
+use Rattle.cf_run.specs.Parts.{EndsWith, IsPrepared, reply_status, reply_text, reply_seals, ends_each}
 use Rattle.cf_intake.specs.Parts.{captured, captured_each, rows_each}
 use Rattle.cf_intake.specs.Rows.{CaptureValue}
 use Rattle.cf_intake.specs.declared.rows.Captured.{Captured}
@@ -29,14 +30,14 @@ use Rattle.cf_intake.specs.Refusals.{line_of}
 use Rattle.cf_run.specs.Refusals.{status_of}
 use Rattle.cf_run.specs.Seals.{IsSealedReport, IsSealedFinal}
 use Rattle.cf_intake.specs.Several.{AreReadAs, AreHalted, AreStopped}
-use Rattle.cf_run.specs.Work.{draws, drawn_rows, shape_for, truncated_line, rows_told, ends_told}
+use Rattle.cf_run.specs.Work.{draws, drawn_rows, shape_for, rows_told, ends_told}
 use Rattle.cf_run.specs.Due.Exceeds.{full, short}
 use Rattle.cf_run.specs.Due.HostsExceed.{some_short}
 use Rattle.cf_shape.specs.Nodes.{distinct}
 use Rattle.cf_run.proofs.Drawing.{drawn_many}
 use Rattle.cf_intake.proofs.Several.{all_taken, halts_after, refused_stopped}
 use Rattle.cf_intake.proofs.Taking.{left_same}
-use Rattle.cf_run.specs.declared.draft.Draft.{Draft}
+use Rattle.cf_run.specs.declared.reply.Reply.{Reply}
 use Rattle.cf_run.specs.declared.log.Unmade.{Unmade}
 use Rattle.cf_run.specs.declared.log.Unmade.TheVariants as unmade
 use Rattle.cf_intake.specs.declared.refusal.Halt.{Halt}
@@ -291,13 +292,13 @@ comes_stopped told (Some (watch call)) before now work comes =
     called_left setups told call.setup before now (WatchAfter told call now) work (StopsAt told (Some (watch call)) stops.Memory before now)
     (λ stop. inl stop) (λ setup said next. watch_left told call before now setup work said setup.source refl next) comes
 
-pub refused_prepared : (told : Option (List File)) (call : Option Call) (before now : Option (List ℕ)) (why : Refusal) (result : Result Draft Stop)
+pub refused_prepared : (told : Option (List File)) (call : Option Call) (before now : Option (List ℕ)) (why : Refusal) (result : Result Reply Stop)
     → EndsWith told call before now (Err (Refused why))
-    → MatchResult result (λ draft. (draft_text draft ≡ line_of why) × (draft_status draft ≡ status_of why) × (draft_seals draft ≡ []))
+    → MatchResult result (λ reply. (reply_text reply ≡ line_of why) × (reply_status reply ≡ status_of why) × (reply_seals reply ≡ []))
     (λ stop. stop ≡ stops.Memory) → IsPrepared told call before now result
-refused_prepared told call before now why (Ok draft) due is =
-    subst (λ (s : Status). IsDue told call before now s (draft_text draft) (draft_seals draft)) (sym is.1)
-    (subst (λ (t : List ℕ). IsDue told call before now (status_of why) t (draft_seals draft)) (sym is.0)
+refused_prepared told call before now why (Ok reply) due is =
+    subst (λ (s : Status). IsDue told call before now s (reply_text reply) (reply_seals reply)) (sym is.1)
+    (subst (λ (t : List ℕ). IsDue told call before now (status_of why) t (reply_seals reply)) (sym is.0)
     (subst (λ (q : List SealValue). IsDue told call before now (status_of why) (line_of why) q) (sym is.2) due))
 refused_prepared told call before now why (Err stop) due is =
     subst (λ (s : Stop). StopsAt told call s before now) (sym is) (comes_stopped told call before now due.work due.comes)

@@ -1,6 +1,6 @@
 -- From a log that is loaded and closed to what is told of it.
 use Rattle.std.proofs.Common.{◌≡◌, ℕ, ◌<◌, nat_lt, List, [], ◌∷◌, length, map, get_or, All, Result, Ok, Err, MatchResult, refl, sym, ap, ap₂, subst, ◌∙◌, ◌≤◌, ◌^◌, mul_comm}
-use Rattle.std.specs.List.{flat_map, range_with_len}
+use Rattle.std.specs.List.{range_with_len}
 use Rattle.std.proofs.lemmas.Bool.{ltb-true}
 use Rattle.std.proofs.lemmas.List.{length-map}
 use Rattle.std.proofs.lemmas.List.Sums.{AllPass-from_list_all}
@@ -25,7 +25,7 @@ use Rattle.cf_report.specs.Tags.{bare_log}
 use Rattle.cf_report.specs.Text.{text_of}
 use Rattle.cf_report.proofs.Bare.{bare_long, bare_of}
 use Rattle.cf_report.proofs.Legal.{finals_meant, report_told, report_history}
-use Rattle.cf_report.proofs.Reported.{final_is}
+use Rattle.cf_report.proofs.Reported.{final_is, no_rounds}
 use Rattle.cf_table.specs.Moves.{SealValue}
 use Rattle.cf_load.specs.Loading.{HasAnswered}
 use Rattle.cf_load.specs.Planned.{IsPlan, marks_on, tails_of}
@@ -111,12 +111,6 @@ pub tags_long : (setup : SetupValue) (capacity writers nodes rounds : ℕ) (rows
     (answered : LoadedValue) (made : IsTagged setup capacity writers nodes rounds rows tags seals answered) → length tags ≡ length made.entries
 tags_long setup capacity writers nodes rounds rows tags seals answered made =
     ap (λ (es : List Entry). length es) made.tags_are ∙ bare_long made.entries
-
-no_rounds : (batches lives : List ℕ)
-    → ◌≡◌ {A = List Turn}
-    (flat_map (λ batch. flat_map (λ round. map (λ ask. record { batch = batch; round = round; ask = ask }) lives) (range_with_len 0 0)) batches) []
-no_rounds [] lives = refl
-no_rounds (batch ∷ batches) lives = no_rounds batches lives
 
 -- where no question was asked live, there is no tail
 untold : (n : ℕ) (asks : List ℕ) (lives : List Live) → map (λ (at : Turn × ℕ). at.0) (map turn_of lives) ≡ turns_of (batches_of n) 0 asks → tails_of lives ≡ []

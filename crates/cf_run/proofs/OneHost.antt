@@ -26,6 +26,7 @@ use Rattle.cf_setup.specs.Setups.{SetupValue}
 use Rattle.cf_shape.specs.Lanes.{ShapeValue}
 use Rattle.cf_shape.specs.Nodes.{Node, same_node, add_node, nodes_for, nodes_of, distinct}
 use Rattle.cf_command.specs.declared.words.LogSizes.{LogSizes}
+use Rattle.cf_follow.specs.Followed.{truncated_line}
 use Rattle.cf_snapshot.specs.Plans.{cut_by, in_cut}
 use Rattle.cf_run.specs.Due.{HasRoom}
 use Rattle.cf_run.specs.Logs.{IsUnmade, IsUnmadeAlone}
@@ -33,7 +34,7 @@ use Rattle.cf_intake.specs.Parts.{rows_each}
 use Rattle.cf_intake.specs.declared.rows.Captured.{Captured}
 use Rattle.cf_run.specs.Parts.{ends_each}
 use Rattle.cf_run.proofs.Sealing.{one_more}
-use Rattle.cf_run.specs.Work.{host_lines_at, shape_for, truncated_line}
+use Rattle.cf_run.specs.Work.{host_lines_at, shape_for}
 use Rattle.cf_run.specs.declared.log.Unmade.{Unmade}
 use Rattle.cf_run.specs.declared.log.Unmade.TheVariants.{Nodes, Memory}
 

@@ -3,8 +3,8 @@ use Rattle.std.proofs.Common.{◌≡◌, ◌⊎◌, ◌≤◌, ℕ, Bool, List, 
 use Rattle.cf_command.specs.Call.{Call, WatchCall, AreWindowSizes}
 use Rattle.cf_command.specs.Call.Call.{watch}
 use Rattle.cf_follow.specs.Completed.{IsWatchable, Yields as EndingYields}
-use Rattle.cf_follow.specs.Followed.{IsDue as IsEndDue, IsFollowed, IsTurnedAway}
-use Rattle.cf_follow.specs.Followed.IsDue.{done, broken, refused as turned, unread}
+use Rattle.cf_follow.specs.Followed.{IsDueOfStream, IsFollowed, IsTurnedAway}
+use Rattle.cf_follow.specs.Followed.IsDueOfStream.{done, broken, refused as turned, unread}
 use Rattle.cf_follow.specs.Followed.IsFollowed.{wrote as wrote_all, cut as cut_text, cut_round, out}
 use Rattle.cf_follow.specs.Followed.IsTurnedAway.{full, nodes}
 use Rattle.cf_follow.specs.declared.ending.Ending.{Ending}
@@ -157,7 +157,7 @@ turned_words begun rows row why (full most is) words = cc (is, words)
 turned_words begun rows row why (nodes few lacks is) words = cc (is, words)
 
 due_words : (schema : PacketSchema) (begun : RoundsValue) (truncated : Bool) (before now : Option (List ℕ)) (ending : Ending) (text : List ℕ)
-    → IsEndDue schema begun truncated before now ending text → (why : Refusal) → ending ≡ endings.Refused why → why ≡ refusals.Words → ⊥
+    → IsDueOfStream schema begun truncated before now ending text → (why : Refusal) → ending ≡ endings.Refused why → why ≡ refusals.Words → ⊥
 due_words schema begun truncated before now ending text (done bytes reads end read taken at_end rows is text_is) why same words = cc (is, same)
 due_words schema begun truncated before now ending text (broken bytes reads at code read taken off is text_is) why same words = cc (is, same, words)
 due_words schema begun truncated before now ending text (turned bytes reads front rest row other read taken away is text_is) why same words =

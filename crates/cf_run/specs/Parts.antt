@@ -21,9 +21,9 @@ use Rattle.cf_intake.specs.Refusals.{line_of}
 use Rattle.cf_intake.specs.declared.refusal.Refusal.{Refusal}
 use Rattle.cf_intake.specs.declared.refusal.Refusal.TheVariants as refusals
 use Rattle.cf_run.specs.Refusals.{status_of}
-use Rattle.cf_run.specs.declared.draft.Draft.{Draft}
-use Rattle.cf_run.specs.declared.draft.Draft.TheVariants as drafts
-use Rattle.cf_run.specs.declared.draft.Product.{Product}
+use Rattle.cf_run.specs.declared.reply.Reply.{Reply}
+use Rattle.cf_run.specs.declared.reply.Reply.TheVariants as replies
+use Rattle.cf_run.specs.declared.reply.Product.{Product}
 use Rattle.cf_intake.specs.declared.rows.Captured.{Captured}
 use Rattle.cf_intake.specs.declared.refusal.Halt.{Halt}
 use Rattle.cf_intake.specs.declared.refusal.Halt.TheVariants.{Refused, Stopped}
@@ -45,24 +45,24 @@ EndsWith told call before now (Ok product) = IsDue told call before now Done pro
 EndsWith told call before now (Err (Refused why)) = IsDue told call before now (status_of why) (line_of why) []
 EndsWith told call before now (Err (Stopped stop)) = StopsAt told call stop before now
 
--- the status that a draft ends with
-abbrev pub draft_status : Draft → Status
-draft_status (drafts.Done text seals) = Done
-draft_status (drafts.Refused why text) = status_of why
+-- the status that a reply ends with
+abbrev pub reply_status : Reply → Status
+reply_status (replies.Done text seals) = Done
+reply_status (replies.Refused why text) = status_of why
 
 -- the text that it writes
-abbrev pub draft_text : Draft → List ℕ
-draft_text (drafts.Done text seals) = text.items
-draft_text (drafts.Refused why text) = text.items
+abbrev pub reply_text : Reply → List ℕ
+reply_text (replies.Done text seals) = text.items
+reply_text (replies.Refused why text) = text.items
 
 -- the seals of what it tells
-abbrev pub draft_seals : Draft → List SealValue
-draft_seals (drafts.Done text seals) = seals.items
-draft_seals (drafts.Refused why text) = []
+abbrev pub reply_seals : Reply → List SealValue
+reply_seals (replies.Done text seals) = seals.items
+reply_seals (replies.Refused why text) = []
 
--- a draft is due, or the work was stopped
-abbrev pub IsPrepared : Option (List File) → Option Call → Option (List ℕ) → Option (List ℕ) → Result Draft Stop → Type 0
-IsPrepared told call before now (Ok draft) = IsDue told call before now (draft_status draft) (draft_text draft) (draft_seals draft)
+-- a reply is due, or the work was stopped
+abbrev pub IsPrepared : Option (List File) → Option Call → Option (List ℕ) → Option (List ℕ) → Result Reply Stop → Type 0
+IsPrepared told call before now (Ok reply) = IsDue told call before now (reply_status reply) (reply_text reply) (reply_seals reply)
 IsPrepared told call before now (Err stop) = StopsAt told call stop before now
 
 -- the schema of the packets that a setup is over, or its refusal, whose schema is in that line

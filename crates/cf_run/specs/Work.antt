@@ -1,10 +1,11 @@
--- The rows of packets that are drawn, the shape of a log, and what is written of truncated captures.
-use Rattle.std.specs.Prelude.{ℕ, Bool, true, false, List, [], ◌∷◌, ◌++◌, length, map, slice_index_or, Option, Some, None, codes, decimal}
+-- The rows of packets that are drawn, the shape of a log, and what is written of several hosts.
+use Rattle.std.specs.Prelude.{ℕ, Bool, true, false, List, ◌++◌, length, map, slice_index_or, Option, None}
 use Rattle.std.specs.List.{flat_map, range_with_len, sum}
 use Rattle.cf_row.specs.Row.{RowValue}
 use Rattle.cf_make.specs.Generated.{generated_frames}
 use Rattle.cf_command.specs.declared.words.LogSizes.{LogSizes}
 use Rattle.cf_command.specs.Call.{SynthCall}
+use Rattle.cf_follow.specs.Followed.{truncated_line}
 use Rattle.cf_report.specs.Snapshot.{cut_line, host_text_at}
 use Rattle.cf_packet6.specs.declared.PacketSchema.TheVariants.{Packet, Packet6}
 use Rattle.cf_setup.specs.declared.source.Source.{Source}
@@ -26,11 +27,6 @@ drawn_rows call = packet_rows Packet (generated_frames call.seed call.count)
 -- the shape of a setup's log of these sizes
 abbrev pub shape_for : SetupValue → LogSizes → ShapeValue
 shape_for setup sizes = shaped setup sizes.capacity sizes.writers sizes.nodes
-
--- `truncated: record K`, where a capture ends within that record, and no line where it ends well
-abbrev pub truncated_line : Option ℕ → List ℕ
-truncated_line None = []
-truncated_line (Some k) = codes "truncated: record " ++ (decimal k ++ 10 ∷ [])
 
 -- the rows of each host, and within which record its capture ends, if it does
 abbrev pub rows_told : List CaptureValue → List (List RowValue)

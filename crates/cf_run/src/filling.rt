@@ -9,7 +9,7 @@ ghost use Rattle.cf_run.specs.Logs.{IsLogSealed, IsUnmade};
 use crate::log::Unmade;
 use cf_load::{LivePlan, LoadFault, Loader, Sealing, Segments};
 use cf_outside::Gate;
-use cf_report::Loaded;
+use cf_plain::Loaded;
 use cf_row::{Memory, Row};
 use cf_shape::Shape;
 use std::alloc::{AllocError, Global};

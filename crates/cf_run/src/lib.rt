@@ -6,7 +6,6 @@
 #![tactic(auto)]
 
 mod asked;
-mod draft;
 mod drawn;
 mod fill;
 mod filling;
@@ -17,6 +16,7 @@ mod packet6_tests;
 mod piece_tests;
 mod prepare;
 mod program;
+mod reply;
 #[cfg(test)]
 mod row_tests;
 #[cfg(test)]

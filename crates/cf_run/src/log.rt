@@ -11,13 +11,14 @@ ghost use Rattle.cf_run.specs.Seals.{IsSealedReport, IsSealedFinal, IsSealedIn};
 ghost use Rattle.cf_run.specs.declared.log.Unmade.TheVariants as unmade;
 
 use crate::asked::plan_of;
-use crate::draft::Product;
 use crate::filling::Filling;
+use crate::reply::Product;
 use cf_command::LogSizes;
 use cf_intake::{Halt, Refusal, Stop};
 use cf_load::Sealing;
 use cf_outside::Gate;
-use cf_report::{Form, Loaded, Tags, report_by_tags};
+use cf_plain::Loaded;
+use cf_report::{Form, Tags, report_by_tags};
 use cf_row::Memory;
 use cf_setup::{Setup, shape_of};
 use cf_table::Seal;

@@ -1,4 +1,4 @@
-// The work up to the text that is to be written.
+// A command's work, up to the text to write.
 ghost use Rattle.std.specs.Prelude.{◌≡◌, ◌≤◌, ◌^◌, Some, None, IfSome, option_map};
 ghost use Rattle.cf_command.specs.Call.{AreSizes, IsInRange, IsSnapshotInRange, call_by, run_by, synth_by, dump_by, snapshot_by};
 ghost use Rattle.cf_command.specs.Call.Call.{run, synth, dump, snapshot};
@@ -7,24 +7,24 @@ ghost use Rattle.cf_run.specs.Parts.{EndsWith, IsPrepared};
 ghost use Rattle.cf_run.specs.Watched.{IsNoWatch};
 ghost use Rattle.cf_run.specs.Work.{draws as draws_from};
 
-use crate::draft::{Draft, Product, refused};
 use crate::drawn::fill_drawn;
 use crate::fill::fill_rows;
 use crate::log::{final_of, opened, report_of};
+use crate::reply::{Product, Reply, refused};
 use crate::snapshot::{cut_text, is_some_full, load_hosts};
 use crate::truncated::with_truncated;
 use cf_command::{Command, DumpCommand, LogSizes, RunCommand, SnapshotCommand, SynthCommand};
-use cf_dump::dump;
 use cf_intake::{
     Format, Halt, Manner, Refusal, Stop, collect_rows, format_of, read_hosts, read_setup,
 };
 use cf_outside::{Gate, Shelf};
 use cf_packet6::PacketSchema;
+use cf_report::dump;
 use cf_setup::Source;
 use std::alloc::Global;
 use std::thread::Threads;
 
-// The report that a run is called for.
+// The report of a run.
 fn run_report<R: Threads + Sync, F: Shelf, G: Gate>(
     rt: &R,
     alloc: Global,
@@ -58,14 +58,14 @@ fn run_report<R: Threads + Sync, F: Shelf, G: Gate>(
     }
 }
 
-// Whether rows are drawn of a setup that reads from this.
+// Whether a synth can draw rows for a setup over this.
 fn draws(source: Source) -> bool
     ensures { result ≡ draws_from source }
 {
     matches!(source, Source::Packets(PacketSchema::Packet))
 }
 
-// The answers that a synth is called for.
+// The answers of a synth.
 fn synth_answers<R: Threads + Sync, F: Shelf, G: Gate>(
     rt: &R,
     alloc: Global,
@@ -98,7 +98,7 @@ fn synth_answers<R: Threads + Sync, F: Shelf, G: Gate>(
     }
 }
 
-// The rows that a dump is called for.
+// The rows of a dump.
 fn dump_listing<F: Shelf>(
     alloc: Global,
     command: &DumpCommand,
@@ -120,7 +120,7 @@ fn dump_listing<F: Shelf>(
     Ok(Product { text, seals })
 }
 
-// The answers at a cut that a snapshot is called for.
+// The answers of a snapshot, at its cut.
 fn snapshot_answers<R: Threads + Sync, F: Shelf, G: Gate>(
     rt: &R,
     alloc: Global,
@@ -156,7 +156,7 @@ fn snapshot_answers<R: Threads + Sync, F: Shelf, G: Gate>(
     Ok(Product { text, seals })
 }
 
-// What a command that is no watch, or none, and the files call for.
+// The product of a command, which is no watch. No command means that the words are none.
 fn product_of<R: Threads + Sync, F: Shelf, G: Gate>(
     rt: &R,
     alloc: Global,
@@ -182,14 +182,14 @@ fn product_of<R: Threads + Sync, F: Shelf, G: Gate>(
     }
 }
 
-/// What is to be written for a command that is no watch, or none, and the files, or why nothing is.
+/// The reply to a command, which is no watch, or why nothing is written. No command means that the words are none.
 pub(crate) fn prepare<R: Threads + Sync, F: Shelf, G: Gate>(
     rt: &R,
     alloc: Global,
     command: Option<Command>,
     shelf: &mut F,
     gate: &G,
-) -> Result<Draft, Stop>
+) -> Result<Reply, Stop>
     requires range { IfSome command IsInRange }
     requires whole { IsNoWatch (option_map call_by command) }
     ensures files { F.files shelf.new ≡ F.files shelf.old }
@@ -198,7 +198,7 @@ pub(crate) fn prepare<R: Threads + Sync, F: Shelf, G: Gate>(
     ensures no_words { option_map call_by command.entry ≡ None → shelf.new ≡ shelf.old }
 {
     match product_of(rt, alloc, command, shelf, gate) {
-        Ok(Product { text, seals }) => Ok(Draft::Done { text, seals }),
+        Ok(Product { text, seals }) => Ok(Reply::Done { text, seals }),
         Err(Halt::Refused(refusal)) => refused(alloc, refusal),
         Err(Halt::Stopped(stop)) => Err(stop),
     }

@@ -35,8 +35,8 @@ ghost use Rattle.cf_run.specs.declared.log.Unmade.TheVariants.{Nodes};
 
 use crate::filling::Filling;
 use crate::log::{Unmade, closed_log, opened};
-use crate::truncated::push_truncated;
 use cf_command::{LogSizes, SnapshotCommand};
+use cf_follow::push_truncated;
 use cf_intake::Captured;
 use cf_load::LivePlan;
 use cf_outside::Gate;
@@ -71,7 +71,7 @@ fn copies(alloc: Global, rows: &[Row]) -> Result<Vec<Row>, Memory>
     Ok(copied)
 }
 
-// Loads rows into a log of one segment, of which nothing is asked.
+// Loads rows into a log of one segment, and asks nothing.
 fn load_silently<R: Threads + Sync, G: Gate>(
     rt: &R,
     alloc: Global,
@@ -100,7 +100,7 @@ fn load_silently<R: Threads + Sync, G: Gate>(
     Ok(())
 }
 
-/// Loads all rows of each host into a log of its own. This tells whether each log has the nodes for them.
+/// Loads all rows of each host into a log of its own, which shows whether each log has the nodes for them.
 pub(crate) fn load_hosts<R: Threads + Sync, G: Gate>(
     rt: &R,
     alloc: Global,

@@ -74,15 +74,31 @@ pub(crate) fn expect<R: Threads + Sync + Abort>(
 
 // One setup with each kind of statement and question.
 fn questions(alloc: Global) -> Result<Vec<u8>, Memory> {
-    b"schema packet\nwidth 1000000000\nindex n len\nfilter f caplen<2 || len==60\naggregate a f len\ntrigger t a sum > 70\nask q find n 60 99\nask b between f 2 2\nask m measure a 1 2\nask e measure a 7 9\nask g fired t\nlive q\n".to_vec(
-        alloc,
-    )
+    b"schema packet\n\
+        width 1000000000\n\
+        index n len\n\
+        filter f caplen<2 || len==60\n\
+        aggregate a f len\n\
+        trigger t a sum > 70\n\
+        ask q find n 60 99\n\
+        ask b between f 2 2\n\
+        ask m measure a 1 2\n\
+        ask e measure a 7 9\n\
+        ask g fired t\n\
+        live q\n"
+        .to_vec(alloc)
 }
 
 fn answers(alloc: Global) -> Result<Vec<u8>, Memory> {
-    b"records 2\nask q find 1: 0\nask b between 1: 1\nask m measure count 2 sum 160 least 60 greatest 100\nask e measure count 0 sum 0 least - greatest -\nask g fired 1: 2=100\nalert t 2 100\norder 0*2\n".to_vec(
-        alloc,
-    )
+    b"records 2\n\
+        ask q find 1: 0\n\
+        ask b between 1: 1\n\
+        ask m measure count 2 sum 160 least 60 greatest 100\n\
+        ask e measure count 0 sum 0 least - greatest -\n\
+        ask g fired 1: 2=100\n\
+        alert t 2 100\n\
+        order 0*2\n"
+        .to_vec(alloc)
 }
 
 #[test]
@@ -228,9 +244,10 @@ fn segment_after(alloc: Global, link: u8, front: &[u8]) -> Result<Vec<u8>, Memor
 }
 
 fn dumped_segment(alloc: Global) -> Result<Vec<u8>, Memory> {
-    b"records 1\n0 ts=1000000000 caplen=54 len=54 dmac=0x020000000001 smac=0x020000000002 etype=2048 kind=2 tos=0 iplen=40 ttl=64 proto=6 src=10.0.0.12 dst=10.0.1.10 sport=40219 dport=80 seq=0 ack=0 flags=16 win=1024 vlan=0\n".to_vec(
-        alloc,
-    )
+    b"records 1\n\
+        0 ts=1000000000 caplen=54 len=54 dmac=0x020000000001 smac=0x020000000002 etype=2048 kind=2 tos=0 iplen=40 ttl=64 proto=6 \
+            src=10.0.0.12 dst=10.0.1.10 sport=40219 dport=80 seq=0 ack=0 flags=16 win=1024 vlan=0\n"
+        .to_vec(alloc)
 }
 
 #[test]
@@ -242,12 +259,16 @@ fn tags_and_cooked_frames_are_dumped(rt: HostRuntime) -> Result<(), Fail> {
         (
             1,
             &tagged,
-            b"records 1\n0 ts=1000000000 caplen=58 len=58 dmac=0x020000000001 smac=0x020000000002 etype=2048 kind=2 tos=0 iplen=40 ttl=64 proto=6 src=10.0.0.12 dst=10.0.1.10 sport=40219 dport=80 seq=0 ack=0 flags=16 win=1024 vlan=5\n",
+            b"records 1\n\
+                0 ts=1000000000 caplen=58 len=58 dmac=0x020000000001 smac=0x020000000002 etype=2048 kind=2 tos=0 iplen=40 ttl=64 proto=6 \
+                    src=10.0.0.12 dst=10.0.1.10 sport=40219 dport=80 seq=0 ack=0 flags=16 win=1024 vlan=5\n",
         ),
         (
             113,
             &COOKED,
-            b"records 1\n0 ts=1000000000 caplen=56 len=56 dmac=0x000000000000 smac=0x000000000000 etype=2048 kind=2 tos=0 iplen=40 ttl=64 proto=6 src=10.0.0.12 dst=10.0.1.10 sport=40219 dport=80 seq=0 ack=0 flags=16 win=1024 vlan=0\n",
+            b"records 1\n\
+                0 ts=1000000000 caplen=56 len=56 dmac=0x000000000000 smac=0x000000000000 etype=2048 kind=2 tos=0 iplen=40 ttl=64 proto=6 \
+                    src=10.0.0.12 dst=10.0.1.10 sport=40219 dport=80 seq=0 ack=0 flags=16 win=1024 vlan=0\n",
         ),
     ];
     for (link, front, text) in table {
@@ -325,14 +346,20 @@ fn captures_in_pcapng_are_reported_and_dumped(rt: HostRuntime) -> Result<(), Fai
     let alloc = rt.alloc();
     expect(&rt, alloc, &WORDS, (SETUP, &BLOCKS), (0, REPORT))?;
     let nanoseconds = blocks_with(alloc, 28, &NANOSECONDS, 48)?;
-    let text =
-        b"records 2\n0 ts=1500000 caplen=2 len=60 dmac=0x000000000000 smac=0x000000000000 etype=0 kind=0 tos=0 iplen=0 ttl=0 proto=0 src=0.0.0.0 dst=0.0.0.0 sport=0 dport=0 seq=0 ack=0 flags=0 win=0 vlan=0\n1 ts=0 caplen=4 len=100 dmac=0x000000000000 smac=0x000000000000 etype=0 kind=0 tos=0 iplen=0 ttl=0 proto=0 src=0.0.0.0 dst=0.0.0.0 sport=0 dport=0 seq=0 ack=0 flags=0 win=0 vlan=0\n";
+    let text = b"records 2\n\
+            0 ts=1500000 caplen=2 len=60 dmac=0x000000000000 smac=0x000000000000 etype=0 kind=0 tos=0 iplen=0 ttl=0 proto=0 src=0.0.0.0 \
+                dst=0.0.0.0 sport=0 dport=0 seq=0 ack=0 flags=0 win=0 vlan=0\n\
+            1 ts=0 caplen=4 len=100 dmac=0x000000000000 smac=0x000000000000 etype=0 kind=0 tos=0 iplen=0 ttl=0 proto=0 src=0.0.0.0 \
+                dst=0.0.0.0 sport=0 dport=0 seq=0 ack=0 flags=0 win=0 vlan=0\n";
     dumps(&rt, alloc, &nanoseconds, text)?;
     // The same packets in both formats.
     let records = two_frames(alloc)?;
     let blocks = blocks_with(alloc, 84, &ONE_BYTE, 104)?;
-    let text =
-        b"records 2\n0 ts=1500000000 caplen=2 len=60 dmac=0x000000000000 smac=0x000000000000 etype=0 kind=0 tos=0 iplen=0 ttl=0 proto=0 src=0.0.0.0 dst=0.0.0.0 sport=0 dport=0 seq=0 ack=0 flags=0 win=0 vlan=0\n1 ts=2000000000 caplen=1 len=100 dmac=0x000000000000 smac=0x000000000000 etype=0 kind=0 tos=0 iplen=0 ttl=0 proto=0 src=0.0.0.0 dst=0.0.0.0 sport=0 dport=0 seq=0 ack=0 flags=0 win=0 vlan=0\n";
+    let text = b"records 2\n\
+            0 ts=1500000000 caplen=2 len=60 dmac=0x000000000000 smac=0x000000000000 etype=0 kind=0 tos=0 iplen=0 ttl=0 proto=0 src=0.0.0.0 \
+                dst=0.0.0.0 sport=0 dport=0 seq=0 ack=0 flags=0 win=0 vlan=0\n\
+            1 ts=2000000000 caplen=1 len=100 dmac=0x000000000000 smac=0x000000000000 etype=0 kind=0 tos=0 iplen=0 ttl=0 proto=0 src=0.0.0.0 \
+                dst=0.0.0.0 sport=0 dport=0 seq=0 ack=0 flags=0 win=0 vlan=0\n";
     dumps(&rt, alloc, &records, text)?;
     dumps(&rt, alloc, &blocks, text)?;
     Ok(())

@@ -60,14 +60,14 @@ fn report<R: Threads + Sync, F: Shelf, K: Sink, G: Gate>(
     ensures shelf_count { F.faults shelf.old ≤ F.faults shelf.new }
     ensures sink_count { K.faults sink.old ≤ K.faults sink.new }
 {
-    let draft = match prepare(rt, alloc, command, shelf, gate) {
-        Ok(draft) => draft,
+    let reply = match prepare(rt, alloc, command, shelf, gate) {
+        Ok(reply) => reply,
         Err(stop) => return unsealed(alloc, Status::from(stop)),
     };
-    match write_all(sink, draft.text()) {
+    match write_all(sink, reply.text()) {
         Ok(()) => Outcome {
-            status: draft.status(),
-            seals: draft.into_seals(alloc),
+            status: reply.status(),
+            seals: reply.into_seals(alloc),
         },
         Err(_) => unsealed(alloc, Status::WriteFault),
     }

@@ -63,8 +63,11 @@ fn a_truncated_capture_has_the_packets_of_its_whole_blocks(rt: HostRuntime) -> R
 #[test]
 fn a_truncated_capture_is_dumped(rt: HostRuntime) -> Result<(), Fail> {
     let alloc = rt.alloc();
-    let text =
-        b"records 1\n0 ts=1500000000 caplen=2 len=60 dmac=0x000000000000 smac=0x000000000000 etype=0 kind=0 tos=0 iplen=0 ttl=0 proto=0 src=0.0.0.0 dst=0.0.0.0 sport=0 dport=0 seq=0 ack=0 flags=0 win=0 vlan=0\ntruncated: record 1\n".as_slice();
+    let text = b"records 1\n\
+            0 ts=1500000000 caplen=2 len=60 dmac=0x000000000000 smac=0x000000000000 etype=0 kind=0 tos=0 iplen=0 ttl=0 proto=0 src=0.0.0.0 \
+                dst=0.0.0.0 sport=0 dport=0 seq=0 ack=0 flags=0 win=0 vlan=0\n\
+            truncated: record 1\n"
+        .as_slice();
     let fault = b"capture: record 1 code 5\n".as_slice();
     let table: [(&[&str], u8, &[u8]); 2] = [
         (&["dump", "c", "--truncated"], 0, text),

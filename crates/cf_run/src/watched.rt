@@ -33,7 +33,7 @@ fn packets_of(setup: &Setup) -> Result<PacketSchema, Halt>
     }
 }
 
-// Opens the capture of that name, which is to be followed.
+// Opens the capture of that name.
 fn open_capture<F: Shelf>(shelf: &mut F, name: &str) -> Result<(), Halt>
     ensures files { F.files shelf.new ≡ F.files shelf.old }
     ensures opened { MatchResult result (λ _. IsOpened (F.files shelf.old) name.now (F.rest shelf.new)) (IsUnopened (F.files shelf.old) name.now (F.rest shelf.old) (F.rest shelf.new)) }
@@ -47,7 +47,7 @@ fn open_capture<F: Shelf>(shelf: &mut F, name: &str) -> Result<(), Halt>
     }
 }
 
-// What is to be followed, its capture being open.
+// Reads the setup, opens the capture, and prepares to follow it.
 fn begin<F: Shelf>(alloc: Global, command: &WatchCommand, shelf: &mut F) -> Result<Watch, Halt>
     requires { AreWindowSizes command.now.sizes }
     ensures files { F.files shelf.new ≡ F.files shelf.old }
@@ -83,8 +83,8 @@ fn refuse<K: Sink>(alloc: Global, why: Refusal, sink: &mut K) -> Status
     }
 }
 
-/// Watches a capture: reads the setup, opens the capture, and writes read by read what the rounds of its records say. Before that a file that
-/// there is not, a fault of the setup or a setup that isn't over packets is refused.
+/// Watches a capture: reads the setup, opens the capture, and writes what the rounds of its records say, read by read. A missing file, a
+/// faulty setup and a setup that is not over packets are refused before anything is read from the capture.
 pub(crate) fn watch<R: Threads, F: Shelf, K: Sink>(
     rt: &R,
     alloc: Global,

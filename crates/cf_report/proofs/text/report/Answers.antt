@@ -10,5 +10,6 @@ returns c =
     let setup = c.args.setup.now in
     let loaded = c.args.loaded.now in
     IfOk-weaker c.report_by_tags.result _ _
-    (λ text is. is ∙ (ap (λ (es : List Entry). text_of c.args.form setup es loaded) c.in_ok-tags.ensures ∙ text_bare setup c.args.entries.now c.args.form loaded))
+    (λ text is. is
+    ∙ (ap (λ (es : List Entry). text_of c.args.form setup es loaded) c.in_ok-tags.ensures ∙ text_bare setup c.args.entries.now c.args.form loaded))
     c.report_by_tags.ensures

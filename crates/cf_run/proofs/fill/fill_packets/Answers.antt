@@ -39,7 +39,8 @@ loop-shelf-init g c = record {
 pub take_beside-taken-requires-clause-fit : goal.take_beside-taken-requires-clause-fit
 take_beside-taken-requires-clause-fit g c = λ κs within.
     let v = c.loop-shelf.invariant in
-    fit_now (attrs_by c.args.schema) c.loop-shelf.filling.segments.shape c.args.filling.now.segments.shape c.loop-shelf.rows.items v.keeps.shape c.requires.attrs v.fit
+    fit_now (attrs_by c.args.schema) c.loop-shelf.filling.segments.shape c.args.filling.now.segments.shape c.loop-shelf.rows.items v.keeps.shape
+    c.requires.attrs v.fit
 
 pub loop-shelf-preserved : goal.loop-shelf-preserved
 loop-shelf-preserved g c =
@@ -94,7 +95,8 @@ returns-in_err-take_rows-clause-taken g c =
 pub take_rows-requires-clause-fit : goal.take_rows-requires-clause-fit
 take_rows-requires-clause-fit g c = λ κs within.
     let v = c.loop-shelf.invariant in
-    fit_now (attrs_by c.args.schema) c.loop-shelf.filling.segments.shape c.args.filling.now.segments.shape c.loop-shelf.rows.items v.keeps.shape c.requires.attrs v.fit
+    fit_now (attrs_by c.args.schema) c.loop-shelf.filling.segments.shape c.args.filling.now.segments.shape c.loop-shelf.rows.items v.keeps.shape
+    c.requires.attrs v.fit
 
 pub returns-clause-taken : goal.returns-clause-taken
 returns-clause-taken g c =

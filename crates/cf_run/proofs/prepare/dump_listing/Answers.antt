@@ -1,11 +1,11 @@
 use Rattle.std.proofs.Common.{rules, ◌≡◌, ℕ, ◌++◌, ◌∙◌, List, ap, ap₂, string_bytes}
 use Rattle.std.proofs.lemmas.Result.{err_from_is_err_and}
 use Rattle.cf_command.specs.Call.{dump_by}
-use Rattle.cf_dump.specs.Dump.{dump_text}
+use Rattle.cf_report.specs.Dump.{dump_text}
 use Rattle.cf_intake.specs.Parts.{captured}
 use Rattle.cf_row.specs.Row.{RowValue}
 use Rattle.cf_row.specs.declared.schema.Attr.{Attr}
-use Rattle.cf_run.specs.Work.{truncated_line}
+use Rattle.cf_follow.specs.Followed.{truncated_line}
 use Rattle.cf_run.proofs.Coming.{dump_unread, dump_gives, dump_stopped}
 use Rattle.cf_run.proofs.prepare.dump_listing.Goals as goal
 

@@ -14,12 +14,14 @@ load_silently-requires-clause-fit g c κs within =
 pub load_silently-requires-clause-few : goal.load_silently-requires-clause-few
 load_silently-requires-clause-few g c κs within =
     subst (λ (rows : List RowValue). length rows ≤ c.args.sizes.capacity) (sym c.deref.ensures.value)
-    (one_of_all (λ rows. length rows ≤ c.args.sizes.capacity) c.args.hosts.now c.loop-host.host-index c.host-item.result c.loop-host-test.true c.host-item.is c.requires.few)
+    (one_of_all (λ rows. length rows ≤ c.args.sizes.capacity) c.args.hosts.now c.loop-host.host-index c.host-item.result c.loop-host-test.true c.host-item.is
+    c.requires.few)
 
 pub loop-host-preserved : goal.loop-host-preserved
 loop-host-preserved g c =
     let few = c.in_ok-load_silently.ensures in
     one_below (λ rows. distinct
-    (shape_for c.args.setup.now c.args.sizes) rows ≤ c.args.sizes.writers * c.args.sizes.nodes) c.args.hosts.now c.loop-host.host-index c.host-item.result c.loop-host-test.true c.host-item.is
+    (shape_for c.args.setup.now c.args.sizes) rows ≤ c.args.sizes.writers * c.args.sizes.nodes) c.args.hosts.now c.loop-host.host-index c.host-item.result
+    c.loop-host-test.true c.host-item.is
     (subst (λ (rows : List RowValue). distinct
     (shape_for c.args.setup.now c.args.sizes) rows ≤ c.args.sizes.writers * c.args.sizes.nodes) c.deref.ensures.value few) c.loop-host.invariant

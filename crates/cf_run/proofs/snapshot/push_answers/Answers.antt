@@ -39,7 +39,8 @@ closed_log-requires-clause-few g c κs within =
     let one : sizes.capacity * sizes.segments ≡ sizes.capacity * 1 = ap (λ (n : ℕ). sizes.capacity * n) c.requires.undivided in
     let few = c.requires.few in
     filled_few c.args.log.now.setup.now sizes 0 c.take_rows.new.self c.args.rows.now
-    (filled_on c.args.log.now.setup.now c.args.log.now.sizes 0 c.in_ok-filling.filling c.take_rows.new.self c.args.rows.now c.in_ok-filling.ensures c.take_rows.ensures.keeps
+    (filled_on c.args.log.now.setup.now c.args.log.now.sizes 0 c.in_ok-filling.filling c.take_rows.new.self c.args.rows.now c.in_ok-filling.ensures
+    c.take_rows.ensures.keeps
     (copies_came c.take_rows.new.self c.in_ok-copied.copied.items c.args.rows.now c.in_ok-copied.ensures
     (c.in_ok-take_rows.ensures.filled [] c.in_ok-filling.ensures.filled))) (omega (arith, one, few))
 
@@ -74,7 +75,8 @@ returns-in_err-tags-clause-unmade g c =
     let err : c.from_residual-in_err-tags.result ≡ Err why = search rules in
     rw err (unmade_alone (shape_for c.args.log.now.setup.now c.args.log.now.sizes) c.args.rows.now why c.requires.few
     (c.in_err-tags.ensures c.args.log.now.setup.now c.args.log.now.sizes 0 c.args.rows.now
-    (filled_on c.args.log.now.setup.now c.args.log.now.sizes 0 c.in_ok-filling.filling c.take_rows.new.self c.args.rows.now c.in_ok-filling.ensures c.take_rows.ensures.keeps
+    (filled_on c.args.log.now.setup.now c.args.log.now.sizes 0 c.in_ok-filling.filling c.take_rows.new.self c.args.rows.now c.in_ok-filling.ensures
+    c.take_rows.ensures.keeps
     (copies_came c.take_rows.new.self c.in_ok-copied.copied.items c.args.rows.now c.in_ok-copied.ensures
     (c.in_ok-take_rows.ensures.filled [] c.in_ok-filling.ensures.filled)))))
 

@@ -3,8 +3,8 @@ use Rattle.std.proofs.lemmas.List.{get_or_default}
 use Rattle.cf_lemmas.proofs.Ranges.{step_range}
 use Rattle.cf_row.specs.Row.{value_at}
 use Rattle.cf_row.specs.declared.schema.Attr.{Attr}
-use Rattle.cf_dump.specs.Dump.{attr_at, no_attr, field_at, field_text}
-use Rattle.cf_dump.proofs.lines.push_fields.Goals as goal
+use Rattle.cf_report.specs.Dump.{attr_at, no_attr, field_at, field_text}
+use Rattle.cf_report.proofs.listing.push_fields.Goals as goal
 
 pub loop-place-preserved : goal.loop-place-preserved
 loop-place-preserved c =

@@ -3,8 +3,8 @@ use Rattle.std.proofs.lemmas.List.{append_assoc}
 use Rattle.std.proofs.lemmas.Result.{on_ok_weaker}
 use Rattle.std.specs.Int.{w64, to_be_bytes}
 use Rattle.std.specs.List.{flat_map}
-use Rattle.cf_dump.specs.Dump.{byte_text}
-use Rattle.cf_dump.proofs.value.push_half.Goals as goal
+use Rattle.cf_report.specs.Dump.{byte_text}
+use Rattle.cf_report.proofs.value.push_half.Goals as goal
 
 pub returns : goal.returns
 returns c =

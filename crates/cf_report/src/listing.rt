@@ -2,7 +2,7 @@
 ghost use Rattle.std.specs.Prelude.{◌≡◌, ◌++◌, ◌∷◌, ◌<◌, [], All, IfOk, OnOk, length, string_bytes};
 ghost use Rattle.std.specs.List.{flat_map, range_with_len};
 ghost use Rattle.cf_row.specs.Row.{Fits};
-ghost use Rattle.cf_dump.specs.Dump.{field_text, field_at, row_line, dump_text};
+ghost use Rattle.cf_report.specs.Dump.{field_text, field_at, row_line, dump_text};
 
 use crate::value::push_value;
 use cf_row::{Attr, Memory, Row, Schema, Value};

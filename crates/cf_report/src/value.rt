@@ -1,7 +1,7 @@
 // The text of a value.
 ghost use Rattle.std.specs.Prelude.{◌≡◌, ◌++◌, OnOk, string_bytes, take, decimal};
 ghost use Rattle.std.specs.List.{flat_map};
-ghost use Rattle.cf_dump.specs.Dump.{is_address as is_address_of, is_half as is_half_of, dotted, byte_text, half_text, value_text};
+ghost use Rattle.cf_report.specs.Dump.{is_address as is_address_of, is_half as is_half_of, dotted, byte_text, half_text, value_text};
 
 use cf_row::{Attr, Memory, Value};
 use std::fmt::Write;

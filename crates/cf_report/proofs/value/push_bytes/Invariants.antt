@@ -1,7 +1,7 @@
 use Rattle.std.proofs.Common.{◌≡◌, ◌++◌, take, string_bytes}
 use Rattle.std.specs.List.{flat_map}
-use Rattle.cf_dump.specs.Dump.{byte_text}
-use Rattle.cf_dump.proofs.value.push_bytes.Given as goal
+use Rattle.cf_report.specs.Dump.{byte_text}
+use Rattle.cf_report.proofs.value.push_bytes.Given as goal
 
 abbrev pub invariant-loop-byte : goal.invariant-loop-byte
 invariant-loop-byte l = string_bytes l.text ≡ string_bytes l.initial.text ++ flat_map byte_text (take l.byte-index l.bytes)

@@ -38,8 +38,9 @@ fn a_row_is_shown_by_the_names_of_its_values(rt: HostRuntime) -> Result<(), Fail
         values.push(Value::Num(number))?;
     }
     let text = dump_of_one(alloc, &schema, Row::new(7, values))?.expect(&rt, "a row that fits");
-    let wanted =
-        "records 1\n7 ts=1000000000 caplen=54 len=54 dmac=0x2f0000000001 smac=0x2f0000000002 etype=2048 kind=2 tos=0 iplen=40 ttl=64 proto=6 src=10.0.0.12 dst=10.0.1.10 sport=40219 dport=80 seq=0 ack=0 flags=16 win=1024 vlan=0\n";
+    let wanted = "records 1\n\
+            7 ts=1000000000 caplen=54 len=54 dmac=0x2f0000000001 smac=0x2f0000000002 etype=2048 kind=2 tos=0 iplen=40 ttl=64 proto=6 \
+                src=10.0.0.12 dst=10.0.1.10 sport=40219 dport=80 seq=0 ack=0 flags=16 win=1024 vlan=0\n";
     assert_eq!(rt; text.as_str(), wanted);
     Ok(())
 }

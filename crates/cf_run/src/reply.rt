@@ -1,0 +1,64 @@
+// What the program writes for a command that is no watch.
+ghost use Rattle.std.specs.Prelude.{◌≡◌, [], MatchResult};
+ghost use Rattle.cf_run.specs.Parts.{reply_status, reply_text, reply_seals};
+ghost use Rattle.cf_intake.specs.Refusals.{line_of};
+ghost use Rattle.cf_run.specs.Refusals.{status_of};
+ghost use Rattle.cf_intake.specs.declared.refusal.Stop.TheVariants as stops;
+
+use crate::Status;
+use cf_intake::{Refusal, Stop};
+use cf_table::Seal;
+use std::alloc::Global;
+
+/// The product of a command's work: a text, and the seals of its log's segments, if it has a log.
+#[derive(Drop)]
+pub(crate) struct Product {
+    pub(crate) text: Vec<u8>,
+    pub(crate) seals: Vec<Seal>,
+}
+
+/// What is written: a text, with the seals of the log that it is about, or the line of a refusal.
+#[derive(Drop)]
+pub(crate) enum Reply {
+    Done { text: Vec<u8>, seals: Vec<Seal> },
+    Refused { refusal: Refusal, text: Vec<u8> },
+}
+
+impl Reply {
+    pub(crate) fn text(&self) -> &[u8]
+        ensures { result.now ≡ reply_text self.now }
+    {
+        match self {
+            Reply::Done { text, .. } => text,
+            Reply::Refused { text, .. } => text,
+        }
+    }
+
+    pub(crate) fn status(&self) -> Status
+        ensures { result ≡ reply_status self.now }
+    {
+        match self {
+            Reply::Done { .. } => Status::Done,
+            Reply::Refused { refusal, .. } => Status::from(*refusal),
+        }
+    }
+
+    pub(crate) fn into_seals(self, alloc: Global) -> Vec<Seal>
+        ensures { result.items ≡ reply_seals self }
+    {
+        match self {
+            Reply::Done { seals, .. } => seals,
+            Reply::Refused { .. } => Vec::new(alloc),
+        }
+    }
+}
+
+/// The line of a refusal.
+pub(crate) fn refused(alloc: Global, refusal: Refusal) -> Result<Reply, Stop>
+    ensures { MatchResult result
+        (λ reply. (reply_text reply ≡ line_of refusal) × (reply_status reply ≡ status_of refusal) × (reply_seals reply ≡ []))
+        (λ stop. stop ≡ stops.Memory) }
+{
+    let text = refusal.line(alloc)?.into_bytes();
+    Ok(Reply::Refused { refusal, text })
+}
