@@ -18,5 +18,5 @@ mod writers;
 
 pub use cf_segments::{Closing, Sealing, Segments, TurnFault};
 pub use loader::Loader;
-pub use loads::{LoadFault, load};
+pub use loads::{BATCH, LoadFault, load};
 pub use plan::LivePlan;

@@ -16,7 +16,7 @@ use std::thread::Threads;
 use thiserror::Error;
 
 /// The most rows of a batch.
-const BATCH: usize = 4096;
+pub const BATCH: usize = 4096;
 
 /// Why rows weren't loaded.
 #[derive(Clone, Copy, Debug, PartialEq, Eq, Error)]

@@ -33,8 +33,9 @@ load_current-requires-clause-room g c κs within =
     (omega (arith, most, size, within_all)) in
     omega (arith, whole, room)
 
-pub returns-in_err-more-clause-batched : goal.returns-in_err-more-clause-batched
-returns-in_err-more-clause-batched g c before is =
+pub returns-in_err-more-clause-loaded : goal.returns-in_err-more-clause-loaded
+returns-in_err-more-clause-loaded g c = record {
+  batched = λ before is.
     let inside = c.self.inside in
     let s : SegmentsValue = c.args.segments.now in
     let u : SegmentsValue = c.make_ready.new.segments in
@@ -49,10 +50,13 @@ returns-in_err-more-clause-batched g c before is =
     let holds : HoldsRows u before = c.in_ok-make_ready.ensures.holds before (sym start) is.loaded in
     let same : c.from_residual-in_err-more.result ≡ Err c.in_err-more.field-0.0 = search rules in
     rw same (refused before rows s t c.in_err-more.field-0.0 room (goes_then s u t c.in_ok-make_ready.ensures.same c.in_err-more.ensures.same)
-    (c.in_err-more.ensures.loaded before long holds))
+    (c.in_err-more.ensures.loaded before long holds));
+  known = search rules;
+}
 
-pub returns-in_err-append-clause-batched : goal.returns-in_err-append-clause-batched
-returns-in_err-append-clause-batched g c before is =
+pub returns-in_err-append-clause-loaded : goal.returns-in_err-append-clause-loaded
+returns-in_err-append-clause-loaded g c = record {
+  batched = λ before is.
     let inside = c.self.inside in
     let s : SegmentsValue = c.args.segments.now in
     let u : SegmentsValue = c.make_ready.new.segments in
@@ -67,10 +71,13 @@ returns-in_err-append-clause-batched g c before is =
     let holds : HoldsRows u before = c.in_ok-make_ready.ensures.holds before (sym start) is.loaded in
     let same : c.from_residual-in_err-append.result ≡ Err Memory = search rules in
     rw same (refused before rows s t Memory room (goes_then s u t c.in_ok-make_ready.ensures.same c.in_ok-more.ensures.same)
-    (inr (c.in_ok-more.ensures.loaded before long holds)))
+    (inr (c.in_ok-more.ensures.loaded before long holds)));
+  known = search rules;
+}
 
-pub returns-clause-batched : goal.returns-clause-batched
-returns-clause-batched g c before is =
+pub returns-clause-loaded : goal.returns-clause-loaded
+returns-clause-loaded g c = record {
+  batched = λ before is.
     let inside = c.self.inside in
     let s : SegmentsValue = c.args.segments.now in
     let u : SegmentsValue = c.make_ready.new.segments in
@@ -105,7 +112,9 @@ returns-clause-batched g c before is =
     ap (λ (ls : List Live). record old { count = old.count + length rows; lives = ls; found = new.found }) items in
     subst (λ (l : LoaderValue). IsBatched before rows l new s t) c.self.view_is
     (goes_on before rows old new b s t more begun (made.loaded before long holds) (goes_then s u t first.same made.same)
-    (let base = made.base in let full = holds.full in omega (arith, base, full)) long c.requires.some c.requires.few room c.requires.fits beside told now made.known)
+    (let base = made.base in let full = holds.full in omega (arith, base, full)) long c.requires.some c.requires.few room c.requires.fits beside told now made.known);
+  known = search rules;
+}
 
-pub returns-then-self-rows-clause-known : goal.returns-then-self-rows-clause-known
-returns-then-self-rows-clause-known g c before is = is.known
+pub returns-then-self-rows-clause-loaded : goal.returns-then-self-rows-clause-loaded
+returns-then-self-rows-clause-loaded g c = record { batched = search rules; known = λ before is. is.known }
