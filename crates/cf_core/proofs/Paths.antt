@@ -1,7 +1,6 @@
 -- Paths of rows in lanes, and the words of tickets that are passed over.
 use Rattle.std.proofs.Common.{◌≡◌, ℕ, ◌+◌, ◌-◌, ◌<◌, ◌≤◌, zero, suc, List, [], ◌∷◌, ◌++◌, length, take, drop, get_or, cond, Bool, true, false, Option, Some, None, slice_get, ◌==◌, inl, inr, refl, arith, ap, ap₂, sym, ◌∙◌, subst}
 use Rattle.std.proofs.lemmas.Bool.{eq-eqb, ne_eqb}
-use Rattle.std.proofs.lemmas.Option.{get_or_from_slice_get}
 use Rattle.std.proofs.lemmas.List.{take_all, drop_more, drop_all}
 use Rattle.cf_row.specs.Row.{RowValue}
 use Rattle.cf_row.specs.Words.{word_count}
@@ -18,7 +17,6 @@ use Rattle.cf_law.specs.Steps.{IsNext}
 use Rattle.cf_law.specs.Shapes.{layout}
 use Rattle.cf_law.proofs.Paths.{path_none, none_path, skips_any}
 use Rattle.cf_law.proofs.Nibbles.{nibbles_more}
-use Rattle.cf_core.proofs.Children.{item_is}
 use Rattle.cf_core.specs.Worlds.{HasCell, IsPlainUse, IsCellUse, IsPassed, ArePassed, draft}
 
 -- the words before a lane's cell
@@ -45,10 +43,6 @@ cell_use s i l j e has = (has, ap (use_at s) e ∙ version_at s l j has.0 has.1)
 
 pub plain_use : (s : ShapeValue) (i : ℕ) → i < word_count s.schema + 1 → IsPlainUse s i
 plain_use s i lt = (lt, plain_at s i lt)
-
--- a lane that was read
-pub lane_is : (s : ShapeValue) (lanes : List Lane) (l : ℕ) (x : Lane) → lanes ≡ s.lanes → l < length lanes → x ≡ get_or lanes l x → lane_at s l ≡ x
-lane_is s lanes l x same lt is = get_or_from_slice_get s.lanes l x no_lane (item_is s.lanes lanes l x same lt is)
 
 -- words that are passed over
 pub plain_not_passed : (s : ShapeValue) (row : RowValue) (i : ℕ) → IsPlainUse s i → IsPassed s row i → ⊥

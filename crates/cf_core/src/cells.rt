@@ -3,7 +3,7 @@ ghost use Rattle.std.specs.Prelude.{◌≡◌, ◌+◌, ◌<◌, ◌≤◌, ◌=
 ghost use Rattle.cf_fold.specs.Quads.{quad_of, IsQuad};
 ghost use Rattle.cf_row.specs.Row.{Fits};
 ghost use Rattle.cf_row.specs.Words.{spelled, word_count as word_total_of};
-ghost use Rattle.cf_shape.specs.Uses.{ticket_words, use_at, cell_words as cell_words_of};
+ghost use Rattle.cf_shape.specs.Uses.{ticket_words, use_at};
 ghost use Rattle.cf_words.specs.Words.{spot as spot_of, has, same_path, link_to_newest};
 ghost use Rattle.cf_words.specs.Law.{IsWhole};
 ghost use Rattle.cf_law.specs.Nibbles.{nibbles};
@@ -14,27 +14,14 @@ ghost use Rattle.cf_core.specs.Worlds.{HasCell, IsPlainUse, IsCellUse, IsPassed,
 use cf_fold::{CellWords, Quad};
 use cf_pass::{OwnTicket, WriterBook};
 use cf_row::{Memory, Row, word_count, words_of};
-use cf_shape::{Lane, Shape, key, levels, measure, measures, selects};
+use cf_shape::{Shape, cell_size, key, levels, measure, measures, selects};
 use std::alloc::Global;
-
-// How many words the lane's cell has.
-fn cell_words(lane: &Lane) -> u8
-    ensures { result ≡ cell_words_of lane.now }
-{
-    match lane.measure {
-        Some(_) => 3,
-        None => 1,
-    }
-}
 
 // Whether the lane has that word of a cell.
 pub(crate) fn has_cell(shape: &Shape, lane: u8, index: u8) -> bool
     ensures { IsTrue result ↔ HasCell shape.now lane index }
 {
-    match shape.lanes().get(lane as usize) {
-        Some(lane) => index < cell_words(lane),
-        None => false,
-    }
+    usize::from(lane) < shape.lanes().len() && index < cell_size(shape, lane)
 }
 
 // The lane and the word of its cell that word `index` of a ticket is, where it is one.
@@ -49,7 +36,7 @@ fn cell_of(shape: &Shape, index: u32) -> Option<(u8, u8)>
     let mut left = index - plain;
     let lanes = shape.lanes();
     for lane in 0..lanes.len() {
-        let count = u32::from(cell_words(&lanes[lane]));
+        let count = u32::from(cell_size(shape, lane as u8));
         if left < count {
             return Some((lane as u8, left as u8));
         }

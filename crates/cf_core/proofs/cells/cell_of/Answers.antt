@@ -1,9 +1,9 @@
-use Rattle.std.proofs.Common.{◌≡◌, ◌<◌, length, arith, ap, sym, ◌∙◌}
+use Rattle.std.proofs.Common.{◌≡◌, ◌<◌, length, arith, ap, ◌∙◌}
 use Rattle.cf_row.specs.Words.{word_count}
 use Rattle.cf_shape.specs.Lanes.{lane_at}
 use Rattle.cf_shape.specs.Uses.{cell_words}
 use Rattle.cf_shape.specs.declared.lane.Lane.{Lane}
-use Rattle.cf_core.proofs.Paths.{cells_first, cells_next, cell_use, plain_use, lane_is}
+use Rattle.cf_core.proofs.Paths.{cells_first, cells_next, cell_use, plain_use}
 use Rattle.cf_core.proofs.cells.cell_of.Goals as goal
 
 pub returns-then-index-plain : goal.returns-then-index-plain
@@ -18,18 +18,12 @@ loop-lane-init c =
 
 pub returns-then-left-count : goal.returns-then-left-count
 returns-then-left-count c =
-    let lane = lane_is c.args.shape.now c.lanes-lanes.result.now c.loop-lane.lane c.index-lanes-lane.result c.lanes-lanes.ensures.lanes c.loop-lane-test.true
-    c.index-lanes-lane.is in
-    let words : c.from-count.result ≡ cell_words (lane_at c.args.shape.now c.loop-lane.lane) = c.from-count.ensures
-    ∙ (c.cell_words.ensures ∙ ap cell_words (sym lane)) in
+    let words : c.from-count.result ≡ cell_words (lane_at c.args.shape.now c.loop-lane.lane) = c.from-count.ensures ∙ c.cell_size.ensures in
     let low : c.loop-lane.lane < length c.args.shape.now.lanes = omega (arith, c.loop-lane-test.true, ap (length {A = Lane}) c.lanes-lanes.ensures.lanes) in
     cell_use c.args.shape.now c.args.index c.loop-lane.lane c.loop-lane.left c.loop-lane.invariant (low, omega (arith, c.if-left-count.true, words))
 
 pub loop-lane-preserved : goal.loop-lane-preserved
 loop-lane-preserved c =
-    let lane = lane_is c.args.shape.now c.lanes-lanes.result.now c.loop-lane.lane c.index-lanes-lane.result c.lanes-lanes.ensures.lanes c.loop-lane-test.true
-    c.index-lanes-lane.is in
-    let words : c.from-count.result ≡ cell_words (lane_at c.args.shape.now c.loop-lane.lane) = c.from-count.ensures
-    ∙ (c.cell_words.ensures ∙ ap cell_words (sym lane)) in
+    let words : c.from-count.result ≡ cell_words (lane_at c.args.shape.now c.loop-lane.lane) = c.from-count.ensures ∙ c.cell_size.ensures in
     let low : c.loop-lane.lane < length c.args.shape.now.lanes = omega (arith, c.loop-lane-test.true, ap (length {A = Lane}) c.lanes-lanes.ensures.lanes) in
     omega (arith, c.loop-lane.invariant, c.if-left-count.false, words, cells_next c.args.shape.now c.loop-lane.lane low)
