@@ -1,5 +1,5 @@
 -- A loader: what it has loaded so far, and what each of its calls answers.
-use Rattle.std.specs.Prelude.{◌≡◌, ◌⊎◌, ◌<◌, ◌≤◌, ◌+◌, ◌*◌, ◌%◌, ℕ, Bool, false, List, [], ◌++◌, length, map, All, Result, MatchResult}
+use Rattle.std.specs.Prelude.{◌≡◌, ◌⊎◌, ◌<◌, ◌≤◌, ◌+◌, ◌*◌, ℕ, Bool, false, List, [], ◌++◌, length, map, All}
 use Rattle.cf_row.specs.Row.{RowValue, Fits}
 use Rattle.cf_shape.specs.Nodes.{distinct}
 use Rattle.cf_plain.specs.Answered.{LoadedValue, answer_on}
@@ -63,20 +63,6 @@ abbrev pub IsRefused : List RowValue → List RowValue → SegmentsValue → Seg
 IsRefused before rows s t Full = (room_of s < length before + length rows) × (t ≡ s)
 IsRefused before rows s t (NodesFull writer) = (length before + length rows ≤ room_of s) × SegmentsGoOn s t × LacksNodes t (before ++ rows) writer
 IsRefused before rows s t Memory = (length before + length rows ≤ room_of s) × SegmentsGoOn s t × (HoldsRows t before ⊎ HoldsRows t (before ++ rows))
-
--- A batch may be loaded: whole batches are loaded before it, it has 1 to 4,096 rows, and they fit.
-pub record IsLawfulBatch (s : SegmentsValue) (rows : List RowValue) (loader : LoaderValue) : Type 0 where
-  pub loading : (before : List RowValue) × IsLoading s before loader
-  pub whole : loader.count % 4096 ≡ 0
-  pub some : 0 < length rows
-  pub few : length rows ≤ 4096
-  pub fits : All (Fits (s.shape).schema) rows
-
--- What a call that loads a batch comes to: the batch is loaded, or refused with that fault, and in both cases the loader knows what the
--- live questions found in the segments that are closed now.
-pub record HasLoadedBatch (rows : List RowValue) (old new : LoaderValue) (s t : SegmentsValue) (answer : Result (Unit {0}) LoadFault) : Type 0 where
-  pub batched : (before : List RowValue) → IsLoading s before old → MatchResult answer (λ _. IsBatched before rows old new s t) (IsRefused before rows s t)
-  pub known : (before : List RowValue) → IsLoading s before old → KnowsBefore t new.plan new.found
 
 -- The answers at the end: the final ones and the marks on all entries, which stay as they are, and the live ones that came before.
 pub record IsFinished (rows : List RowValue) (loader : LoaderValue) (before after : SegmentsValue) (answered : LoadedValue) : Type 0 where

@@ -1,9 +1,10 @@
 // A log is loaded batch by batch, as its rows come.
-ghost use Rattle.std.specs.Prelude.{◌≡◌, List, [], IfOk, MatchResult, OnErr, true};
-ghost use Rattle.cf_row.specs.Row.{RowValue};
-ghost use Rattle.cf_segments.specs.Segments.{HoldsRows, KeepsAll};
-ghost use Rattle.cf_load.specs.Loaders.{IsFresh, IsLoading, IsLawfulBatch, HasLoadedBatch, IsFinished};
+ghost use Rattle.std.specs.Prelude.{◌≡◌, ◌+◌, ◌<◌, ◌≤◌, ◌%◌, List, [], All, length, IfOk, MatchResult, OnErr, true};
+ghost use Rattle.cf_row.specs.Row.{Fits, RowValue};
+ghost use Rattle.cf_segments.specs.Segments.{SegmentsValue, HoldsRows, KeepsAll};
+ghost use Rattle.cf_load.specs.Loaders.{IsFresh, IsLoading, IsBatched, IsRefused, IsFinished};
 ghost use Rattle.cf_load.specs.Planned.{IsPlan};
+ghost use Rattle.cf_load.specs.Priors.{KnowsBefore};
 
 use crate::finals::answers_on_all;
 use crate::prior::FoundBefore;
@@ -65,9 +66,15 @@ impl Loader {
         rows: &[Row],
         gate: &G,
     ) -> Result<(), LoadFault>
-        requires { IsLawfulBatch segments.old rows.now self.old }
-        ensures loaded { HasLoadedBatch rows.now self.old self.new segments.old segments.new result }
+        requires loading { (before : List RowValue) × IsLoading segments.old before self.old }
+        requires whole { self.old.count % 4096 ≡ 0 }
+        requires some { 0 < length rows.now }
+        requires few { length rows.now ≤ 4096 }
+        requires fits { All (Fits segments.old.shape.schema) rows.now }
+        ensures batched { (before : List RowValue) → IsLoading segments.old before self.old
+            → MatchResult result (λ _. IsBatched before rows.now self.old self.new segments.old segments.new) (IsRefused before rows.now segments.old segments.new) }
         ensures stopped { OnErr result (self.new ≡ record self.old { found = self.new.found }) }
+        ensures known { (before : List RowValue) → IsLoading segments.old before self.old → KnowsBefore segments.new self.new.plan self.new.found }
     {
         if self.count as usize + rows.len() > segments.room() as usize {
             return Err(LoadFault::Full);
@@ -100,9 +107,15 @@ impl Loader {
         rows: &[Row],
         gate: &G,
     ) -> Result<(), LoadFault>
-        requires { IsLawfulBatch segments.old rows.now self.old }
-        ensures loaded { HasLoadedBatch rows.now self.old self.new segments.old segments.new result }
+        requires loading { (before : List RowValue) × IsLoading segments.old before self.old }
+        requires whole { self.old.count % 4096 ≡ 0 }
+        requires some { 0 < length rows.now }
+        requires few { length rows.now ≤ 4096 }
+        requires fits { All (Fits segments.old.shape.schema) rows.now }
+        ensures batched { (before : List RowValue) → IsLoading segments.old before self.old
+            → MatchResult result (λ _. IsBatched before rows.now self.old self.new segments.old segments.new) (IsRefused before rows.now segments.old segments.new) }
         ensures stopped { OnErr result (self.new ≡ record self.old { stopped = true; found = self.new.found }) }
+        ensures known { (before : List RowValue) → IsLoading segments.old before self.old → KnowsBefore segments.new self.new.plan self.new.found }
     {
         let answer = self.append(rt, alloc, segments, rows, gate);
         self.stopped = answer.is_err();

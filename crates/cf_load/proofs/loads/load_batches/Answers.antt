@@ -24,7 +24,7 @@ returns-in_err-batch-clause-stopped g c =
     let most = same_room c.args.segments.now s c.loop-number.invariant.same in
     let few : length rows ≤ room_of s = (let few = c.requires.few in omega (arith, most, few)) in
     rw same (some_of rows (take (4096 * b) rows) part s t (4096 * b) (4096 * (b + 1)) c.in_err-batch.field-0.0 refl both few
-    (c.in_err-batch.ensures.loaded.batched (take (4096 * b) rows) c.loop-number.invariant.loading))
+    (c.in_err-batch.ensures.batched (take (4096 * b) rows) c.loop-number.invariant.loading))
 
 pub loop-number-preserved : goal.loop-number-preserved
 loop-number-preserved g c =
@@ -39,7 +39,7 @@ loop-number-preserved g c =
     let many = c.div_ceil-batches.ensures in
     let low : 4096 * b < length rows = omega (arith, lt, many) in
     let both = more_of rows part b (part_is rows (4096 * b) c.min-to.result (omega (arith, low)) c.min-to.ensures) in
-    let d : IsBatched (take (4096 * b) rows) part c.loop-number.loader new s t = c.in_ok-batch.ensures.loaded.batched (take (4096 * b) rows) v.loading in record {
+    let d : IsBatched (take (4096 * b) rows) part c.loop-number.loader new s t = c.in_ok-batch.ensures.batched (take (4096 * b) rows) v.loading in record {
       same = goes_then c.args.segments.now s t v.same d.same;
       loading = subst (λ (rs : List RowValue). IsLoading t rs new) both d.loading;
       plan = ap (λ (l : LoaderValue). l.plan) d.loader ∙ v.plan;
@@ -59,4 +59,4 @@ pub returns-in_err-batch-clause-same : goal.returns-in_err-batch-clause-same
 returns-in_err-batch-clause-same g c =
     goes_then c.args.segments.now c.loop-number.segments c.batch.new.segments c.loop-number.invariant.same
     (refused_goes (take (4096 * c.loop-number.number) c.args.rows.now) _ c.loop-number.segments c.batch.new.segments c.in_err-batch.field-0.0
-    (c.in_err-batch.ensures.loaded.batched (take (4096 * c.loop-number.number) c.args.rows.now) c.loop-number.invariant.loading))
+    (c.in_err-batch.ensures.batched (take (4096 * c.loop-number.number) c.args.rows.now) c.loop-number.invariant.loading))

@@ -33,88 +33,79 @@ load_current-requires-clause-room g c κs within =
     (omega (arith, most, size, within_all)) in
     omega (arith, whole, room)
 
-pub returns-in_err-more-clause-loaded : goal.returns-in_err-more-clause-loaded
-returns-in_err-more-clause-loaded g c = record {
-  batched = λ before is.
-      let inside = c.self.inside in
-      let s : SegmentsValue = c.args.segments.now in
-      let u : SegmentsValue = c.make_ready.new.segments in
-      let t : SegmentsValue = c.load_current.new.segments in
-      let rows = c.args.rows.now in
-      let start : inside.count ≡ length before = ap (λ (l : LoaderValue). l.count) c.self.view_is ∙ is.count in
-      let whole : inside.count % 4096 ≡ 0 = subst (λ (l : LoaderValue). l.count % 4096 ≡ 0) (sym c.self.view_is) c.requires.whole in
-      let long : length before ≡ 4096 * (inside.count / 4096) = omega (arith, whole, start) in
-      let size = c.room.ensures in
-      let within = c.if-self-rows.false in
-      let room : length before + length rows ≤ room_of s = omega (arith, size, within, start) in
-      let holds : HoldsRows u before = c.in_ok-make_ready.ensures.holds before (sym start) is.loaded in
-      let same : c.from_residual-in_err-more.result ≡ Err c.in_err-more.field-0.0 = search rules in
-      rw same (refused before rows s t c.in_err-more.field-0.0 room (goes_then s u t c.in_ok-make_ready.ensures.same c.in_err-more.ensures.same)
-      (c.in_err-more.ensures.loaded before long holds));
-  known = search rules;
-}
+pub returns-in_err-more-clause-batched : goal.returns-in_err-more-clause-batched
+returns-in_err-more-clause-batched g c before is =
+    let inside = c.self.inside in
+    let s : SegmentsValue = c.args.segments.now in
+    let u : SegmentsValue = c.make_ready.new.segments in
+    let t : SegmentsValue = c.load_current.new.segments in
+    let rows = c.args.rows.now in
+    let start : inside.count ≡ length before = ap (λ (l : LoaderValue). l.count) c.self.view_is ∙ is.count in
+    let whole : inside.count % 4096 ≡ 0 = subst (λ (l : LoaderValue). l.count % 4096 ≡ 0) (sym c.self.view_is) c.requires.whole in
+    let long : length before ≡ 4096 * (inside.count / 4096) = omega (arith, whole, start) in
+    let size = c.room.ensures in
+    let within = c.if-self-rows.false in
+    let room : length before + length rows ≤ room_of s = omega (arith, size, within, start) in
+    let holds : HoldsRows u before = c.in_ok-make_ready.ensures.holds before (sym start) is.loaded in
+    let same : c.from_residual-in_err-more.result ≡ Err c.in_err-more.field-0.0 = search rules in
+    rw same (refused before rows s t c.in_err-more.field-0.0 room (goes_then s u t c.in_ok-make_ready.ensures.same c.in_err-more.ensures.same)
+    (c.in_err-more.ensures.loaded before long holds))
 
-pub returns-in_err-append-clause-loaded : goal.returns-in_err-append-clause-loaded
-returns-in_err-append-clause-loaded g c = record {
-  batched = λ before is.
-      let inside = c.self.inside in
-      let s : SegmentsValue = c.args.segments.now in
-      let u : SegmentsValue = c.make_ready.new.segments in
-      let t : SegmentsValue = c.load_current.new.segments in
-      let rows = c.args.rows.now in
-      let start : inside.count ≡ length before = ap (λ (l : LoaderValue). l.count) c.self.view_is ∙ is.count in
-      let whole : inside.count % 4096 ≡ 0 = subst (λ (l : LoaderValue). l.count % 4096 ≡ 0) (sym c.self.view_is) c.requires.whole in
-      let long : length before ≡ 4096 * (inside.count / 4096) = omega (arith, whole, start) in
-      let size = c.room.ensures in
-      let within = c.if-self-rows.false in
-      let room : length before + length rows ≤ room_of s = omega (arith, size, within, start) in
-      let holds : HoldsRows u before = c.in_ok-make_ready.ensures.holds before (sym start) is.loaded in
-      let same : c.from_residual-in_err-append.result ≡ Err Memory = search rules in
-      rw same (refused before rows s t Memory room (goes_then s u t c.in_ok-make_ready.ensures.same c.in_ok-more.ensures.same)
-      (inr (c.in_ok-more.ensures.loaded before long holds)));
-  known = search rules;
-}
+pub returns-in_err-append-clause-batched : goal.returns-in_err-append-clause-batched
+returns-in_err-append-clause-batched g c before is =
+    let inside = c.self.inside in
+    let s : SegmentsValue = c.args.segments.now in
+    let u : SegmentsValue = c.make_ready.new.segments in
+    let t : SegmentsValue = c.load_current.new.segments in
+    let rows = c.args.rows.now in
+    let start : inside.count ≡ length before = ap (λ (l : LoaderValue). l.count) c.self.view_is ∙ is.count in
+    let whole : inside.count % 4096 ≡ 0 = subst (λ (l : LoaderValue). l.count % 4096 ≡ 0) (sym c.self.view_is) c.requires.whole in
+    let long : length before ≡ 4096 * (inside.count / 4096) = omega (arith, whole, start) in
+    let size = c.room.ensures in
+    let within = c.if-self-rows.false in
+    let room : length before + length rows ≤ room_of s = omega (arith, size, within, start) in
+    let holds : HoldsRows u before = c.in_ok-make_ready.ensures.holds before (sym start) is.loaded in
+    let same : c.from_residual-in_err-append.result ≡ Err Memory = search rules in
+    rw same (refused before rows s t Memory room (goes_then s u t c.in_ok-make_ready.ensures.same c.in_ok-more.ensures.same)
+    (inr (c.in_ok-more.ensures.loaded before long holds)))
 
-pub returns-clause-loaded : goal.returns-clause-loaded
-returns-clause-loaded g c = record {
-  batched = λ before is.
-      let inside = c.self.inside in
-      let s : SegmentsValue = c.args.segments.now in
-      let u : SegmentsValue = c.make_ready.new.segments in
-      let t : SegmentsValue = c.load_current.new.segments in
-      let rows = c.args.rows.now in
-      let more = c.in_ok-more.more.items in
-      let b = inside.count / 4096 in
-      let old : LoaderValue = record { plan = inside.plan; count = inside.count; lives = inside.lives.items; stopped = inside.stopped; found = inside.found } in
-      let new : LoaderValue = record {
-        plan = inside.plan;
-        count = inside.count + length rows;
-        lives = c.append.new.self.items;
-        stopped = inside.stopped;
-        found = c.make_ready.new.found;
-      } in
-      let begun : IsLoading s before old = subst (λ (l : LoaderValue). IsLoading s before l) (sym c.self.view_is) is in
-      let whole : inside.count % 4096 ≡ 0 = subst (λ (l : LoaderValue). l.count % 4096 ≡ 0) (sym c.self.view_is) c.requires.whole in
-      let start : inside.count ≡ length before = begun.count in
-      let long : length before ≡ 4096 * b = omega (arith, whole, start) in
-      let size = c.room.ensures in
-      let within = c.if-self-rows.false in
-      let room : length before + length rows ≤ room_of s = omega (arith, size, within, start) in
-      let first = c.in_ok-make_ready.ensures in
-      let made = c.in_ok-more.ensures in
-      let holds : HoldsRows u before = first.holds before (sym start) begun.loaded in
-      let beside : AsksBeside s.shape old.plan b (entries_of s) (entries_of t) more =
-      subst (λ (h : ShapeValue). AsksBeside h old.plan b (entries_of s) (entries_of t) more) first.same.shape
-      (subst (λ (es : List Entry). AsksBeside u.shape old.plan b es (entries_of t) more) first.entries made.asked) in
-      let told : told_of t ≡ told_of s ++ tails_of more = made.told ∙ ap (λ (ts : List ℕ). ts ++ tails_of more) first.told in
-      let items : c.append.new.self.items ≡ inside.lives.items ++ more = search rules in
-      let now : new ≡ record old { count = old.count + length rows; lives = old.lives ++ more; found = new.found } =
-      ap (λ (ls : List Live). record old { count = old.count + length rows; lives = ls; found = new.found }) items in
-      subst (λ (l : LoaderValue). IsBatched before rows l new s t) c.self.view_is
-      (goes_on before rows old new b s t more begun (made.loaded before long holds) (goes_then s u t first.same made.same)
-      (let base = made.base in let full = holds.full in omega (arith, base, full)) long c.requires.some c.requires.few room c.requires.fits beside told now made.known);
-  known = search rules;
-}
+pub returns-clause-batched : goal.returns-clause-batched
+returns-clause-batched g c before is =
+    let inside = c.self.inside in
+    let s : SegmentsValue = c.args.segments.now in
+    let u : SegmentsValue = c.make_ready.new.segments in
+    let t : SegmentsValue = c.load_current.new.segments in
+    let rows = c.args.rows.now in
+    let more = c.in_ok-more.more.items in
+    let b = inside.count / 4096 in
+    let old : LoaderValue = record { plan = inside.plan; count = inside.count; lives = inside.lives.items; stopped = inside.stopped; found = inside.found } in
+    let new : LoaderValue = record {
+      plan = inside.plan;
+      count = inside.count + length rows;
+      lives = c.append.new.self.items;
+      stopped = inside.stopped;
+      found = c.make_ready.new.found;
+    } in
+    let begun : IsLoading s before old = subst (λ (l : LoaderValue). IsLoading s before l) (sym c.self.view_is) is in
+    let whole : inside.count % 4096 ≡ 0 = subst (λ (l : LoaderValue). l.count % 4096 ≡ 0) (sym c.self.view_is) c.requires.whole in
+    let start : inside.count ≡ length before = begun.count in
+    let long : length before ≡ 4096 * b = omega (arith, whole, start) in
+    let size = c.room.ensures in
+    let within = c.if-self-rows.false in
+    let room : length before + length rows ≤ room_of s = omega (arith, size, within, start) in
+    let first = c.in_ok-make_ready.ensures in
+    let made = c.in_ok-more.ensures in
+    let holds : HoldsRows u before = first.holds before (sym start) begun.loaded in
+    let beside : AsksBeside s.shape old.plan b (entries_of s) (entries_of t) more =
+    subst (λ (h : ShapeValue). AsksBeside h old.plan b (entries_of s) (entries_of t) more) first.same.shape
+    (subst (λ (es : List Entry). AsksBeside u.shape old.plan b es (entries_of t) more) first.entries made.asked) in
+    let told : told_of t ≡ told_of s ++ tails_of more = made.told ∙ ap (λ (ts : List ℕ). ts ++ tails_of more) first.told in
+    let items : c.append.new.self.items ≡ inside.lives.items ++ more = search rules in
+    let now : new ≡ record old { count = old.count + length rows; lives = old.lives ++ more; found = new.found } =
+    ap (λ (ls : List Live). record old { count = old.count + length rows; lives = ls; found = new.found }) items in
+    subst (λ (l : LoaderValue). IsBatched before rows l new s t) c.self.view_is
+    (goes_on before rows old new b s t more begun (made.loaded before long holds) (goes_then s u t first.same made.same)
+    (let base = made.base in let full = holds.full in omega (arith, base, full)) long c.requires.some c.requires.few room c.requires.fits beside told now made.known)
 
-pub returns-then-self-rows-clause-loaded : goal.returns-then-self-rows-clause-loaded
-returns-then-self-rows-clause-loaded g c = record { batched = search rules; known = λ before is. is.known }
+pub returns-then-self-rows-clause-known : goal.returns-then-self-rows-clause-known
+returns-then-self-rows-clause-known g c before is = is.known
