@@ -144,7 +144,8 @@ all_after (f ∷ fs) (g ∷ gs) (r ∷ rs) keeps reads = (
   all_after fs gs rs keeps.1 reads.1,
 )
 
-pub questions_after : (s t : SegmentsValue) (asks : List Ask) (qs : List Question) → KeepsAll s t → AllZip (IsQuestion s) asks qs → AllZip (IsQuestion t) asks qs
+pub questions_after : (s t : SegmentsValue) (asks : List Ask) (qs : List Question) → KeepsAll s t → AllZip (IsQuestion s) asks qs
+    → AllZip (IsQuestion t) asks qs
 questions_after s t [] [] keeps are = are
 questions_after s t [] (q ∷ qs) keeps are = absurd are
 questions_after s t (a ∷ asks) [] keeps are = absurd are

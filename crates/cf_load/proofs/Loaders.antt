@@ -56,7 +56,8 @@ pub entries_long : (s : SegmentsValue) (rows : List RowValue) → HoldsRows s ro
 entries_long s rows holds = (rows_are_log s rows holds).0.size
 
 -- before the first batch
-pub starts : (s : SegmentsValue) (plan : LivePlan) (loader : LoaderValue) → IsPlan s.shape plan → IsFresh plan loader → HoldsRows s [] → KnowsBefore s loader.plan loader.found
+pub starts : (s : SegmentsValue) (plan : LivePlan) (loader : LoaderValue) → IsPlan s.shape plan → IsFresh plan loader → HoldsRows s []
+    → KnowsBefore s loader.plan loader.found
     → IsLoading s [] loader
 starts s plan loader suits fresh has known = record {
   plan = same_suits s.shape plan loader.plan fresh.plan_is suits;

@@ -51,7 +51,8 @@ turned_room t u count turned room full =
     let shape : (u.shape).capacity ≡ n = ap (λ (v : SegmentsValue). (v.shape).capacity) turned.same in
     let base : base_of u ≡ n * length (t.closed ++ t.current ∷ []) = ap base_of turned.same in
     let many : n * length (t.closed ++ t.current ∷ []) ≡ n * suc (length t.closed) =
-    ap (λ (k : ℕ). n * k) (let e = length-append t.closed (t.current ∷ []) in let f : length (t.closed ++ t.current ∷ []) ≡ suc (length t.closed) = omega (arith, e) in f) in
+    ap (λ (k : ℕ). n * k)
+    (let e = length-append t.closed (t.current ∷ []) in let f : length (t.closed ++ t.current ∷ []) ≡ suc (length t.closed) = omega (arith, e) in f) in
     let step = mul-suc n (length t.closed) in
     let some : 0 < n = elim (cases_lt 0 n) [
       | inl lt ↦ lt

@@ -7,7 +7,7 @@ ghost use Rattle.cf_run.specs.Filling.{AreLoaded, Fills, HasBatch, HasRows, IsFi
 ghost use Rattle.cf_run.specs.Logs.{IsLogSealed, IsUnmade};
 
 use crate::log::Unmade;
-use cf_load::{LivePlan, LoadFault, Loader, Sealing, Segments};
+use cf_load::{BATCH, LivePlan, LoadFault, Loader, Sealing, Segments};
 use cf_outside::Gate;
 use cf_plain::Loaded;
 use cf_row::{Memory, Row};
@@ -16,9 +16,6 @@ use std::alloc::{AllocError, Global};
 use std::marker::Model;
 use std::mem;
 use std::thread::Threads;
-
-/// The rows of a batch.
-const BATCH: usize = 4096;
 
 /// A log that rows fill batch by batch, as they come. The rows of the next batch wait, and no other row is kept beside the log. None
 /// waits once no more is loaded, because there are more than the log may hold or a writer has no node left.

@@ -78,7 +78,8 @@ home g c before long had none =
     (λ (o : Option ℕ). AllZip
     (Wrote (is_none o) c.args.log.now (base + length before) c.args.rows.now) c.in-Ok.passes.items c.run_beside-out.new.passes) none
     (written g c (base + length before) long) in
-    batch_home c.args.log.now base before c.args.rows.now (c.args.beside.now.batch - base / 4096) c.args.root.now c.deal.new.root c.gather.new.root c.fold_back.new.root
+    batch_home c.args.log.now base before c.args.rows.now
+    (c.args.beside.now.batch - base / 4096) c.args.root.now c.deal.new.root c.gather.new.root c.fold_back.new.root
     (c.run_beside-out.new.reader).view c.in-Ok.passes.items c.run_beside-out.new.passes c.shape.ensures.lawful had (own_batches g c before long)
     c.requires.few (room g c before long) c.in-Ok.ensures.dealt wrote
     (gathered g c) c.fold_back.ensures.folded c.fold_back.ensures.books c.fold_back.ensures.stays
@@ -92,7 +93,8 @@ lacking g c before long had w is =
     let out = subst (λ (o : Option ℕ). IfSome o (λ v. RanOut log (base + length before) c.args.rows.now v c.in-Ok.passes.items c.run_beside-out.new.passes)) is
     (ran g c (base + length before) long) in
     out_home log base (before ++ c.args.rows.now) w c.gather.new.root c.fold_back.new.root (c.run_beside-out.new.reader).view
-    (batch_out (is_none c.run_beside-out.result.0) log base before c.args.rows.now w c.args.root.now c.deal.new.root c.gather.new.root c.in-Ok.passes.items c.run_beside-out.new.passes c.shape.ensures.lawful had (room g c before long)
+    (batch_out (is_none c.run_beside-out.result.0) log base before c.args.rows.now w c.args.root.now c.deal.new.root c.gather.new.root c.in-Ok.passes.items
+    c.run_beside-out.new.passes c.shape.ensures.lawful had (room g c before long)
     c.in-Ok.ensures.dealt (written g c (base + length before) long) out (gathered g c))
     c.fold_back.ensures.folded c.fold_back.ensures.books c.fold_back.ensures.stays
 
@@ -117,7 +119,8 @@ returns-clause-told g c =
     ∙ ap (λ (p : Pass). map (λ tail. base + tail) p.tails ++ tails_of more.items) c.fork-reader.ensures.view in
     ap (map (λ (tail : ℕ). base + tail))
     (batch_told (is_none c.run_beside-out.result.0) log
-    (4096 * c.args.beside.now.batch) _ c.args.root.now c.deal.new.root c.gather.new.root c.fold_back.new.root q c.in-Ok.passes.items c.run_beside-out.new.passes c.in-Ok.ensures.dealt (written g c (4096 * c.args.beside.now.batch) refl) (gathered g c) c.fold_back.ensures.folded none)
+    (4096 * c.args.beside.now.batch) _ c.args.root.now c.deal.new.root c.gather.new.root c.fold_back.new.root q c.in-Ok.passes.items
+    c.run_beside-out.new.passes c.in-Ok.ensures.dealt (written g c (4096 * c.args.beside.now.batch) refl) (gathered g c) c.fold_back.ensures.folded none)
     ∙ (map-append (λ (tail : ℕ). base + tail) told q.tails ∙ ap (λ ts. map (λ tail. base + tail) told ++ ts) tails)) c.run_beside-out.ensures.asked))
 
 pub returns-clause-asked : goal.returns-clause-asked

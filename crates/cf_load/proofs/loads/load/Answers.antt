@@ -33,4 +33,5 @@ returns g c =
     let made = c.in_ok-load_batches.ensures in
     let same : IsSamePlan c.args.plan.now (c.load_batches.new.loader).plan =
     subst (IsSamePlan c.args.plan.now) (sym made.plan) c.in_ok-loader.ensures.fresh.plan_is in
-    loads rows c.args.plan.now c.load_batches.new.loader c.args.segments.now c.load_batches.new.segments c.finish.new.segments c.in_ok-finish.field-0 same made.loading made.same made.told (c.in_ok-finish.ensures rows made.loading)
+    loads rows c.args.plan.now c.load_batches.new.loader c.args.segments.now c.load_batches.new.segments c.finish.new.segments c.in_ok-finish.field-0 same
+    made.loading made.same made.told (c.in_ok-finish.ensures rows made.loading)

@@ -42,5 +42,6 @@ returns-clause-steps g c one =
     let shape = c.args.log.now.shape in
     let ask = c.args.ask.now in
     let seen : List Entry = ((g.P.Pass.held c.args.pass.now).view).seen in
-    subst (λ (n : ℕ). c.finding_seen.new.steps + 1 ≤ c.args.steps.now + n) (key_cost shape ask seen c.in_ok-more.more (length seen) c.in_ok-more.ensures.found refl)
+    subst (λ (n : ℕ). c.finding_seen.new.steps + 1 ≤ c.args.steps.now + n)
+    (key_cost shape ask seen c.in_ok-more.more (length seen) c.in_ok-more.ensures.found refl)
     (c.in_ok-more.ensures.steps one)

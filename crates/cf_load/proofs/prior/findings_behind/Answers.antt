@@ -57,7 +57,9 @@ loop-turn-preserved g c =
       reader = reader_walked c.args.log.now m n v.reader c.find_behind.ensures.walked;
       keeps = keeps_then c.args.root.now m n v.keeps (keeps_walked m n c.find_behind.ensures.walked);
       found = made_more
-          (λ (k : ℕ). finding_in shape (get_or plan.asks.items k no_ask) (rows_in all)) plan.lives.items c.loop-turn.findings.items c.push.new.self.items i 0 c.in_ok-found.found v.found there one c.in_ok-push.ensures.items;
+          (λ (k : ℕ). finding_in shape (get_or plan.asks.items k no_ask)
+          (rows_in all)) plan.lives.items c.loop-turn.findings.items c.push.new.self.items i 0 c.in_ok-found.found v.found there one
+          c.in_ok-push.ensures.items;
     }
 
 pub returns-then-makes_no_round-clause-keeps : goal.returns-then-makes_no_round-clause-keeps

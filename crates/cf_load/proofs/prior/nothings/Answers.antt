@@ -14,7 +14,8 @@ loop-place-preserved c =
     let i = c.loop-place.place-index in
     let there : i < length plan.lives.items = search rules in
     let asked : c.index-question.result.now ≡ get_or plan.asks.items (get_or plan.lives.items i 0) no_ask =
-    ask_found plan.asks.items c.deref-place-items.result.now plan.lives.items i c.index-question.result.now c.requires.plan.lives c.deref-place-items.ensures.value there c.index-question.ensures in
+    ask_found plan.asks.items c.deref-place-items.result.now plan.lives.items i c.index-question.result.now c.requires.plan.lives
+    c.deref-place-items.ensures.value there c.index-question.ensures in
     record {
       found = made_more
           (λ (k : ℕ). finding_in shape (get_or plan.asks.items k no_ask)

@@ -51,14 +51,17 @@ kept : (g : Over) (c : goal.After-load_batch g) → KeepsAll c.args.segments.now
 kept g c = subst (KeepsAll c.args.segments.now) (sym c.segments.view_is) (all_none c.args.segments.now)
 
 -- what the batch answered
-answered : (g : Over) (c : goal.After-load_batch g) (rows : List RowValue) → length rows ≡ 4096 * c.args.beside.now.batch → (holds : HoldsRows c.args.segments.now rows)
+answered : (g : Over) (c : goal.After-load_batch g) (rows : List RowValue) → length rows ≡ 4096 * c.args.beside.now.batch
+    → (holds : HoldsRows c.args.segments.now rows)
     → MatchResult c.load_batch.result
     (λ x. HasLoaded c.segments.inside.current.log (base_of (before_batch g c))
     (own_rows (before_batch g c) rows
-    (still c.args.segments.now (before_batch g c) (kept g c) rows holds c.args.beside.now.prior.now.base c.requires.prior.base) ++ c.args.rows.now) c.load_batch.new.root)
+    (still c.args.segments.now (before_batch g c)
+    (kept g c) rows holds c.args.beside.now.prior.now.base c.requires.prior.base) ++ c.args.rows.now) c.load_batch.new.root)
     (HasStopped c.segments.inside.current.log (base_of (before_batch g c))
     (own_rows (before_batch g c) rows
-    (still c.args.segments.now (before_batch g c) (kept g c) rows holds c.args.beside.now.prior.now.base c.requires.prior.base)) c.args.rows.now c.load_batch.new.root)
+    (still c.args.segments.now (before_batch g c)
+    (kept g c) rows holds c.args.beside.now.prior.now.base c.requires.prior.base)) c.args.rows.now c.load_batch.new.root)
 answered g c rows long holds =
     let old : SegmentsValue = c.args.segments.now in
     let s : SegmentsValue = before_batch g c in

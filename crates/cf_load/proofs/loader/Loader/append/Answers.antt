@@ -105,7 +105,8 @@ returns-clause-batched g c before is =
     ap (λ (ls : List Live). record old { count = old.count + length rows; lives = ls; found = new.found }) items in
     subst (λ (l : LoaderValue). IsBatched before rows l new s t) c.self.view_is
     (goes_on before rows old new b s t more begun (made.loaded before long holds) (goes_then s u t first.same made.same)
-    (let base = made.base in let full = holds.full in omega (arith, base, full)) long c.requires.some c.requires.few room c.requires.fits beside told now made.known)
+    (let base = made.base in let full = holds.full in
+    omega (arith, base, full)) long c.requires.some c.requires.few room c.requires.fits beside told now made.known)
 
 pub returns-then-self-rows-clause-known : goal.returns-then-self-rows-clause-known
 returns-then-self-rows-clause-known g c before is = is.known
