@@ -4,9 +4,9 @@ use Rattle.cf_row.specs.declared.schema.Attr.{Attr}
 use Rattle.cf_row.specs.declared.expr.Atom.{Atom}
 use Rattle.cf_filter.specs.declared.fault.Stop.{Stop}
 use Rattle.cf_filter.specs.declared.fault.Offence.TheVariants.{TooLong}
-use Rattle.cf_filter.specs.declared.atom.Link.{Link}
-use Rattle.cf_filter.specs.declared.atom.Link.TheVariants.{End, And, Or}
-use Rattle.cf_filter.specs.Reading.{seen_by, atom_at, link_at, stop_at}
+use Rattle.cf_filter.specs.declared.atom.Joint.{Joint}
+use Rattle.cf_filter.specs.declared.atom.Joint.TheVariants.{End, And, Or}
+use Rattle.cf_filter.specs.Reading.{seen_by, atom_at, joint_at, stop_at}
 use Rattle.cf_filter.specs.Exprs.{with_atom, conjunctions_at, joined_by}
 use Rattle.cf_filter.specs.Tokens.{unspaced}
 
@@ -22,8 +22,8 @@ read_on closed open_atoms attrs n text = seen_by (preceded closed open_atoms) (c
 abbrev pub pair : Atom → List ℕ → Atom × List ℕ
 pair atom rest = (atom, rest)
 
-abbrev pub linked : Link → List ℕ → Link × List ℕ
-linked link rest = (link, rest)
+abbrev pub joint_and_rest : Joint → List ℕ → Joint × List ℕ
+joint_and_rest joint rest = (joint, rest)
 
 preceded_start : (xs : List (List Atom)) → preceded [] [] xs ≡ xs
 preceded_start xs = refl
@@ -54,25 +54,25 @@ joined_or closed open_atoms atom (Ok xs) = ap Ok (preceded_or closed open_atoms 
 joined_or closed open_atoms atom (Err e) = refl
 
 -- one step at a text with at least one atom allowed
-step_by : (attrs : List Attr) (m n : ℕ) (text rest after : List ℕ) (atom : Atom) (link : Link) → m ≡ suc n → atom_at attrs text ≡ Ok (pair atom rest)
-    → link_at rest ≡ Ok (linked link after) → conjunctions_at attrs m text ≡ joined_by atom link (conjunctions_at attrs n after)
+step_by : (attrs : List Attr) (m n : ℕ) (text rest after : List ℕ) (atom : Atom) (joint : Joint) → m ≡ suc n → atom_at attrs text ≡ Ok (pair atom rest)
+    → joint_at rest ≡ Ok (joint_and_rest joint after) → conjunctions_at attrs m text ≡ joined_by atom joint (conjunctions_at attrs n after)
 unfolding conjunctions_at
-step_by attrs m n text rest after atom link e a l = rw (e, a, l) refl
+step_by attrs m n text rest after atom joint e a l = rw (e, a, l) refl
 
 pub read_and : (closed : List (List Atom)) (open_atoms : List Atom) (attrs : List Attr) (m n : ℕ) (text rest after : List ℕ) (atom : Atom) → m ≡ suc n
-    → atom_at attrs text ≡ Ok (pair atom rest) → link_at rest ≡ Ok (linked And after)
+    → atom_at attrs text ≡ Ok (pair atom rest) → joint_at rest ≡ Ok (joint_and_rest And after)
     → read_on closed open_atoms attrs m text ≡ read_on closed (open_atoms ++ atom ∷ []) attrs n after
 read_and closed open_atoms attrs m n text rest after atom e a l = ap (seen_by (preceded closed open_atoms)) (step_by attrs m n text rest after atom And e a l)
     ∙ joined_and closed open_atoms atom (conjunctions_at attrs n after)
 
 pub read_or : (closed : List (List Atom)) (open_atoms : List Atom) (attrs : List Attr) (m n : ℕ) (text rest after : List ℕ) (atom : Atom) → m ≡ suc n
-    → atom_at attrs text ≡ Ok (pair atom rest) → link_at rest ≡ Ok (linked Or after)
+    → atom_at attrs text ≡ Ok (pair atom rest) → joint_at rest ≡ Ok (joint_and_rest Or after)
     → read_on closed open_atoms attrs m text ≡ read_on (closed ++ (open_atoms ++ atom ∷ []) ∷ []) [] attrs n after
 read_or closed open_atoms attrs m n text rest after atom e a l = ap (seen_by (preceded closed open_atoms)) (step_by attrs m n text rest after atom Or e a l)
     ∙ joined_or closed open_atoms atom (conjunctions_at attrs n after)
 
 pub read_end : (closed : List (List Atom)) (open_atoms : List Atom) (attrs : List Attr) (m n : ℕ) (text rest after : List ℕ) (atom : Atom) → m ≡ suc n
-    → atom_at attrs text ≡ Ok (pair atom rest) → link_at rest ≡ Ok (linked End after)
+    → atom_at attrs text ≡ Ok (pair atom rest) → joint_at rest ≡ Ok (joint_and_rest End after)
     → read_on closed open_atoms attrs m text ≡ Ok (closed ++ (open_atoms ++ atom ∷ []) ∷ [])
 read_end closed open_atoms attrs m n text rest after atom e a l = ap (seen_by (preceded closed open_atoms)) (step_by attrs m n text rest after atom End e a l)
     ∙ ap Ok (last open_atoms)
@@ -86,10 +86,10 @@ pub read_bad_atom : (closed : List (List Atom)) (open_atoms : List Atom) (attrs 
 unfolding conjunctions_at
 read_bad_atom closed open_atoms attrs m n text stop e a = rw (e, a) refl
 
-pub read_bad_link : (closed : List (List Atom)) (open_atoms : List Atom) (attrs : List Attr) (m n : ℕ) (text rest : List ℕ) (atom : Atom) (stop : Stop)
-    → m ≡ suc n → atom_at attrs text ≡ Ok (pair atom rest) → link_at rest ≡ Err stop → read_on closed open_atoms attrs m text ≡ Err stop
+pub read_bad_joint : (closed : List (List Atom)) (open_atoms : List Atom) (attrs : List Attr) (m n : ℕ) (text rest : List ℕ) (atom : Atom) (stop : Stop)
+    → m ≡ suc n → atom_at attrs text ≡ Ok (pair atom rest) → joint_at rest ≡ Err stop → read_on closed open_atoms attrs m text ≡ Err stop
 unfolding conjunctions_at
-read_bad_link closed open_atoms attrs m n text rest atom stop e a l = rw (e, a, l) refl
+read_bad_joint closed open_atoms attrs m n text rest atom stop e a l = rw (e, a, l) refl
 
 -- no more atoms are allowed
 pub read_full : (closed : List (List Atom)) (open_atoms : List Atom) (attrs : List Attr) (text : List ℕ)

@@ -10,16 +10,16 @@ use Rattle.cf_filter.specs.declared.bytes.Class.TheVariants as classes
 use Rattle.cf_filter.specs.declared.fault.Offence.{Offence}
 use Rattle.cf_filter.specs.declared.fault.Offence.TheVariants.{Syntax, TooLong}
 use Rattle.cf_filter.specs.declared.fault.Stop.{Stop}
-use Rattle.cf_filter.specs.declared.atom.Link.{Link}
-use Rattle.cf_filter.specs.declared.atom.Link.TheVariants.{End, And, Or}
+use Rattle.cf_filter.specs.declared.atom.Joint.{Joint}
+use Rattle.cf_filter.specs.declared.atom.Joint.TheVariants.{End, And, Or}
 use Rattle.cf_filter.specs.Tokens.{run, past, unspaced, strip_at, IsAfterSpaces}
 use Rattle.cf_filter.specs.Ranges.{bounds_at}
-use Rattle.cf_filter.specs.Reading.{seen_by, stop_at, name_at, op_at, ends_or, bounds_from, atom_at, link_at}
+use Rattle.cf_filter.specs.Reading.{seen_by, stop_at, name_at, op_at, ends_or, bounds_from, atom_at, joint_at}
 use Rattle.cf_filter.specs.Exprs.{with_atom, joined_by, conjunctions_at, star_in, star_at, expr_in, expr_at}
-use Rattle.cf_filter.specs.Grammar.{Only, BoundsRead, NameRead, OpRead, EndsRead, AtomRead, LinkRead, JoinedRead, ConjunctionsRead, StarRead, ExprRead}
+use Rattle.cf_filter.specs.Grammar.{Only, BoundsRead, NameRead, OpRead, EndsRead, AtomRead, JointRead, JoinedRead, ConjunctionsRead, StarRead, ExprRead}
 use Rattle.cf_filter.specs.Grammar.ExprRead.{star, conjunctions}
 use Rattle.cf_filter.proofs.Runs.{run_is, run_only, spaces_is, spaces_only, strip_front, strip_found, strip_none}
-use Rattle.cf_filter.proofs.Parts.{then_only, name_only, op_only, link_only, stop_same, some_len, empty_is}
+use Rattle.cf_filter.proofs.Parts.{then_only, name_only, op_only, joint_only, stop_same, some_len, empty_is}
 use Rattle.cf_filter.proofs.RangeLaws.{bounds_only}
 
 -- the ends of a range
@@ -64,8 +64,8 @@ atom_only attrs text =
 
 -- conjunctions
 
-joined_only : (atom : Atom) (link : Link) (Later : Result (List (List Atom)) Stop → Type 0) (later : Result (List (List Atom)) Stop) → Only Later later
-    → Only (JoinedRead atom link Later) (joined_by atom link later)
+joined_only : (atom : Atom) (joint : Joint) (Later : Result (List (List Atom)) Stop → Type 0) (later : Result (List (List Atom)) Stop) → Only Later later
+    → Only (JoinedRead atom joint Later) (joined_by atom joint later)
 joined_only atom End Later later h = record { holds = refl; only = λ r e. e }
 joined_only atom And Later later h = record { holds = (later, h.holds, refl); only = λ r k. k.2 ∙ ap (seen_by (with_atom atom)) (h.only k.0 k.1) }
 joined_only atom Or Later later h =
@@ -77,8 +77,8 @@ conjunctions_only attrs zero text =
     record { holds = (unspaced text, spaces_is text, refl); only = λ r h. h.2 ∙ ap (λ here. Err (stop_at TooLong here)) (spaces_only text h.0 h.1) }
 conjunctions_only attrs (suc n) text =
     then_only (AtomRead attrs text) _ (atom_at attrs text) _ (atom_only attrs text) (λ atom.
-    then_only (LinkRead atom.1) _ (link_at atom.1) _ (link_only atom.1) (λ link.
-    joined_only atom.0 link.0 (ConjunctionsRead attrs n link.1) (conjunctions_at attrs n link.1) (conjunctions_only attrs n link.1)))
+    then_only (JointRead atom.1) _ (joint_at atom.1) _ (joint_only atom.1) (λ joint.
+    joined_only atom.0 joint.0 (ConjunctionsRead attrs n joint.1) (conjunctions_at attrs n joint.1) (conjunctions_only attrs n joint.1)))
 
 -- a star alone
 

@@ -20,8 +20,8 @@ use Rattle.cf_row.specs.Row.{is_of_kind, is_byte_string}
 use Rattle.cf_row.specs.Expr.{suits_kind, is_within, atom_suits_attr, atom_suits, atom_count, is_of_schema, IsOfSchema}
 use Rattle.cf_filter.specs.declared.bytes.Class.TheVariants as classes
 use Rattle.cf_filter.specs.declared.fault.Stop.{Stop}
-use Rattle.cf_filter.specs.declared.atom.Link.{Link}
-use Rattle.cf_filter.specs.declared.atom.Link.TheVariants.{End, And, Or}
+use Rattle.cf_filter.specs.declared.atom.Joint.{Joint}
+use Rattle.cf_filter.specs.declared.atom.Joint.TheVariants.{End, And, Or}
 use Rattle.cf_filter.specs.Tokens.{is_digit, is_between}
 use Rattle.cf_filter.specs.Values.{digit_of, digit_from, pair_at, pairs, number_at}
 use Rattle.cf_filter.specs.Ranges.{net_from}
@@ -243,8 +243,8 @@ before_good attrs n atom others good h = let few = h.few in record { few = omega
 ok_same : {x y : List (List Atom)} → ◌≡◌ {A = Result (List (List Atom)) Stop} (Ok x) (Ok y) → y ≡ x
 ok_same e = cc
 
-joined_good : (attrs : List Attr) (n : ℕ) (atom : Atom) (link : Link) (Later : Result (List (List Atom)) Stop → Type 0) (expr : List (List Atom))
-    → atom_suits attrs atom ≡ true → ((xs : List (List Atom)) → Later (Ok xs) → IsGood attrs n xs) → JoinedRead atom link Later (Ok expr)
+joined_good : (attrs : List Attr) (n : ℕ) (atom : Atom) (joint : Joint) (Later : Result (List (List Atom)) Stop → Type 0) (expr : List (List Atom))
+    → atom_suits attrs atom ≡ true → ((xs : List (List Atom)) → Later (Ok xs) → IsGood attrs n xs) → JoinedRead atom joint Later (Ok expr)
     → IsGood attrs (suc n) expr
 joined_good attrs n atom End Later expr good later h = subst (IsGood attrs (suc n)) (ok_same h) (alone_good attrs n atom good)
 joined_good attrs n atom And Later expr good later h = by h.0 h.1 h.2
@@ -265,10 +265,10 @@ conjunctions_good attrs zero text expr h = clash h.2
     clash e = cc
 conjunctions_good attrs (suc n) text expr h =
     let atom = h.0 in
-    let then_link = h.2 in
-    let link = then_link.0 in
-    joined_good attrs n atom.0 link.0 (ConjunctionsRead attrs n link.1) expr (atom_fits attrs text atom h.1)
-    (λ xs l. conjunctions_good attrs n link.1 xs l) then_link.2
+    let then_joint = h.2 in
+    let joint = then_joint.0 in
+    joined_good attrs n atom.0 joint.0 (ConjunctionsRead attrs n joint.1) expr (atom_fits attrs text atom h.1)
+    (λ xs l. conjunctions_good attrs n joint.1 xs l) then_joint.2
 
 good_schema : (attrs : List Attr) (expr : List (List Atom)) → IsGood attrs 32 expr → IsOfSchema attrs expr
 good_schema attrs expr h = rw (le-leb (atom_count expr) 32 h.few) h.suit

@@ -14,11 +14,11 @@ use Rattle.cf_filter.specs.declared.bytes.Class.TheVariants.{Letter, Name, Opera
 use Rattle.cf_filter.specs.declared.fault.Offence.{Offence}
 use Rattle.cf_filter.specs.declared.fault.Offence.TheVariants.{Syntax, UnknownName, BadOperator, ValueRange, TooLong}
 use Rattle.cf_filter.specs.declared.fault.Stop.{Stop}
-use Rattle.cf_filter.specs.declared.atom.Link.{Link}
-use Rattle.cf_filter.specs.declared.atom.Link.TheVariants.{End, And, Or}
+use Rattle.cf_filter.specs.declared.atom.Joint.{Joint}
+use Rattle.cf_filter.specs.declared.atom.Joint.TheVariants.{End, And, Or}
 use Rattle.cf_filter.specs.Tokens.{passes, run, past, unspaced, strip_at, IsAfterSpaces}
-use Rattle.cf_filter.specs.Reading.{◌>>=◌, begins_with, attr_named, known_or, name_in, name_at, op_named, token_at, suited_or, op_in, op_at, stop_at, or_at, and_at, link_in, link_at}
-use Rattle.cf_filter.specs.Grammar.{Only, Then, NameFault, NameRead, op_text, IsOpWord, OpFault, OpRead, LinkText, LinkRead}
+use Rattle.cf_filter.specs.Reading.{◌>>=◌, begins_with, attr_named, known_or, name_in, name_at, op_named, token_at, suited_or, op_in, op_at, stop_at, or_at, and_at, joint_in, joint_at}
+use Rattle.cf_filter.specs.Grammar.{Only, Then, NameFault, NameRead, op_text, IsOpWord, OpFault, OpRead, JointText, JointRead}
 use Rattle.cf_filter.specs.Grammar.IsOpWord.{name, sign}
 use Rattle.cf_filter.proofs.Runs.{one_more, run_is, run_only, spaces_is, spaces_only, strip_found, strip_none}
 
@@ -242,49 +242,50 @@ op_only kind text = record {
 
 -- connectives
 
-no_link : (here : List ℕ) → (length here == 0) ≡ false → strip_at (codes "&&") here ≡ None → strip_at (codes "||") here ≡ None → (link : Link) (rest : List ℕ)
-    → LinkText link here rest → ⊥
-no_link here some a o End rest h = let e : (length here == 0) ≡ true = ap (λ xs. length xs == 0) h.0 in false≢true (sym some ∙ e)
-no_link here some a o And rest h = strip_none (codes "&&") here rest a h
-no_link here some a o Or rest h = strip_none (codes "||") here rest o h
+no_joint : (here : List ℕ) → (length here == 0) ≡ false → strip_at (codes "&&") here ≡ None → strip_at (codes "||") here ≡ None
+    → (joint : Joint) (rest : List ℕ)
+    → JointText joint here rest → ⊥
+no_joint here some a o End rest h = let e : (length here == 0) ≡ true = ap (λ xs. length xs == 0) h.0 in false≢true (sym some ∙ e)
+no_joint here some a o And rest h = strip_none (codes "&&") here rest a h
+no_joint here some a o Or rest h = strip_none (codes "||") here rest o h
 
 pub empty_is : (here : List ℕ) → (length here == 0) ≡ true → here ≡ []
 empty_is [] h = refl
 empty_is (x ∷ xs) h = absurd (false≢true (sym (some_len x xs) ∙ h))
 
 or_holds : (text here : List ℕ) → IsAfterSpaces text here → (length here == 0) ≡ false → strip_at (codes "&&") here ≡ None → (o : Option (List ℕ))
-    → strip_at (codes "||") here ≡ o → LinkRead text (or_at here o)
-or_holds text here sp some a None o = (here, sp, refl, no_link here some a o)
+    → strip_at (codes "||") here ≡ o → JointRead text (or_at here o)
+or_holds text here sp some a None o = (here, sp, refl, no_joint here some a o)
 or_holds text here sp some a (Some rest) o = (here, sp, strip_found (codes "||") here rest o)
 
 and_holds : (text here : List ℕ) → IsAfterSpaces text here → (length here == 0) ≡ false → (a : Option (List ℕ)) → strip_at (codes "&&") here ≡ a
-    → LinkRead text (and_at here a)
+    → JointRead text (and_at here a)
 and_holds text here sp some None a = or_holds text here sp some a (strip_at (codes "||") here) refl
 and_holds text here sp some (Some rest) a = (here, sp, strip_found (codes "&&") here rest a)
 
-link_holds : (text here : List ℕ) → IsAfterSpaces text here → (b : Bool) → (length here == 0) ≡ b
-    → LinkRead text (cond b (Ok (End, here)) (and_at here (strip_at (codes "&&") here)))
-link_holds text here sp true b = (here, sp, (empty_is here b, empty_is here b))
-link_holds text here sp false b = and_holds text here sp b (strip_at (codes "&&") here) refl
+joint_holds : (text here : List ℕ) → IsAfterSpaces text here → (b : Bool) → (length here == 0) ≡ b
+    → JointRead text (cond b (Ok (End, here)) (and_at here (strip_at (codes "&&") here)))
+joint_holds text here sp true b = (here, sp, (empty_is here b, empty_is here b))
+joint_holds text here sp false b = and_holds text here sp b (strip_at (codes "&&") here) refl
 
-link_text : (link : Link) (here rest : List ℕ) → LinkText link here rest → link_in here ≡ Ok (link, rest)
-link_text End here rest h = ap link_in h.0 ∙ ap (λ xs. Ok (End, xs)) (sym h.1)
-link_text And here rest h = ap link_in h ∙ rw (some_len 38 (38 ∷ rest)) refl
-link_text Or here rest h = ap link_in h ∙ rw (some_len 124 (124 ∷ rest)) refl
+joint_text : (joint : Joint) (here rest : List ℕ) → JointText joint here rest → joint_in here ≡ Ok (joint, rest)
+joint_text End here rest h = ap joint_in h.0 ∙ ap (λ xs. Ok (End, xs)) (sym h.1)
+joint_text And here rest h = ap joint_in h ∙ rw (some_len 38 (38 ∷ rest)) refl
+joint_text Or here rest h = ap joint_in h ∙ rw (some_len 124 (124 ∷ rest)) refl
 
-link_err : (here : List ℕ) → ((link : Link) (rest : List ℕ) → LinkText link here rest → ⊥) → link_in here ≡ Err (stop_at Syntax here)
-link_err here none = by (length here == 0) refl (strip_at (codes "&&") here) refl (strip_at (codes "||") here) refl
+joint_err : (here : List ℕ) → ((joint : Joint) (rest : List ℕ) → JointText joint here rest → ⊥) → joint_in here ≡ Err (stop_at Syntax here)
+joint_err here none = by (length here == 0) refl (strip_at (codes "&&") here) refl (strip_at (codes "||") here) refl
   where
     by : (b : Bool) → (length here == 0) ≡ b → (a : Option (List ℕ)) → strip_at (codes "&&") here ≡ a → (o : Option (List ℕ)) → strip_at (codes "||") here ≡ o
-        → link_in here ≡ Err (stop_at Syntax here)
+        → joint_in here ≡ Err (stop_at Syntax here)
     by true b a e o f = absurd (none End [] (empty_is here b, refl))
     by false b (Some rest) e o f = absurd (none And rest (strip_found (codes "&&") here rest e))
     by false b None e (Some rest) f = absurd (none Or rest (strip_found (codes "||") here rest f))
     by false b None e None f = rw (b, e, f) refl
 
-link_same : (text : List ℕ) (r : Result (Link × List ℕ) Stop) → LinkRead text r → r ≡ link_at text
-link_same text (Ok found) h = sym (link_text found.0 h.0 found.1 h.2) ∙ ap link_in (spaces_only text h.0 h.1)
-link_same text (Err stop) h = ap Err h.2 ∙ sym (link_err h.0 h.3) ∙ ap link_in (spaces_only text h.0 h.1)
+joint_same : (text : List ℕ) (r : Result (Joint × List ℕ) Stop) → JointRead text r → r ≡ joint_at text
+joint_same text (Ok found) h = sym (joint_text found.0 h.0 found.1 h.2) ∙ ap joint_in (spaces_only text h.0 h.1)
+joint_same text (Err stop) h = ap Err h.2 ∙ sym (joint_err h.0 h.3) ∙ ap joint_in (spaces_only text h.0 h.1)
 
-pub link_only : (text : List ℕ) → Only (LinkRead text) (link_at text)
-link_only text = record { holds = link_holds text (unspaced text) (spaces_is text) (length (unspaced text) == 0) refl; only = link_same text }
+pub joint_only : (text : List ℕ) → Only (JointRead text) (joint_at text)
+joint_only text = record { holds = joint_holds text (unspaced text) (spaces_is text) (length (unspaced text) == 0) refl; only = joint_same text }

@@ -13,7 +13,7 @@ use Rattle.cf_row.specs.Expr.{number_of}
 use Rattle.cf_filter.specs.declared.bytes.Class.TheVariants as classes
 use Rattle.cf_filter.specs.declared.fault.Offence.{Offence}
 use Rattle.cf_filter.specs.declared.fault.Offence.TheVariants.{Syntax, UnknownName, BadOperator, ValueRange, TooLong}
-use Rattle.cf_filter.specs.declared.value.Spelling.{Spelling}
+use Rattle.cf_filter.specs.declared.value.ValueForm.{ValueForm}
 use Rattle.cf_filter.specs.Tokens.{passes, run, past, strip_at, IsRun}
 use Rattle.cf_filter.specs.Values.{is_run_of, parts_at, form_at, address_at, number_at, lawful, AreParts, HasForm}
 use Rattle.cf_filter.specs.Ranges.{◌>>=◌, found_or, sized_at, are_dots, dots_len, before_dots, cut_at, in_order, net_from, is_address_kind, test_or, range_by, range_at, twice_at, bounds_at}
@@ -255,7 +255,7 @@ module _ (kind : Kind) (text low high : List ℕ) (cut : cut_at text ≡ Some (c
   )
   order_holds first last f l form false b = lawful_ends low high is.whole is.first f l (ltb-false (number_of last) (number_of first) b)
 
-  values_hold : (f g : Spelling) → HasForm low f → HasForm high g → (a b : Option Value) → lawful kind f low ≡ a → lawful kind g high ≡ b
+  values_hold : (f g : ValueForm) → HasForm low f → HasForm high g → (a b : Option Value) → lawful kind f low ≡ a → lawful kind g high ≡ b
       → RangeRead kind text (found_or ValueRange a >>= (λ first. found_or ValueRange b >>= (λ last. in_order first last)))
   values_hold f g hf hg None b e k =
       (form_ends low high f g is.whole is.first hf hg, λ x h. let ends = range_ends kind text low high x cut h in unlawful kind low f hf e x.0 ends.first)
@@ -268,13 +268,13 @@ module _ (kind : Kind) (text low high : List ℕ) (cut : cut_at text ≡ Some (c
   no_form : (t : List ℕ) → form_at t ≡ None → IsForm t → ⊥
   no_form t e h = let some : form_at t ≡ Some h.0 = form_only t h.0 h.1 in cc
 
-  abbrev by_forms : Option Spelling → Option Spelling → Result (Value × Value) Offence
+  abbrev by_forms : Option ValueForm → Option ValueForm → Result (Value × Value) Offence
   by_forms f g =
       found_or Syntax f >>=
       (λ low_form. found_or Syntax g >>= (λ high_form. found_or ValueRange
       (lawful kind low_form low) >>= (λ first. found_or ValueRange (lawful kind high_form high) >>= (λ last. in_order first last))))
 
-  between_holds : (f g : Option Spelling) → form_at low ≡ f → form_at high ≡ g → RangeRead kind text (by_forms f g)
+  between_holds : (f g : Option ValueForm) → form_at low ≡ f → form_at high ≡ g → RangeRead kind text (by_forms f g)
   between_holds None g e k = λ h. let ends = ends_of text low high cut h in no_form low e ends.0
   between_holds (Some f) None e k = λ h. let ends = ends_of text low high cut h in no_form high k ends.1
   between_holds (Some f) (Some g) e k = values_hold f g (form_found low f e) (form_found high g k) (lawful kind f low) (lawful kind g high) refl refl

@@ -14,8 +14,8 @@ use Rattle.cf_filter.specs.declared.bytes.Class.{Class}
 use Rattle.cf_filter.specs.declared.bytes.Class.TheVariants as classes
 use Rattle.cf_filter.specs.declared.fault.Offence.{Offence}
 use Rattle.cf_filter.specs.declared.fault.Offence.TheVariants.{Syntax, UnknownName, BadOperator, ValueRange, TooLong}
-use Rattle.cf_filter.specs.declared.value.Spelling.{Spelling}
-use Rattle.cf_filter.specs.declared.value.Spelling.TheVariants.{Decimal, Hex, Dotted}
+use Rattle.cf_filter.specs.declared.value.ValueForm.{ValueForm}
+use Rattle.cf_filter.specs.declared.value.ValueForm.TheVariants.{Decimal, Hex, Dotted}
 use Rattle.cf_filter.specs.Tokens.{passes, run, past, strip_at}
 use Rattle.cf_filter.specs.Values.{is_run_of, hex_digits, part_at, parts_at, form_at, byte_at, address_at, number_at, of_kind, lawful, raw_of, hex_number, pairs, value_at, AreParts, HasForm}
 use Rattle.cf_filter.specs.Ranges.{◌>>=◌, found_or, sized_at}
@@ -132,7 +132,7 @@ hex_none text not_hex = by (hex_digits text) refl
     by None e = e
     by (Some digits) e = absurd (not_hex digits (strip_found (codes "0x") text digits e))
 
-pub form_only : (text : List ℕ) (form : Spelling) → HasForm text form → form_at text ≡ Some form
+pub form_only : (text : List ℕ) (form : ValueForm) → HasForm text form → form_at text ≡ Some form
 form_only text Decimal h = rw h refl
 form_only text Hex h =
     let no_decimal : is_run_of classes.Digit 1 20 text ≡ false = ap (is_run_of classes.Digit 1 20) h.1 ∙ not_run classes.Digit 1 20 (48 ∷ []) 120 h.0 refl in
@@ -147,25 +147,25 @@ form_only text Dotted h =
     let some : parts_at text ≡ Some (four h.0 h.1 h.2 h.3) = parts_only text h.0 h.1 h.2 h.3 p in
     rw (no_decimal, none, some) refl
 
-pub form_found : (text : List ℕ) (form : Spelling) → form_at text ≡ Some form → HasForm text form
+pub form_found : (text : List ℕ) (form : ValueForm) → form_at text ≡ Some form → HasForm text form
 form_found text form h = by (is_run_of classes.Digit 1 20 text) refl (hex_digits text) refl (parts_at text) refl h
   where
     in_hex : (digits : List ℕ) → hex_digits text ≡ Some digits → (b : Bool) → is_run_of classes.Hex 1 32 digits ≡ b
         → (o : Option (List ℕ × List ℕ × List ℕ × List ℕ)) → parts_at text ≡ o → cond b (Some Hex) (cond (is_some o) (Some Dotted) None) ≡ Some form
         → HasForm text form
     in_hex digits e true b o f k = let same : Hex ≡ form = cc in
-        subst (λ (x : Spelling). HasForm text x) same (digits, strip_found (codes "0x") text digits e, b)
+        subst (λ (x : ValueForm). HasForm text x) same (digits, strip_found (codes "0x") text digits e, b)
     in_hex digits e false b (Some p) f k = let same : Dotted ≡ form = cc in
-        subst (λ (x : Spelling). HasForm text x) same (p.0, p.1, p.2, p.3, parts_found text p f)
+        subst (λ (x : ValueForm). HasForm text x) same (p.0, p.1, p.2, p.3, parts_found text p f)
     in_hex digits e false b None f k = cc
 
     by : (d : Bool) → is_run_of classes.Digit 1 20 text ≡ d → (x : Option (List ℕ)) → hex_digits text ≡ x → (o : Option (List ℕ × List ℕ × List ℕ × List ℕ))
         → parts_at text ≡ o
         → cond d (Some Decimal) (cond (option_map_or (is_run_of classes.Hex 1 32) x false) (Some Hex) (cond (is_some o) (Some Dotted) None)) ≡ Some form
         → HasForm text form
-    by true d x e o f k = let same : Decimal ≡ form = cc in subst (λ (y : Spelling). HasForm text y) same d
+    by true d x e o f k = let same : Decimal ≡ form = cc in subst (λ (y : ValueForm). HasForm text y) same d
     by false d (Some digits) e o f k = in_hex digits e (is_run_of classes.Hex 1 32 digits) refl o f k
-    by false d None e (Some p) f k = let same : Dotted ≡ form = cc in subst (λ (y : Spelling). HasForm text y) same (p.0, p.1, p.2, p.3, parts_found text p f)
+    by false d None e (Some p) f k = let same : Dotted ≡ form = cc in subst (λ (y : ValueForm). HasForm text y) same (p.0, p.1, p.2, p.3, parts_found text p f)
     by false d None e None f k = cc
 
 -- lawful values
@@ -290,7 +290,7 @@ raw_found : (len : ℕ) (text : List ℕ) (value : Value) (digits : List ℕ) �
 raw_found len text value digits whole run h = let found = cond_some (length digits == 2 * len) (Raw len (pairs 16 digits)) value h in
     bytes len digits refl whole run (eqb-true (length digits) (2 * len) found.0) (sym found.1)
 
-pub lawful_found : (kind : Kind) (form : Spelling) (text : List ℕ) (value : Value) → HasForm text form → lawful kind form text ≡ Some value
+pub lawful_found : (kind : Kind) (form : ValueForm) (text : List ℕ) (value : Value) → HasForm text form → lawful kind form text ≡ Some value
     → ValueText kind text value
 lawful_found U8 Decimal text value h e = decimal_found U8 text value h e
 lawful_found U16 Decimal text value h e = decimal_found U16 text value h e
@@ -341,27 +341,27 @@ pub value_one : (kind : Kind) (text : List ℕ) (x y : Value) → ValueText kind
 value_one kind text x y h k = let both : Some x ≡ Some y = sym (value_only kind text x h) ∙ value_only kind text y k in cc
 
 -- a text has one form
-pub form_one : (text : List ℕ) (f g : Spelling) → HasForm text f → HasForm text g → f ≡ g
+pub form_one : (text : List ℕ) (f g : ValueForm) → HasForm text f → HasForm text g → f ≡ g
 form_one text f g h k = let both : Some f ≡ Some g = sym (form_only text f h) ∙ form_only text g k in cc
 
 -- what isn't read in the text's form is no value of the kind
-pub unlawful : (kind : Kind) (text : List ℕ) (form : Spelling) → HasForm text form → lawful kind form text ≡ None → (value : Value)
+pub unlawful : (kind : Kind) (text : List ℕ) (form : ValueForm) → HasForm text form → lawful kind form text ≡ None → (value : Value)
     → ValueText kind text value → ⊥
 unlawful kind text form h e value v =
     let other = value_form kind text value v in
     let same : other.0 ≡ form = form_one text other.0 form other.1 h in
     let some : lawful kind form text ≡ Some value = ap (λ f. lawful kind f text) (sym same) ∙ value_lawful kind text value v in cc
 
-abbrev sized_by : Kind → List ℕ → Option Spelling → Result Value Offence
+abbrev sized_by : Kind → List ℕ → Option ValueForm → Result Value Offence
 sized_by kind text o = found_or Syntax o >>= (λ form. found_or ValueRange (lawful kind form text))
 
 pub sized_holds : (kind : Kind) (text : List ℕ) → ValueRead kind text (sized_at kind text)
 sized_holds kind text = by (form_at text) refl
   where
-    in_form : (form : Spelling) → HasForm text form → (o : Option Value) → lawful kind form text ≡ o → ValueRead kind text (found_or ValueRange o)
+    in_form : (form : ValueForm) → HasForm text form → (o : Option Value) → lawful kind form text ≡ o → ValueRead kind text (found_or ValueRange o)
     in_form form h (Some value) e = lawful_found kind form text value h e
     in_form form h None e = ((form, h), unlawful kind text form h e)
 
-    by : (o : Option Spelling) → form_at text ≡ o → ValueRead kind text (sized_by kind text o)
+    by : (o : Option ValueForm) → form_at text ≡ o → ValueRead kind text (sized_by kind text o)
     by None e = λ f. let some : form_at text ≡ Some f.0 = form_only text f.0 f.1 in cc
     by (Some form) e = in_form form (form_found text form e) (lawful kind form text) refl

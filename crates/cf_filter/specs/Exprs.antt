@@ -7,10 +7,10 @@ use Rattle.cf_filter.specs.declared.fault.Stop.{Stop}
 use Rattle.cf_filter.specs.declared.fault.FilterFault.{FilterFault}
 use Rattle.cf_filter.specs.declared.fault.FilterFault.TheVariants as faults
 use Rattle.cf_filter.specs.declared.fault.Offence.{Offence}
-use Rattle.cf_filter.specs.declared.atom.Link.{Link}
-use Rattle.cf_filter.specs.declared.atom.Link.TheVariants.{End, And, Or}
+use Rattle.cf_filter.specs.declared.atom.Joint.{Joint}
+use Rattle.cf_filter.specs.declared.atom.Joint.TheVariants.{End, And, Or}
 use Rattle.cf_filter.specs.Tokens.{unspaced, strip_at}
-use Rattle.cf_filter.specs.Reading.{◌>>=◌, seen_by, stop_at, atom_at, link_at}
+use Rattle.cf_filter.specs.Reading.{◌>>=◌, seen_by, stop_at, atom_at, joint_at}
 
 -- the atom at the front of the first conjunction
 abbrev pub with_atom : Atom → List (List Atom) → List (List Atom)
@@ -18,7 +18,7 @@ with_atom atom [] = (atom ∷ []) ∷ []
 with_atom atom (atoms ∷ others) = (atom ∷ atoms) ∷ others
 
 -- what follows a connective joins the conjunctions of the atom before it
-abbrev pub joined_by : Atom → Link → Result (List (List Atom)) Stop → Result (List (List Atom)) Stop
+abbrev pub joined_by : Atom → Joint → Result (List (List Atom)) Stop → Result (List (List Atom)) Stop
 joined_by atom End later = Ok ((atom ∷ []) ∷ [])
 joined_by atom And later = seen_by (with_atom atom) later
 joined_by atom Or later = seen_by (λ others. (atom ∷ []) ∷ others) later
@@ -28,8 +28,8 @@ unfoldable pub conjunctions_at : List Attr → ℕ → List ℕ → Result (List
 conjunctions_at attrs zero text = Err (stop_at TooLong (unspaced text))
 conjunctions_at attrs (suc n) text = do
   atom ← atom_at attrs text
-  link ← link_at atom.1
-  joined_by atom.0 link.0 (conjunctions_at attrs n link.1)
+  joint ← joint_at atom.1
+  joined_by atom.0 joint.0 (conjunctions_at attrs n joint.1)
 
 -- nothing follows a star
 abbrev pub star_in : List ℕ → Result (List (List Atom)) Stop

@@ -14,9 +14,9 @@ use Rattle.cf_filter.specs.declared.bytes.Class.TheVariants as classes
 use Rattle.cf_filter.specs.declared.fault.Offence.{Offence}
 use Rattle.cf_filter.specs.declared.fault.Offence.TheVariants.{Syntax, UnknownName, BadOperator, ValueRange, TooLong}
 use Rattle.cf_filter.specs.declared.fault.Stop.{Stop}
-use Rattle.cf_filter.specs.declared.atom.Link.{Link}
-use Rattle.cf_filter.specs.declared.atom.Link.TheVariants.{End, And, Or}
-use Rattle.cf_filter.specs.declared.value.Spelling.{Spelling}
+use Rattle.cf_filter.specs.declared.atom.Joint.{Joint}
+use Rattle.cf_filter.specs.declared.atom.Joint.TheVariants.{End, And, Or}
+use Rattle.cf_filter.specs.declared.value.ValueForm.{ValueForm}
 use Rattle.cf_filter.specs.Tokens.{IsRun, IsAfterSpaces}
 use Rattle.cf_filter.specs.Values.{HasForm, AreParts, is_run_of, number_at, pairs}
 use Rattle.cf_filter.specs.Ranges.{dots_len, net_from}
@@ -45,7 +45,7 @@ pub data ValueText (kind : Kind) (text : List ℕ) (value : Value) : Type 0 wher
 
 -- a text that is cut at the first two dots, or a dotted text and a number of bits
 pub data HasRangeForm (text : List ℕ) : Type 0 where
-  ends : (low high : List ℕ) (low_form high_form : Spelling) → text ≡ low ++ codes ".." ++ high → dots_len text ≡ length low → HasForm low low_form
+  ends : (low high : List ℕ) (low_form high_form : ValueForm) → text ≡ low ++ codes ".." ++ high → dots_len text ≡ length low → HasForm low low_form
       → HasForm high high_form → HasRangeForm text
   net : (a b c d front bits : List ℕ) → text ≡ front ++ codes "/" ++ bits → AreParts front a b c d → is_run_of classes.Digit 1 20 bits ≡ true
       → HasRangeForm text
@@ -69,7 +69,7 @@ Judged form lawful (Err TooLong) = ⊥
 
 -- written as a value may be, for whatever kind
 abbrev pub IsForm : List ℕ → Type 0
-IsForm text = (form : Spelling) × HasForm text form
+IsForm text = (form : ValueForm) × HasForm text form
 
 -- a value of the kind
 abbrev pub ValueRead : Kind → List ℕ → Result Value Offence → Type 0
@@ -152,19 +152,19 @@ AtomRead attrs text =
     atom ≡ Ok (record { attr = name.0.0; op = op.0; low = ends.0.0; high = ends.0.1 }, ends.1))))
 
 -- the end, or how a connective is written
-abbrev pub LinkText : Link → List ℕ → List ℕ → Type 0
-LinkText End here rest = (here ≡ []) × (rest ≡ [])
-LinkText And here rest = here ≡ codes "&&" ++ rest
-LinkText Or here rest = here ≡ codes "||" ++ rest
+abbrev pub JointText : Joint → List ℕ → List ℕ → Type 0
+JointText End here rest = (here ≡ []) × (rest ≡ [])
+JointText And here rest = here ≡ codes "&&" ++ rest
+JointText Or here rest = here ≡ codes "||" ++ rest
 
 -- the end of the text, or a connective
-abbrev pub LinkRead : List ℕ → Result (Link × List ℕ) Stop → Type 0
-LinkRead text (Ok found) = (here : List ℕ) × IsAfterSpaces text here × LinkText found.0 here found.1
-LinkRead text (Err stop) = (here : List ℕ) × IsAfterSpaces text here × (stop ≡ stop_at Syntax here)
-    × ((link : Link) (rest : List ℕ) → LinkText link here rest → ⊥)
+abbrev pub JointRead : List ℕ → Result (Joint × List ℕ) Stop → Type 0
+JointRead text (Ok found) = (here : List ℕ) × IsAfterSpaces text here × JointText found.0 here found.1
+JointRead text (Err stop) = (here : List ℕ) × IsAfterSpaces text here × (stop ≡ stop_at Syntax here)
+    × ((joint : Joint) (rest : List ℕ) → JointText joint here rest → ⊥)
 
 -- and what comes after a connective
-abbrev pub JoinedRead : Atom → Link → (Result (List (List Atom)) Stop → Type 0) → Result (List (List Atom)) Stop → Type 0
+abbrev pub JoinedRead : Atom → Joint → (Result (List (List Atom)) Stop → Type 0) → Result (List (List Atom)) Stop → Type 0
 JoinedRead atom End Later read = read ≡ Ok ((atom ∷ []) ∷ [])
 JoinedRead atom And Later read = (later : Result (List (List Atom)) Stop) × Later later × (read ≡ seen_by (with_atom atom) later)
 JoinedRead atom Or Later read = (later : Result (List (List Atom)) Stop) × Later later × (read ≡ seen_by (λ others. (atom ∷ []) ∷ others) later)
@@ -174,8 +174,8 @@ abbrev pub ConjunctionsRead : List Attr → ℕ → List ℕ → Result (List (L
 ConjunctionsRead attrs zero text read = (here : List ℕ) × IsAfterSpaces text here × (read ≡ Err (stop_at TooLong here))
 ConjunctionsRead attrs (suc n) text read =
     Then (AtomRead attrs text) (λ atom.
-    Then (LinkRead atom.1) (λ link.
-    JoinedRead atom.0 link.0 (ConjunctionsRead attrs n link.1))) read
+    Then (JointRead atom.1) (λ joint.
+    JoinedRead atom.0 joint.0 (ConjunctionsRead attrs n joint.1))) read
 
 -- after a star nothing is wanted
 abbrev pub StarRead : List ℕ → Result (List (List Atom)) Stop → Type 0

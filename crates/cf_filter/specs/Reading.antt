@@ -13,8 +13,8 @@ use Rattle.cf_filter.specs.declared.bytes.Class.TheVariants as classes
 use Rattle.cf_filter.specs.declared.fault.Offence.{Offence}
 use Rattle.cf_filter.specs.declared.fault.Offence.TheVariants.{Syntax, UnknownName, BadOperator}
 use Rattle.cf_filter.specs.declared.fault.Stop.{Stop}
-use Rattle.cf_filter.specs.declared.atom.Link.{Link}
-use Rattle.cf_filter.specs.declared.atom.Link.TheVariants.{End, And, Or}
+use Rattle.cf_filter.specs.declared.atom.Joint.{Joint}
+use Rattle.cf_filter.specs.declared.atom.Joint.TheVariants.{End, And, Or}
 use Rattle.cf_filter.specs.Tokens.{passes, run, past, unspaced, strip_at}
 use Rattle.cf_filter.specs.Ranges.{bounds_at}
 
@@ -107,19 +107,19 @@ atom_at attrs text = do
   Ok (record { attr = name.0.0; op = op.0; low = ends.0.0; high = ends.0.1 }, ends.1)
 
 -- the other connective, or neither
-abbrev pub or_at : List ℕ → Option (List ℕ) → Result (Link × List ℕ) Stop
+abbrev pub or_at : List ℕ → Option (List ℕ) → Result (Joint × List ℕ) Stop
 or_at text None = Err (stop_at Syntax text)
 or_at text (Some rest) = Ok (Or, rest)
 
 -- a connective at the front
-abbrev pub and_at : List ℕ → Option (List ℕ) → Result (Link × List ℕ) Stop
+abbrev pub and_at : List ℕ → Option (List ℕ) → Result (Joint × List ℕ) Stop
 and_at text None = or_at text (strip_at (codes "||") text)
 and_at text (Some rest) = Ok (And, rest)
 
 -- the end or a connective at the front
-abbrev pub link_in : List ℕ → Result (Link × List ℕ) Stop
-link_in text = if length text == 0 then Ok (End, text) else and_at text (strip_at (codes "&&") text)
+abbrev pub joint_in : List ℕ → Result (Joint × List ℕ) Stop
+joint_in text = if length text == 0 then Ok (End, text) else and_at text (strip_at (codes "&&") text)
 
 -- the connective or the end of the text at the front, and what follows it
-abbrev pub link_at : List ℕ → Result (Link × List ℕ) Stop
-link_at text = link_in (unspaced text)
+abbrev pub joint_at : List ℕ → Result (Joint × List ℕ) Stop
+joint_at text = joint_in (unspaced text)

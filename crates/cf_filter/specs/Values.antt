@@ -9,8 +9,8 @@ use Rattle.cf_row.specs.declared.row.Value.TheVariants.{Num, Raw}
 use Rattle.cf_row.specs.Row.{is_of_kind}
 use Rattle.cf_filter.specs.declared.bytes.Class.{Class}
 use Rattle.cf_filter.specs.declared.bytes.Class.TheVariants as classes
-use Rattle.cf_filter.specs.declared.value.Spelling.{Spelling}
-use Rattle.cf_filter.specs.declared.value.Spelling.TheVariants.{Decimal, Hex, Dotted}
+use Rattle.cf_filter.specs.declared.value.ValueForm.{ValueForm}
+use Rattle.cf_filter.specs.declared.value.ValueForm.TheVariants.{Decimal, Hex, Dotted}
 use Rattle.cf_filter.specs.Tokens.{passes, run, past, strip_at, is_digit, is_between}
 
 -- what a digit stands for
@@ -60,7 +60,7 @@ parts_at text = do
   if length d.1 == 0 then Some (a.0, b.0, c.0, d.0) else None
 
 -- how a text is written, if it is written as a value
-abbrev pub form_at : List ℕ → Option Spelling
+abbrev pub form_at : List ℕ → Option ValueForm
 form_at text =
     if is_run_of classes.Digit 1 20 text then Some Decimal else (if is_hex_text text then Some Hex else (if is_some (parts_at text) then Some Dotted else None))
 
@@ -106,7 +106,7 @@ hex_number kind None = None
 hex_number kind (Some digits) = if nat_le (length digits) 16 then of_kind kind (number_at 16 digits) else None
 
 -- the value of a text of this form, if it is lawful for the kind
-abbrev pub lawful : Kind → Spelling → List ℕ → Option Value
+abbrev pub lawful : Kind → ValueForm → List ℕ → Option Value
 lawful (Bytes len) Decimal text = None
 lawful (Bytes len) Hex text = raw_of len (hex_digits text)
 lawful (Bytes len) Dotted text = None
@@ -136,7 +136,7 @@ pub record AreParts (text a b c d : List ℕ) : Type 0 where
   pub fourth : is_run_of classes.Digit 1 3 d ≡ true
 
 -- how a value may be written: decimal digits; 0x and hexadecimal digits; four parts with dots between them
-abbrev pub HasForm : List ℕ → Spelling → Type 0
+abbrev pub HasForm : List ℕ → ValueForm → Type 0
 HasForm text Decimal = is_run_of classes.Digit 1 20 text ≡ true
 HasForm text Hex = (digits : List ℕ) × (text ≡ codes "0x" ++ digits) × (is_run_of classes.Hex 1 32 digits ≡ true)
 HasForm text Dotted = (a b c d : List ℕ) × AreParts text a b c d

@@ -2,7 +2,7 @@
 ghost use Rattle.std.specs.Prelude.{◌≡◌, ℕ, List, ◌≤◌, ◌<◌, length};
 ghost use Rattle.std.specs.Option.{option_map};
 ghost use Rattle.cf_row.specs.Expr.{suits_kind as suits_kind_of};
-ghost use Rattle.cf_filter.specs.Reading.{seen_by, begins_with, attr_named, name_at, op_named, token_at, op_at, bounds_from, atom_at, link_at};
+ghost use Rattle.cf_filter.specs.Reading.{seen_by, begins_with, attr_named, name_at, op_named, token_at, op_at, bounds_from, atom_at, joint_at};
 
 use crate::bytes::{Class, strip, unspaced};
 use crate::fault::{Offence, Stop};
@@ -161,25 +161,25 @@ pub(crate) fn atom_of<'a>(attrs: &[Attr], text: &'a [u8]) -> Result<(Atom, &'a [
 
 /// What joins an atom to what comes after it.
 #[derive(Clone, Copy, Debug, PartialEq, Eq)]
-pub(crate) enum Link {
+pub(crate) enum Joint {
     End,
     And,
     Or,
 }
 
 /// The connective or the end of the text at the front, and what follows it.
-pub(crate) fn link_of(text: &[u8]) -> Result<(Link, &[u8]), Stop>
-    ensures { seen_by (λ x. (x.0, x.1.now)) result ≡ link_at text.now }
+pub(crate) fn joint_of(text: &[u8]) -> Result<(Joint, &[u8]), Stop>
+    ensures { seen_by (λ x. (x.0, x.1.now)) result ≡ joint_at text.now }
 {
     let text = unspaced(text);
     if text.is_empty() {
-        return Ok((Link::End, text));
+        return Ok((Joint::End, text));
     }
     if let Some(rest) = strip(text, b"&&") {
-        return Ok((Link::And, rest));
+        return Ok((Joint::And, rest));
     }
     if let Some(rest) = strip(text, b"||") {
-        return Ok((Link::Or, rest));
+        return Ok((Joint::Or, rest));
     }
     Err(Stop {
         offence: Offence::Syntax,

@@ -27,27 +27,31 @@ pub enum Class {
 
 impl Class {
     /// Whether the byte is of the class.
-    pub fn passes(self, b: u8) -> bool
-        ensures { result ≡ passes_of self b }
+    pub fn passes(self, byte: u8) -> bool
+        ensures { result ≡ passes_of self byte }
     {
         match self {
-            Class::Space => b == b' ',
-            Class::Letter => b >= b'a' && b <= b'z',
-            Class::Name => (b >= b'a' && b <= b'z') || (b >= b'0' && b <= b'9') || b == b'_',
-            Class::Operator => b == b'=' || b == b'!' || b == b'<' || b == b'>',
+            Class::Space => byte == b' ',
+            Class::Letter => byte >= b'a' && byte <= b'z',
+            Class::Name => (byte >= b'a' && byte <= b'z')
+                || (byte >= b'0' && byte <= b'9')
+                || byte == b'_',
+            Class::Operator => byte == b'=' || byte == b'!' || byte == b'<' || byte == b'>',
             Class::Value => {
-                (b >= b'0' && b <= b'9')
-                    || (b >= b'a' && b <= b'z')
-                    || (b >= b'A' && b <= b'Z')
-                    || b == b'.'
-                    || b == b'/'
+                (byte >= b'0' && byte <= b'9')
+                    || (byte >= b'a' && byte <= b'z')
+                    || (byte >= b'A' && byte <= b'Z')
+                    || byte == b'.'
+                    || byte == b'/'
             }
-            Class::Digit => b >= b'0' && b <= b'9',
+            Class::Digit => byte >= b'0' && byte <= b'9',
             Class::Hex => {
-                (b >= b'0' && b <= b'9') || (b >= b'a' && b <= b'f') || (b >= b'A' && b <= b'F')
+                (byte >= b'0' && byte <= b'9')
+                    || (byte >= b'a' && byte <= b'f')
+                    || (byte >= b'A' && byte <= b'F')
             }
-            Class::Text => b >= 32 && b <= 126,
-            Class::Except(other) => b != other,
+            Class::Text => byte >= 32 && byte <= 126,
+            Class::Except(other) => byte != other,
         }
     }
 

@@ -9,7 +9,7 @@ ghost use Rattle.cf_row.specs.declared.expr.Atom.{Atom};
 ghost use Rattle.cf_row.specs.declared.schema.Attr.{Attr};
 ghost use Rattle.cf_filter.specs.Reading.{attr_named};
 
-use crate::atom::{Link, atom_of, attr_of, link_of};
+use crate::atom::{Joint, atom_of, attr_of, joint_of};
 use crate::bytes::{strip, unspaced};
 use crate::fault::{FilterFault, Offence, Stop};
 use cf_row::{Attr, Conjunction, Expr, Kind, Memory, Schema};
@@ -29,17 +29,17 @@ fn conjunctions_of(alloc: Global, attrs: &[Attr], text: &[u8]) -> Result<Result<
             Err(stop) => return Ok(Err(stop)),
         };
         current.push(atom)?;
-        let (link, after) = match link_of(after) {
+        let (joint, after) = match joint_of(after) {
             Ok(found) => found,
             Err(stop) => return Ok(Err(stop)),
         };
-        match link {
-            Link::End => {
+        match joint {
+            Joint::End => {
                 closed.push(Conjunction::new(current))?;
                 return Ok(Ok(Expr::new(closed)));
             }
-            Link::And => {}
-            Link::Or => {
+            Joint::And => {}
+            Joint::Or => {
                 closed.push(Conjunction::new(current))?;
                 current = Vec::new(alloc);
             }

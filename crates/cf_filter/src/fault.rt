@@ -42,7 +42,7 @@ pub enum FilterFault {
     /// More than 32 atoms.
     #[error("more than 32 atoms")]
     TooLong,
-    /// Want of memory.
+    /// Out of memory.
     #[error("out of memory")]
     Memory,
 }

@@ -14,24 +14,24 @@ use cf_row::{Kind, Value};
 
 /// How a value is written.
 #[derive(Clone, Copy, Debug, PartialEq, Eq)]
-pub(crate) enum Spelling {
+pub(crate) enum ValueForm {
     Decimal,
     Hex,
     Dotted,
 }
 
-fn digit_of(b: u8) -> u8
-    ensures value { result ≡ digit_number b }
+fn digit_of(byte: u8) -> u8
+    ensures value { result ≡ digit_number byte }
     ensures small { result ≤ 15 }
 {
-    if b >= b'0' && b <= b'9' {
-        return b - b'0';
+    if byte >= b'0' && byte <= b'9' {
+        return byte - b'0';
     }
-    if b >= b'A' && b <= b'F' {
-        return b - b'A' + 10;
+    if byte >= b'A' && byte <= b'F' {
+        return byte - b'A' + 10;
     }
-    if b >= b'a' && b <= b'f' {
-        return b - b'a' + 10;
+    if byte >= b'a' && byte <= b'f' {
+        return byte - b'a' + 10;
     }
     0
 }
@@ -118,17 +118,17 @@ pub(crate) fn is_dotted(text: &[u8]) -> bool
 }
 
 // How the text is written, if it is a value's.
-pub(crate) fn form_of(text: &[u8]) -> Option<Spelling>
+pub(crate) fn form_of(text: &[u8]) -> Option<ValueForm>
     ensures { result ≡ form_at text.now }
 {
     if is_run_of(Class::Digit, 1, 20, text) {
-        return Some(Spelling::Decimal);
+        return Some(ValueForm::Decimal);
     }
     if is_hex(text) {
-        return Some(Spelling::Hex);
+        return Some(ValueForm::Hex);
     }
     if is_dotted(text) {
-        return Some(Spelling::Dotted);
+        return Some(ValueForm::Dotted);
     }
     None
 }
@@ -186,13 +186,13 @@ fn number_value(kind: Kind, base: u64, digits: &[u8]) -> Option<Value>
     Some(Value::Num(number))
 }
 
-// The byte that the pair of digits number `i` writes, 0 where there is none.
-fn pair_of(digits: &[u8], i: usize) -> u8
-    requires { i < 16 }
-    ensures { result ≡ pair_at digits.now i }
+// The byte that the pair of digits at this place writes, or 0 if there is none.
+fn pair_of(digits: &[u8], place: usize) -> u8
+    requires { place < 16 }
+    ensures { result ≡ pair_at digits.now place }
 {
-    if 2 * i + 1 < digits.len() {
-        return digit_of(digits[2 * i]) * 16 + digit_of(digits[2 * i + 1]);
+    if 2 * place + 1 < digits.len() {
+        return digit_of(digits[2 * place]) * 16 + digit_of(digits[2 * place + 1]);
     }
     0
 }
@@ -209,11 +209,11 @@ fn bytes_of(digits: &[u8]) -> [u8; 16]
 }
 
 // The value of a text of this form, if it is lawful for the kind.
-pub(crate) fn lawful_value(kind: Kind, form: Spelling, text: &[u8]) -> Option<Value>
+pub(crate) fn lawful_value(kind: Kind, form: ValueForm, text: &[u8]) -> Option<Value>
     ensures { result ≡ lawful kind form text.now }
 {
     match (kind, form) {
-        (Kind::Bytes(len), Spelling::Hex) => {
+        (Kind::Bytes(len), ValueForm::Hex) => {
             let Some(digits) = strip(text, b"0x") else {
                 return None;
             };
@@ -226,8 +226,8 @@ pub(crate) fn lawful_value(kind: Kind, form: Spelling, text: &[u8]) -> Option<Va
             })
         }
         (Kind::Bytes(_), _) => None,
-        (_, Spelling::Decimal) => number_value(kind, 10, text),
-        (_, Spelling::Hex) => {
+        (_, ValueForm::Decimal) => number_value(kind, 10, text),
+        (_, ValueForm::Hex) => {
             let Some(digits) = strip(text, b"0x") else {
                 return None;
             };
@@ -236,11 +236,11 @@ pub(crate) fn lawful_value(kind: Kind, form: Spelling, text: &[u8]) -> Option<Va
             }
             number_value(kind, 16, digits)
         }
-        (Kind::U32, Spelling::Dotted) => match address_of(text) {
+        (Kind::U32, ValueForm::Dotted) => match address_of(text) {
             Some(number) => Some(Value::Num(number)),
             None => None,
         },
-        (_, Spelling::Dotted) => None,
+        (_, ValueForm::Dotted) => None,
     }
 }
 

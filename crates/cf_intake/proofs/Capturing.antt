@@ -117,11 +117,20 @@ some_case : (scope : Scope) (b : Bool) (bytes : List ℕ) → ((frames : List Fr
 some_case scope true bytes = elim (one_case_of scope bytes).some [
   | inl whole ↦ inl (whole.0, whole.1)
   | inr bad ↦ inr
-      (record { place = record_of (PcapNg bad.0); code = code_of (PcapNg bad.0); has = record { fault = bad.0; fault_is = bad.1; record_is = refl; code_is = refl } })
+      (record {
+        place = record_of (PcapNg bad.0);
+        code = code_of (PcapNg bad.0);
+        has = record { fault = bad.0; fault_is = bad.1; record_is = refl; code_is = refl };
+      })
 ]
 some_case scope false bytes = elim (records_one scope bytes).some [
   | inl whole ↦ inl (whole.0, whole.1)
-  | inr bad ↦ inr (record { place = record_of (Pcap bad.0); code = code_of (Pcap bad.0); has = record { fault = bad.0; fault_is = bad.1; record_is = refl; code_is = refl } })
+  | inr bad ↦ inr
+      (record {
+        place = record_of (Pcap bad.0);
+        code = code_of (Pcap bad.0);
+        has = record { fault = bad.0; fault_is = bad.1; record_is = refl; code_is = refl };
+      })
 ]
 
 -- Where it may be truncated.

@@ -1,7 +1,6 @@
 -- The rows of one more frame.
 use Rattle.std.proofs.Common.{◌≡◌, ℕ, zero, suc, ◌<◌, ◌+◌, List, [], ◌∷◌, ◌++◌, length, map, take, get_or, sym, ap, ap₂, ◌∙◌, arith, All, subst, refl, length-append}
 use Rattle.std.proofs.lemmas.List.{map-append, get_or-append-add}
-use Rattle.std.proofs.lemmas.List.Elements.{All-append}
 use Rattle.cf_row.specs.Row.{RowValue, Fits}
 use Rattle.cf_packet6.specs.declared.PacketSchema.{PacketSchema}
 use Rattle.cf_row.specs.declared.schema.Attr.{Attr}
@@ -25,18 +24,6 @@ pub more_rows : (schema : PacketSchema) (frames : List FrameValue) (i : ℕ) (fr
     → frame ≡ get_or frames i frame → row ≡ row_by schema frame → rows ≡ packet_rows schema (take i frames) → now ≡ rows ++ (row ∷ [])
     → now ≡ packet_rows schema (take (i + 1) frames)
 more_rows schema frames i frame row rows now lt is row_is before grown = more (row_by schema) frames i frame row rows now lt is row_is before grown
-
-one_fits : (attrs : List Attr) (row : RowValue) → Fits attrs row → All (Fits attrs) (row ∷ [])
-one_fits attrs row fits zero other lt = fits
-one_fits attrs row fits (suc k) other lt = absurd (omega (arith, lt))
-
--- one more fits
-pub fits_more : (attrs : List Attr) (rows : List RowValue) (row : RowValue) → All (Fits attrs) rows → Fits attrs row → All (Fits attrs) (rows ++ row ∷ [])
-fits_more attrs rows row fit fits = All-append (Fits attrs) rows (row ∷ []) fit (one_fits attrs row fits)
-
-pub all_fit : (attrs : List Attr) (rows now : List RowValue) (row : RowValue) → All (Fits attrs) rows → Fits attrs row → now ≡ rows ++ (row ∷ [])
-    → All (Fits attrs) now
-all_fit attrs rows now row fit fits grown = subst (λ (rs : List RowValue). All (Fits attrs) rs) (sym grown) (fits_more attrs rows row fit fits)
 
 -- one of them fits
 pub fits_within : (attrs : List Attr) (rows before after : List RowValue) (row : RowValue) → All (Fits attrs) rows → rows ≡ before ++ row ∷ after

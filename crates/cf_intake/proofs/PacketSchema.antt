@@ -1,5 +1,5 @@
 -- A setup over packets has the attributes of its schema.
-use Rattle.std.proofs.Common.{◌≡◌, ℕ, ◌+◌, List, [], ◌∷◌, Some, Result, Ok, Err, sym, ap, ◌∙◌, subst}
+use Rattle.std.proofs.Common.{◌≡◌, ℕ, ◌+◌, List, [], ◌∷◌, Some, Result, Ok, sym, ap, ◌∙◌, subst}
 use Rattle.cf_row.specs.declared.schema.Attr.{Attr}
 use Rattle.cf_packet6.specs.declared.PacketSchema.{PacketSchema}
 use Rattle.cf_packet6.specs.Schema6.{attrs_by}
@@ -12,6 +12,7 @@ use Rattle.cf_setup.specs.Setups.{SetupValue, settled}
 use Rattle.cf_setup.specs.SetupText.{SetupText, LineSaid, AllSaid}
 use Rattle.cf_setup.specs.SetupText.SetupText.{whole, faulty, empty, large}
 use Rattle.cf_setup.specs.SetupText.LineSaid.{silent, spoken}
+use Rattle.cf_intake.proofs.SetupSize.{ok_no_err}
 
 -- where packets are stated, the attributes of their schema are
 abbrev KeepsPackets : DraftValue → Type 0
@@ -58,9 +59,6 @@ attrs_same a b h = cc
 setup_same : (a b : SetupValue) → ◌≡◌ {A = Result SetupValue (ℕ × ℕ)} (Ok a) (Ok b) → a ≡ b
 setup_same a b h = cc
 
-ok_no_fault : (setup : SetupValue) (fault : ℕ × ℕ) → ◌≡◌ {A = Result SetupValue (ℕ × ℕ)} (Ok setup) (Err fault) → ⊥
-ok_no_fault setup fault h = cc
-
 packets_of : (setup : SetupValue) (stated : DraftValue) (attrs : List Attr) (which : PacketSchema) → setup ≡ settled stated attrs → KeepsPackets stated
     → stated.schema ≡ Some attrs → setup.source ≡ Packets which → setup.schema ≡ attrs_by which
 packets_of setup stated attrs which same kept schema packets =
@@ -72,6 +70,6 @@ pub packet_setup_schema : (bytes : List ℕ) (setup : SetupValue) (which : Packe
 packet_setup_schema bytes setup which (whole stated attrs few said schema is) packets =
     packets_of setup stated attrs which (setup_same setup (settled stated attrs) is)
     (all_keep 1 nothing_stated stated _ said (λ other h. absurd (records_none other h))) schema packets
-packet_setup_schema bytes setup which (faulty front rest line before code few lines said bad is) packets = absurd (ok_no_fault setup _ is)
-packet_setup_schema bytes setup which (empty stated few said schema is) packets = absurd (ok_no_fault setup _ is)
-packet_setup_schema bytes setup which (large many is) packets = absurd (ok_no_fault setup _ is)
+packet_setup_schema bytes setup which (faulty front rest line before code few lines said bad is) packets = absurd (ok_no_err setup _ is)
+packet_setup_schema bytes setup which (empty stated few said schema is) packets = absurd (ok_no_err setup _ is)
+packet_setup_schema bytes setup which (large many is) packets = absurd (ok_no_err setup _ is)

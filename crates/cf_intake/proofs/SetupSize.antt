@@ -14,7 +14,7 @@ use Rattle.cf_intake.specs.Refusals.{unset}
 use Rattle.cf_intake.proofs.Loading.{Ends, read_as, read_broken}
 use Rattle.cf_intake.proofs.Taking.{stopped_read}
 
-ok_no_err : (setup : SetupValue) (fault : ℕ × ℕ) → ◌≡◌ {A = Result SetupValue (ℕ × ℕ)} (Ok setup) (Err fault) → ⊥
+pub ok_no_err : (setup : SetupValue) (fault : ℕ × ℕ) → ◌≡◌ {A = Result SetupValue (ℕ × ℕ)} (Ok setup) (Err fault) → ⊥
 ok_no_err setup fault h = cc
 
 -- no setup is long

@@ -1,17 +1,12 @@
--- A device's fault is told only where the device failed.
-use Rattle.std.specs.Prelude.{◌≡◌, ℕ, ◌≤◌, Result, Err}
-use Rattle.cf_outside.specs.Causes.{Rose}
+-- A device's fault is reported only if the device failed: its count of faults never falls, and rose then.
+use Rattle.std.specs.Prelude.{ℕ, Result}
+use Rattle.cf_outside.specs.Causes.{HasCauseWhen}
 use Rattle.cf_intake.specs.declared.devices.ReadError.{ReadError}
 use Rattle.cf_intake.specs.declared.devices.ReadError.TheVariants.{Failed}
 use Rattle.cf_intake.specs.declared.refusal.Halt.{Halt}
 use Rattle.cf_intake.specs.declared.refusal.Halt.TheVariants.{Stopped}
 use Rattle.cf_intake.specs.declared.refusal.Stop.{Stop}
 use Rattle.cf_intake.specs.declared.refusal.Stop.TheVariants.{ReadFault}
-
--- the count of faults never falls, and rose where the call answers that a device failed
-pub record HasCauseWhen {T E : Type 0} (failure : E) (before now : ℕ) (result : Result T E) : Type 0 where
-  pub later : before ≤ now
-  pub failed : result ≡ Err failure → Rose before now
 
 -- of a call that reads a file,
 abbrev pub HasReadCause : {T : Type 0} → ℕ → ℕ → Result T ReadError → Type 0

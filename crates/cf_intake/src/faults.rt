@@ -17,7 +17,7 @@ pub(crate) enum Fault {
 }
 
 impl Fault {
-    // Its code. Want of memory, which is no fault of the bytes, has 0.
+    // Its code. Out of memory, which is no fault of the bytes, has 0.
     fn code(self) -> u8
         ensures { result ≡ code_of self }
     {

@@ -7,7 +7,7 @@ use Rattle.cf_pcap.specs.Capture.{FrameValue}
 use Rattle.cf_stream.specs.declared.limit.Length.{Length}
 use Rattle.cf_stream.specs.declared.limit.Length.TheVariants.{Limited, Any}
 use Rattle.cf_stream.specs.Limits.{IsShort, IsLong, IsAtLimit, HasRoom as MayCome, IsTotal, total_on}
-use Rattle.cf_stream.proofs.Limits.{limit_long}
+use Rattle.cf_stream.proofs.Limits.{limit_long, total_same}
 use Rattle.cf_stream.specs.Format.{Wants, Bad, ReadsTo, IsFound}
 use Rattle.cf_stream.specs.Stream.{Runs}
 use Rattle.cf_stream.proofs.Feeding as streams
@@ -61,10 +61,6 @@ late_limit Limited total n piece early byte late small is early_is late_is =
 total_more : (l : Length) (total n more after : ℕ) → IsTotal l total n → after ≡ total_on l total more → IsTotal l after (n + more)
 total_more Any total n more after is after_is = tt
 total_more Limited total n more after is after_is = omega (arith, is, after_is)
-
-total_same : (l : Length) (total n m : ℕ) → n ≡ m → IsTotal l total n → IsTotal l total m
-total_same Any total n m same is = tt
-total_same Limited total n m same is = is ∙ same
 
 total_first : (l : Length) (total : ℕ) → total ≡ 0 → IsTotal l total 0
 total_first Any total is = tt

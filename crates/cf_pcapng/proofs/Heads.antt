@@ -1,12 +1,12 @@
 -- The heads of blocks.
-use Rattle.std.proofs.Common.{◌≡◌, inl, inr, ℕ, ◌<◌, ◌≤◌, ◌%◌, ◌^◌, ◌&&◌, ◌==◌, cond, nat_lt, nat_le, Bool, true, false, List, ◌++◌, length, Option, Some, None, refl, sym, ap, ◌∙◌, arith, length-append}
+use Rattle.std.proofs.Common.{◌≡◌, inl, inr, ℕ, ◌<◌, ◌≤◌, ◌%◌, ◌^◌, ◌&&◌, ◌==◌, cond, nat_lt, nat_le, Bool, true, false, List, ◌++◌, length, Option, Some, None, refl, sym, ap, ◌∙◌, arith}
 use Rattle.std.proofs.lemmas.Bool.{cases_lt}
 use Rattle.std.proofs.lemmas.Bool.Decides.{nat_tests}
 use Rattle.cf_lemmas.proofs.Truths.{both}
 use Rattle.cf_pcap.specs.declared.form.Order.{Order}
 use Rattle.cf_pcap.specs.declared.form.Order.TheVariants.{Little, Big}
 use Rattle.cf_pcap.specs.Capture.{number_in}
-use Rattle.cf_pcap.proofs.Following.{number_first, number_later}
+use Rattle.cf_pcap.proofs.Following.{longer, number_first, number_later}
 use Rattle.cf_pcapng.specs.declared.fault.Flaw.TheVariants.{BadLength}
 use Rattle.cf_pcapng.specs.declared.head.Kind.{Kind}
 use Rattle.cf_pcapng.specs.declared.head.Kind.TheVariants.{SectionHeader, InterfaceDescription, EnhancedPacket, SimplePacket, Other}
@@ -58,9 +58,6 @@ order_first xs ys h = rw (number_later Little 4 8 xs ys (omega (arith, h)), numb
 sized_first : (order : Order) (kind : Kind) (xs ys : List ℕ) → 8 ≤ length xs → sized order kind (xs ++ ys) ≡ sized order kind xs
 unfolding sized
 sized_first order kind xs ys h = rw (number_later order 4 4 xs ys (omega (arith, h))) refl
-
-longer : (n : ℕ) (xs ys : List ℕ) → n ≤ length xs → n ≤ length (xs ++ ys)
-longer n xs ys h = rw (length-append xs ys) (omega (arith, h))
 
 in_order_first : (order : Option Order) (xs ys : List ℕ) → 12 ≤ length xs → in_order order (xs ++ ys) ≡ in_order order xs
 in_order_first None xs ys h = refl

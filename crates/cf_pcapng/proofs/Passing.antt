@@ -27,7 +27,7 @@ use Rattle.cf_pcapng.specs.Blocks.{head_of, last_total, content_of, is_section}
 use Rattle.cf_pcapng.specs.File.{State, fault_of, found_at, block_found, step, pcapng}
 use Rattle.cf_pcapng.specs.Reading.{AreRead, WasPassed, Begins, Breaks, AreReadOn, AreReadOnAfter, IsLetGo, IsPassedAt, HasRoom, FitsIn, IsSoundOn, IsGoneOn, MayReadOn, size_by, missing_of}
 use Rattle.cf_pcapng.proofs.Heads.{head_stays, head_by_8, section_first, standing, at_least, at_most, seen_size}
-use Rattle.cf_pcapng.proofs.Steps.{Shown, step_at, found_short, found_whole, length_front, stepper}
+use Rattle.cf_pcapng.proofs.Steps.{Shown, step_at, found_short, found_whole, length_front, block_not_wants, stepper}
 
 -- What a block of an unknown type shows.
 
@@ -103,10 +103,6 @@ passed_flawed scope s block gone bytes was whole other =
 
 -- What is held of a block that has only begun.
 
-not_wants : (scope : Scope) (s : State) (block : List ℕ) (found : Result Content Flaw) → block_found scope.length s block found ≡ Wants → ⊥
-not_wants scope s block (Ok content) h = cc
-not_wants scope s block (Err flaw) h = cc
-
 few_at : (scope : Scope) (s : State) (rest : List ℕ) (head : Head) → head_of s.order rest ≡ head → found_at scope s rest head ≡ Wants
     → IsPassedAt s.order rest None → length rest < 2 ^ 20
 few_at scope s rest Short is h none = let small : length rest < 12 = seen_size s.order rest is in omega (arith, small)
@@ -117,7 +113,7 @@ few_at scope s rest (Stands order kind total) is h none = elim (cases_lt (length
       let most : total ≤ 2 ^ 20 = at_most kind total it.lawful (λ e. none order total short (is ∙ ap (λ (k : Kind). Stands order k total) e)) in
       omega (arith, short, most)
   | inr whole ↦ absurd
-      (not_wants scope s (take total rest) (content_of scope.links s.interfaces order kind (take total rest))
+      (block_not_wants scope s (take total rest) (content_of scope.links s.interfaces order kind (take total rest))
       (sym (found_whole scope s rest order kind total whole) ∙ h))
 ]
 

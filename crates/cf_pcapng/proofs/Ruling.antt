@@ -24,7 +24,7 @@ use Rattle.cf_pcapng.specs.Blocks.{is_section, kind_of, order_at, least, is_with
 use Rattle.cf_pcapng.specs.File.{State, fault_of, frames_of, after, block_found, step}
 use Rattle.cf_pcapng.specs.Rules.{IsSectionType, IsType, BeginsAs, IsLawfulTotal, HasHead, BreaksRule1, BreaksRule2, BreaksRule3, HeadBreaks, IsLink, PacketBreaks, IsLawfulPacket, PacketOfBreaks, PacketOfStates, BlockBreaks, BlockStates, HasBlock, HasFlaw, IsBlock, StepsByRules}
 use Rattle.cf_pcapng.proofs.Heads.{head_section, head_block, section_long, block_long, head_short, section_short, block_short, at_least, at_most}
-use Rattle.cf_pcapng.proofs.Steps.{Shown, step_at, found_short, found_whole, length_front}
+use Rattle.cf_pcapng.proofs.Steps.{Shown, step_at, found_short, found_whole, length_front, wants_not_bad, wants_not_takes, bad_not_takes, taken_size, taken_items, taken_state}
 
 err_same : (a b : Flaw) → ◌≡◌ {A = Result Content Flaw} (Err a) (Err b) → a ≡ b
 err_same a b h = cc
@@ -437,44 +437,26 @@ by_head scope s bytes (Standing order kind total is h) = elim (cases_lt (length 
   | inr whole ↦ by_block scope s bytes order kind total (record { head = h; whole = whole })
 ]
 
-wants_bad : (fault : NgFault) → ◌≡◌ {A = Shown} Wants (Bad fault) → ⊥
-wants_bad fault h = cc
-
-wants_takes : (n : ℕ) (frames : List FrameValue) (t : State) → ◌≡◌ {A = Shown} Wants (Takes n frames t) → ⊥
-wants_takes n frames t h = cc
-
-bad_takes : (fault : NgFault) (n : ℕ) (frames : List FrameValue) (t : State) → ◌≡◌ {A = Shown} (Bad fault) (Takes n frames t) → ⊥
-bad_takes fault n frames t h = cc
-
 bad_same : (a b : NgFault) → ◌≡◌ {A = Shown} (Bad a) (Bad b) → a ≡ b
 bad_same a b h = cc
 
-takes_size : (n m : ℕ) (a b : List FrameValue) (t u : State) → ◌≡◌ {A = Shown} (Takes n a t) (Takes m b u) → n ≡ m
-takes_size n m a b t u h = cc
-
-takes_frames : (n m : ℕ) (a b : List FrameValue) (t u : State) → ◌≡◌ {A = Shown} (Takes n a t) (Takes m b u) → a ≡ b
-takes_frames n m a b t u h = cc
-
-takes_state : (n m : ℕ) (a b : List FrameValue) (t u : State) → ◌≡◌ {A = Shown} (Takes n a t) (Takes m b u) → t ≡ u
-takes_state n m a b t u h = cc
-
 bad_by_rules : (scope : Scope) (s : State) (bytes : List ℕ) (fault : NgFault) → step scope s bytes ≡ Bad fault → StepCase scope s bytes → (flaw : Flaw)
     × (fault ≡ fault_of s.count flaw) × HasFlaw scope.links s bytes flaw
-bad_by_rules scope s bytes fault h (Wanting is) = absurd (wants_bad fault (sym is ∙ h))
+bad_by_rules scope s bytes fault h (Wanting is) = absurd (wants_not_bad fault (sym is ∙ h))
 bad_by_rules scope s bytes fault h (Flaws flaw is breaks) = (flaw, bad_same fault (fault_of s.count flaw) (sym h ∙ is), breaks)
 bad_by_rules scope s bytes fault h (Block n content is block) =
-    absurd (bad_takes fault n (frames_of s.count content (take n bytes)) (after scope.length s content) (sym h ∙ is))
+    absurd (bad_not_takes fault n (frames_of s.count content (take n bytes)) (after scope.length s content) (sym h ∙ is))
 
 takes_by_rules : (scope : Scope) (s : State) (bytes : List ℕ) (n : ℕ) (frames : List FrameValue) (t : State) → step scope s bytes ≡ Takes n frames t
     → StepCase scope s bytes → IsBlock scope s bytes n frames t
-takes_by_rules scope s bytes n frames t h (Wanting is) = absurd (wants_takes n frames t (sym is ∙ h))
-takes_by_rules scope s bytes n frames t h (Flaws flaw is breaks) = absurd (bad_takes (fault_of s.count flaw) n frames t (sym is ∙ h))
+takes_by_rules scope s bytes n frames t h (Wanting is) = absurd (wants_not_takes n frames t (sym is ∙ h))
+takes_by_rules scope s bytes n frames t h (Flaws flaw is breaks) = absurd (bad_not_takes (fault_of s.count flaw) n frames t (sym is ∙ h))
 takes_by_rules scope s bytes n frames t h (Block m content is block) =
     let given : List FrameValue = frames_of s.count content (take m bytes) in
     let next : State = after scope.length s content in
-    subst (λ (k : ℕ). IsBlock scope s bytes k frames t) (takes_size m n given frames next t (sym is ∙ h))
-    (subst (λ (x : List FrameValue). IsBlock scope s bytes m x t) (takes_frames m n given frames next t (sym is ∙ h))
-    (subst (λ (x : State). IsBlock scope s bytes m given x) (takes_state m n given frames next t (sym is ∙ h)) block))
+    subst (λ (k : ℕ). IsBlock scope s bytes k frames t) (taken_size m n given frames next t (sym is ∙ h))
+    (subst (λ (x : List FrameValue). IsBlock scope s bytes m x t) (taken_items m n given frames next t (sym is ∙ h))
+    (subst (λ (x : State). IsBlock scope s bytes m given x) (taken_state m n given frames next t (sym is ∙ h)) block))
 
 block_taken : (scope : Scope) (s : State) (bytes : List ℕ) (n : ℕ) (frames : List FrameValue) (t : State) → IsBlock scope s bytes n frames t
     → step scope s bytes ≡ Takes n frames t

@@ -27,13 +27,13 @@ use Rattle.cf_pcapng.proofs.Heads.{below, not_below, head_short, head_stays, Sta
 abbrev pub Shown : Type 0
 Shown = Found State FrameValue NgFault
 
-wants_not_bad : (fault : NgFault) → ◌≡◌ {A = Shown} Wants (Bad fault) → ⊥
+pub wants_not_bad : (fault : NgFault) → ◌≡◌ {A = Shown} Wants (Bad fault) → ⊥
 wants_not_bad fault h = cc
 
-wants_not_takes : (n : ℕ) (items : List FrameValue) (t : State) → ◌≡◌ {A = Shown} Wants (Takes n items t) → ⊥
+pub wants_not_takes : (n : ℕ) (items : List FrameValue) (t : State) → ◌≡◌ {A = Shown} Wants (Takes n items t) → ⊥
 wants_not_takes n items t h = cc
 
-bad_not_takes : (fault : NgFault) (n : ℕ) (items : List FrameValue) (t : State) → ◌≡◌ {A = Shown} (Bad fault) (Takes n items t) → ⊥
+pub bad_not_takes : (fault : NgFault) (n : ℕ) (items : List FrameValue) (t : State) → ◌≡◌ {A = Shown} (Bad fault) (Takes n items t) → ⊥
 bad_not_takes fault n items t h = cc
 
 pub step_at : (scope : Scope) (s : State) (bytes : List ℕ) (head : Head) → head_of s.order bytes ≡ head → step scope s bytes ≡ found_at scope s bytes head
@@ -79,13 +79,13 @@ pub record Taken (scope : Scope) (s : State) (bytes : List ℕ) (n : ℕ) (items
   pub items_are : items ≡ frames_of s.count content (take n bytes)
   pub after_is : t ≡ after scope.length s content
 
-taken_size : (n m : ℕ) (a b : List FrameValue) (t u : State) → ◌≡◌ {A = Shown} (Takes n a t) (Takes m b u) → n ≡ m
+pub taken_size : (n m : ℕ) (a b : List FrameValue) (t u : State) → ◌≡◌ {A = Shown} (Takes n a t) (Takes m b u) → n ≡ m
 taken_size n m a b t u h = cc
 
-taken_items : (n m : ℕ) (a b : List FrameValue) (t u : State) → ◌≡◌ {A = Shown} (Takes n a t) (Takes m b u) → a ≡ b
+pub taken_items : (n m : ℕ) (a b : List FrameValue) (t u : State) → ◌≡◌ {A = Shown} (Takes n a t) (Takes m b u) → a ≡ b
 taken_items n m a b t u h = cc
 
-taken_state : (n m : ℕ) (a b : List FrameValue) (t u : State) → ◌≡◌ {A = Shown} (Takes n a t) (Takes m b u) → t ≡ u
+pub taken_state : (n m : ℕ) (a b : List FrameValue) (t u : State) → ◌≡◌ {A = Shown} (Takes n a t) (Takes m b u) → t ≡ u
 taken_state n m a b t u h = cc
 
 pub length_front : (n : ℕ) (bytes : List ℕ) → n ≤ length bytes → length (take n bytes) ≡ n
@@ -196,7 +196,7 @@ taken_total scope s bytes order kind total n items t h = elim (cases_lt (length 
       sym (length_front total bytes whole)
       ∙ taken_size (length (take total bytes)) n (frames_of s.count content (take total bytes)) items (after scope.length s content) t e
 
-block_not_wants : (scope : Scope) (s : State) (block : List ℕ) (found : Result Content Flaw) → block_found scope.length s block found ≡ Wants → ⊥
+pub block_not_wants : (scope : Scope) (s : State) (block : List ℕ) (found : Result Content Flaw) → block_found scope.length s block found ≡ Wants → ⊥
 block_not_wants scope s block (Err flaw) h = wants_not_bad (fault_of s.count flaw) (sym h)
 block_not_wants scope s block (Ok content) h = wants_not_takes (length block) (frames_of s.count content block) (after scope.length s content) (sym h)
 

@@ -1,7 +1,7 @@
 -- Captures that end within a block.
 use Rattle.std.proofs.Common.{◌≡◌, inl, inr, ℕ, Bool, true, false, List, [], ◌∷◌, ◌++◌, take, Option, Some, None, Ok, Err, is_some, refl, sym, ap, subst, ◌∙◌}
 use Rattle.cf_stream.specs.declared.limit.Length.{Length}
-use Rattle.cf_stream.specs.Format.{Wants, Takes, Part as UnitPart, AreUnitsThen, IsCut, IsFound}
+use Rattle.cf_stream.specs.Format.{Takes, Part as UnitPart, AreUnitsThen, IsCut, IsFound}
 use Rattle.cf_stream.specs.Stream.{AreGiven}
 use Rattle.cf_pcap.specs.declared.scope.Scope.{Scope}
 use Rattle.cf_pcap.specs.declared.form.Order.{Order}
@@ -21,7 +21,7 @@ use Rattle.cf_pcapng.specs.File.{State, fault_of, after, step, pcapng}
 use Rattle.cf_pcapng.specs.Rules.{BlockStates, IsBlock, blocks}
 use Rattle.cf_pcapng.specs.Reader.{PcapNgValue, IsRunning, IsStateOf, IsEnded}
 use Rattle.cf_pcapng.specs.Truncated.{IsTruncated, Says, Breaks, HasBegun, TruncatedCase}
-use Rattle.cf_pcapng.proofs.Steps.{Shown, stepper}
+use Rattle.cf_pcapng.proofs.Steps.{wants_not_takes, stepper}
 use Rattle.cf_pcapng.proofs.Ruling.{steps_by_rules}
 use Rattle.cf_pcapng.proofs.Filing.{file_by_rules}
 
@@ -75,9 +75,6 @@ by scope = record {
   unfound = not_found scope;
 }
 
-no_unit : (n : ℕ) (items : List FrameValue) (t : State) → ◌≡◌ {A = Shown} Wants (Takes n items t) → ⊥
-no_unit n items t h = cc
-
 header_so_far : (scope : Scope) (file : List ℕ) → HasBegun scope file → (last : State) (cut : IsCut (pcapng scope) file last)
     → (pcapng scope).may_end last ≡ true
 header_so_far scope file has last cut =
@@ -85,7 +82,7 @@ header_so_far scope file has last cut =
     (steps_by_rules scope (pcapng scope).start file).block has.0 has.1 has.2 has.3 in
     elim (begun_or_not (pcapng scope) (may_end scope) (pcapng scope).start cut.read.parts file last cut.rest cut.read.units) [
       | inl none ↦
-          absurd (no_unit has.0 has.1 has.2
+          absurd (wants_not_takes has.0 has.1 has.2
           (sym cut.part ∙ ap (λ xs. step scope last xs) (sym none.1) ∙ ap (λ (x : State). step scope x file) (sym none.0) ∙ begins))
       | inr begun ↦ begun
     ]

@@ -52,7 +52,7 @@ fn next_of(links: LinkSet, position: &Position<'_>, bytes: &[u8]) -> Next
 }
 
 // What was read, where the blocks end.
-fn stopped<'a, 'b>(
+fn finish_read<'a, 'b>(
     position: Position<'a>,
     frames: Vec<Frame>,
     rest: &'b [u8],
@@ -91,8 +91,8 @@ pub(crate) fn read_blocks<'a, 'b>(
                 position.pass(alloc, scope.length, content, block, &mut frames)?;
                 left = after;
             }
-            Next::Wants => return Ok(stopped(position, frames, left, None)),
-            Next::Flawed(flaw) => return Ok(stopped(position, frames, left, Some(flaw))),
+            Next::Wants => return Ok(finish_read(position, frames, left, None)),
+            Next::Flawed(flaw) => return Ok(finish_read(position, frames, left, Some(flaw))),
         }
     }
 }

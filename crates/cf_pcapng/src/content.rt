@@ -137,8 +137,8 @@ fn interface_of(order: Order, block: &[u8]) -> Interface
     }
 }
 
-// What a block states whose last field is its length.
-fn stated(
+// What a block of this kind states, if its last field is its length.
+fn content_of_kind(
     links: LinkSet,
     interfaces: &Interfaces<'_>,
     order: Order,
@@ -182,5 +182,5 @@ pub(crate) fn content_of(
     if last as usize != block.len() {
         return Err(Flaw::BadLength);
     }
-    stated(links, interfaces, order, kind, block)
+    content_of_kind(links, interfaces, order, kind, block)
 }

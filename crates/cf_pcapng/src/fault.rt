@@ -33,7 +33,7 @@ pub enum NgFault {
     /// A packet's interface isn't one of its section.
     #[error("the interface of packet {0} isn't one of its section")]
     NoInterface(u32),
-    /// Want of memory, which is no fault of the stream.
+    /// Out of memory, which is no fault of the stream.
     #[error("out of memory")]
     Memory,
 }

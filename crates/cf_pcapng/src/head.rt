@@ -79,9 +79,9 @@ fn may_have(kind: Kind, total: u32) -> bool
     }
 }
 
-// The head of a block of this byte order and kind.
+// The head of a block of this byte order and kind, by its total length.
 #[tactic(auto, unfolding(crate::specs::Blocks::sized))]
-fn sized(order: Order, kind: Kind, bytes: &[u8]) -> Head
+fn head_of_kind(order: Order, kind: Kind, bytes: &[u8]) -> Head
     requires { 8 ≤ length bytes.now }
     ensures { result ≡ sized_head order kind bytes.now }
 {
@@ -103,7 +103,7 @@ fn section_head(bytes: &[u8]) -> Head
     }
     match order_of(bytes) {
         None => Head::Flawed(Flaw::BadMagic),
-        Some(order) => sized(order, Kind::SectionHeader, bytes),
+        Some(order) => head_of_kind(order, Kind::SectionHeader, bytes),
     }
 }
 
@@ -124,5 +124,5 @@ pub(crate) fn head_of(section: Option<Order>, bytes: &[u8]) -> Head
     if bytes.len() < 8 {
         return Head::Short;
     }
-    sized(order, kind_of(order.read_u32(bytes)), bytes)
+    head_of_kind(order, kind_of(order.read_u32(bytes)), bytes)
 }

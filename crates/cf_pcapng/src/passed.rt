@@ -99,8 +99,8 @@ fn passed_at(section: Option<Order>, rest: &[u8]) -> Option<Passed>
     }
 }
 
-// The bytes that are held and those that come.
-fn joined(alloc: Global, held: &[u8], more: &[u8]) -> Result<Vec<u8>, AllocError>
+// The held bytes and those that come, as one.
+fn join_bytes(alloc: Global, held: &[u8], more: &[u8]) -> Result<Vec<u8>, AllocError>
     ensures { IfOk result (λ bytes. bytes.items ≡ held.now ++ more.now) }
 {
     let mut bytes = held.to_vec(alloc)?;
@@ -136,12 +136,12 @@ fn missing(
         return Ok(LAST_FIELD.saturating_sub(held.len()));
     }
     let first = cut_at(more, HEAD.saturating_sub(held.len())).0;
-    let seen = joined(alloc, cut_at(held, HEAD).0, first)?;
+    let seen = join_bytes(alloc, cut_at(held, HEAD).0, first)?;
     Ok(size_of(section, &seen).saturating_sub(held.len()))
 }
 
-// Lets go of a block that is only passed over.
-fn let_go<'a>(alloc: Global, read: Read<'a, '_>) -> Result<Given<'a>, AllocError>
+// Drops the bytes of a block that is only passed over, up to its last field, if one begins where the reading ended.
+fn drop_passed_block<'a>(alloc: Global, read: Read<'a, '_>) -> Result<Given<'a>, AllocError>
     ensures read { IfOk result (LetsGo read.entry) }
     ensures had { IfOk result (λ given. given.position.listed.had ≡ read.entry.position.listed.had) }
 {
@@ -185,8 +185,8 @@ fn let_go<'a>(alloc: Global, read: Read<'a, '_>) -> Result<Given<'a>, AllocError
     }
 }
 
-// Goes on in a block at hand, of which the next bytes come.
-fn go_past<'a>(
+// Passes over the next bytes of a block at hand, and reads the blocks after it.
+fn resume_passed_block<'a>(
     alloc: Global,
     scope: Scope,
     position: Position<'a>,
@@ -203,7 +203,7 @@ fn go_past<'a>(
     match block.resume(bytes) {
         Resumed::Over(left) => {
             let read = read_blocks(alloc, scope, position, frames, bytes.split_at(left).1)?;
-            let_go(alloc, read)
+            drop_passed_block(alloc, read)
         }
         Resumed::Within(passed, some) => {
             let held = bytes.split_at(some).1.to_vec(alloc)?;
@@ -241,10 +241,10 @@ fn read_next<'a>(
     ensures had { IfOk result (λ given. given.position.listed.had ≡ position.entry.listed.had) }
 {
     match passed {
-        Some(block) => go_past(alloc, scope, position, frames, block, bytes),
+        Some(block) => resume_passed_block(alloc, scope, position, frames, block, bytes),
         None => {
             let read = read_blocks(alloc, scope, position, frames, bytes)?;
-            let_go(alloc, read)
+            drop_passed_block(alloc, read)
         }
     }
 }
@@ -274,12 +274,12 @@ fn read_on<'a>(
     if held.is_empty() {
         return read_next(alloc, scope, position, frames, passed, more);
     }
-    let bytes = joined(alloc, &held, more)?;
+    let bytes = join_bytes(alloc, &held, more)?;
     read_next(alloc, scope, position, frames, passed, &bytes)
 }
 
-// Reads the bytes that are held and those that come. Of these no more is copied than the block needs that hung over.
-pub(crate) fn go_on<'a>(
+// Reads the held bytes and those of a piece. Of the piece no more is copied than completes the held block.
+pub(crate) fn read_piece<'a>(
     alloc: Global,
     scope: Scope,
     position: Position<'a>,
@@ -296,7 +296,7 @@ pub(crate) fn go_on<'a>(
 {
     let count = missing(alloc, position.order(), passed, held, more)?;
     let (first, others) = cut_at(more, count);
-    let bytes = joined(alloc, held, first)?;
+    let bytes = join_bytes(alloc, held, first)?;
     let given = read_next(alloc, scope, position, Vec::new(alloc), passed, &bytes)?;
     read_on(alloc, scope, given, others)
 }

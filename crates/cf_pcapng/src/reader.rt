@@ -15,7 +15,7 @@ ghost use Rattle.cf_pcapng.specs.Truncated.{Says, Breaks};
 
 use crate::fault::NgFault;
 use crate::interfaces::Interface;
-use crate::passed::{Given, Passed, go_on};
+use crate::passed::{Given, Passed, read_piece};
 use crate::position::{Position, Reached};
 use cf_pcap::{Frame, LinkSet, Order, Scope};
 use cf_stream::{LIMIT, Length, Stage};
@@ -93,7 +93,7 @@ fn stage_at_limit(
     ensures { IfOk result (IsStageAtLimit scope (state_of given.now.position) given.now.passed given.now.held.items byte.now) }
 {
     let position = given.position.copy(alloc)?;
-    let last = go_on(alloc, scope, position, given.passed, &given.held, byte)?;
+    let last = read_piece(alloc, scope, position, given.passed, &given.held, byte)?;
     match last.flaw {
         Some(flaw) => Ok(Stage::Stopped(flaw.after(last.position.count()))),
         None => Ok(Stage::Stopped(NgFault::TooManyBytes)),
@@ -119,16 +119,16 @@ fn stage_after(
     stage_at_limit(alloc, scope, given, late.split_at(1).0)
 }
 
-// The bytes of a piece that come early enough for a frame, where so many came before, and the others.
-fn cut(limit: Length, total: usize, piece: &[u8]) -> (&[u8], &[u8])
+// Splits a piece, after so many bytes: those that come early enough for a frame, and the others.
+fn split_late(limit: Length, total: usize, piece: &[u8]) -> (&[u8], &[u8])
     ensures early { result.0.now ≡ early_of limit total piece.now }
     ensures late { result.1.now ≡ late_of limit total piece.now }
 {
     limit.cut(piece, LAST.saturating_sub(total))
 }
 
-// The bytes that a reader keeps at a stage.
-fn kept(alloc: Global, stage: Stage<NgFault>, held: Vec<u8>) -> Vec<u8>
+// The held bytes, of which a reader that has stopped keeps none.
+fn keep_if_running(alloc: Global, stage: Stage<NgFault>, held: Vec<u8>) -> Vec<u8>
     ensures { result.items ≡ kept_at stage held.items }
 {
     match stage {
@@ -137,7 +137,7 @@ fn kept(alloc: Global, stage: Stage<NgFault>, held: Vec<u8>) -> Vec<u8>
     }
 }
 
-// Takes over what a piece brought: its interfaces and its frames, or none of them where memory is wanting.
+// Takes over what a piece brought: its interfaces and its frames, or none of them if memory runs out.
 fn take_over(
     interfaces: &mut Vec<Interface>,
     anew: bool,
@@ -230,9 +230,9 @@ impl PcapNg {
         ensures { IfOk result (λ called. IsCalled self.now piece.now called.frames.items (reader_after self.now called)) }
     {
         let limit = self.scope.length;
-        let (early, late) = cut(limit, self.total, piece);
+        let (early, late) = split_late(limit, self.total, piece);
         let position = Position::new(self.alloc, self.order, &self.interfaces, self.count);
-        let given = go_on(
+        let given = read_piece(
             self.alloc,
             self.scope,
             position,
@@ -246,7 +246,7 @@ impl PcapNg {
             total: limit.total_after(self.total, early.len()),
             reached: given.position.reached(),
             passed: given.passed,
-            held: kept(self.alloc, stage, given.held),
+            held: keep_if_running(self.alloc, stage, given.held),
             frames: given.frames,
         })
     }

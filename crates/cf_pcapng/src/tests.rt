@@ -54,7 +54,7 @@ struct Told {
     end: Result<u32, NgFault>,
 }
 
-/// Feeds a piece, and once more where memory is wanting.
+/// Feeds a piece, and once more if memory runs out.
 fn feed_again(pcapng: &mut PcapNg, piece: &[u8], out: &mut Vec<Frame>) -> Result<(), NgFault> {
     match pcapng.feed(piece, out) {
         Err(NgFault::Memory) => pcapng.feed(piece, out),

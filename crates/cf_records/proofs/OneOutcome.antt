@@ -1,11 +1,10 @@
 -- A text is one thing: its rows, or one first fault.
 use Rattle.std.proofs.Common.{List, ℕ, zero, suc, ◌≡◌, ◌≢◌, ◌<◌, ◌≤◌, ◌+◌, ◌^◌, ◌⊎◌, ◌∙◌, sym, refl, ap, ap₂, [], ◌∷◌, ◌++◌, length, take, slice_get, arith, subst, Some, None, Result, Ok, Err, inl, inr}
 use Rattle.cf_row.specs.declared.schema.Attr.{Attr}
-use Rattle.cf_row.specs.declared.schema.Kind.{Kind}
 use Rattle.cf_row.specs.declared.row.Value.{Value}
 use Rattle.cf_row.specs.Row.{RowValue}
 use Rattle.cf_filter.specs.Grammar.{ValueText}
-use Rattle.cf_filter.proofs.ValueLaws.{value_only}
+use Rattle.cf_filter.proofs.ValueLaws.{value_one}
 use Rattle.cf_records.specs.declared.fault.RecordFault.{RecordFault}
 use Rattle.cf_records.specs.declared.fault.RecordFault.TheVariants.{NoHeader, BadHeader, BadCount, BadValue, TooManyBytes, Memory}
 use Rattle.cf_records.specs.Records.{AreRead, names_of, HaveValues, AreRows, HasBadField, HasRecordFault, HasFaultyRecord, HasOtherHeader, HasRecordsFault, IsRecordFile, RecordsText}
@@ -17,9 +16,6 @@ Records = List (List (List ℕ))
 some_same : {A : Type 0} (a b : A) → Some a ≡ Some b → a ≡ b
 some_same a b h = cc
 
-one_value : (kind : Kind) (text : List ℕ) (a b : Value) → ValueText kind text a → ValueText kind text b → a ≡ b
-one_value kind text a b p q = some_same a b (sym (value_only kind text a p) ∙ value_only kind text b q)
-
 one_values : (attrs : List Attr) (fields : List (List ℕ)) (a b : List Value) → HaveValues attrs fields a → HaveValues attrs fields b → a ≡ b
 one_values [] [] [] [] p q = refl
 one_values [] [] [] (y ∷ b) p q = absurd q
@@ -28,7 +24,7 @@ one_values [] (f ∷ fields) a b p q = absurd p
 one_values (attr ∷ attrs) [] a b p q = absurd p
 one_values (attr ∷ attrs) (f ∷ fields) [] b p q = absurd p
 one_values (attr ∷ attrs) (f ∷ fields) (x ∷ a) [] p q = absurd q
-one_values (attr ∷ attrs) (f ∷ fields) (x ∷ a) (y ∷ b) p q = ap₂ ◌∷◌ (one_value attr.kind f x y p.0 q.0) (one_values attrs fields a b p.1 q.1)
+one_values (attr ∷ attrs) (f ∷ fields) (x ∷ a) (y ∷ b) p q = ap₂ ◌∷◌ (value_one attr.kind f x y p.0 q.0) (one_values attrs fields a b p.1 q.1)
 
 same_row : (a b : RowValue) → a.num ≡ b.num → a.values ≡ b.values → a ≡ b
 same_row a b num values = ap₂ (λ (n : ℕ) (vs : List Value). record { num = n; values = vs }) num values

@@ -23,7 +23,7 @@ pub enum RecordFault {
     /// 2^24 bytes or more.
     #[error("the text has 2^24 bytes or more")]
     TooManyBytes,
-    /// Want of memory.
+    /// Out of memory.
     #[error("out of memory")]
     Memory,
 }

@@ -5,7 +5,8 @@ use Rattle.cf_intake.proofs.devices.read_file.Goals as goal
 pub returns-clause-read : goal.returns-clause-read
 returns-clause-read g c =
     reads_opened (g.F.Shelf.files c.args.shelf.now) c.args.name.now c.args.limit (g.F.Shelf.rest c.args.shelf.now) (g.F.Shelf.rest c.open.new.self)
-    (g.F.Shelf.rest c.read_rest.new.shelf) c.read_rest.result c.in_ok-open.ensures.opens c.read_rest.ensures.taken c.read_rest.ensures.stopped c.read_rest.ensures.present
+    (g.F.Shelf.rest c.read_rest.new.shelf) c.read_rest.result c.in_ok-open.ensures.opens c.read_rest.ensures.taken c.read_rest.ensures.stopped
+    c.read_rest.ensures.present
 
 pub returns-in_err-open-clause-read : goal.returns-in_err-open-clause-read
 returns-in_err-open-clause-read g c =

@@ -21,4 +21,5 @@ pub returns-clause-few : goal.returns-clause-few
 returns-clause-few c =
     let few = c.in_ok-feed.ensures.few in
     IfOk-weaker c.rows_of.result _ _
-    (λ _ are stream frames at. rows_few c.args.schema c.args.piece.now c.new-frames.result.items c.feed.new.out.items _ _ c.new-frames.ensures.items c.deref.ensures.value are (few stream frames at)) c.rows_of.ensures.rows
+    (λ _ are stream frames at. rows_few c.args.schema c.args.piece.now c.new-frames.result.items c.feed.new.out.items _ _ c.new-frames.ensures.items
+    c.deref.ensures.value are (few stream frames at)) c.rows_of.ensures.rows

@@ -47,8 +47,8 @@ loop-total-preserved c =
 pub returns-in-Wants-clause-read : goal.returns-in-Wants-clause-read
 returns-in-Wants-clause-read c =
     let at = c.loop-total in
-    let read = c.stopped.result in
-    let is = c.stopped.ensures in
+    let read = c.finish_read.result in
+    let is = c.finish_read.ensures in
     read_of c.args.scope (state_of c.args.position) c.args.bytes.now c.args.frames.items at.invariant.read.0 at.frames.items read.frames.items
     (state_of at.position) (state_of read.position) at.left.now read.rest.now None read.flaw at.invariant.read.2
     (step_of c.args.scope (state_of at.position) at.left.now next.Wants c.in-Wants.ensures.value) at.invariant.read.1
@@ -58,8 +58,8 @@ pub returns-in-Flawed-clause-read : goal.returns-in-Flawed-clause-read
 returns-in-Flawed-clause-read c =
     let at = c.loop-total in
     let flaw = c.in-Flawed.flaw in
-    let read = c.stopped-in-Flawed.result in
-    let is = c.stopped-in-Flawed.ensures in
+    let read = c.finish_read-in-Flawed.result in
+    let is = c.finish_read-in-Flawed.ensures in
     read_of c.args.scope (state_of c.args.position) c.args.bytes.now c.args.frames.items at.invariant.read.0 at.frames.items read.frames.items
     (state_of at.position) (state_of read.position) at.left.now read.rest.now (Some flaw) read.flaw at.invariant.read.2
     (step_of c.args.scope (state_of at.position) at.left.now (next.Flawed flaw) c.in-Flawed.ensures.value) at.invariant.read.1

@@ -67,7 +67,8 @@ returns-in-Err-clause-answer c =
     elim c.in-Err.ensures.row [
       | inl memory ↦ inl memory
       | inr wrong ↦ inr
-          (first_fault c.args.schema.now c.args.bytes.now c.requires.small far.0 c.loop-num.rows.items fields c.read_next-in-loop-num.new.reader c.in-Err.fault on far.2 (subst (λ (n : ℕ). HasRecordFault c.args.schema.now fields n c.in-Err.fault) (sym far.3) wrong))
+          (first_fault c.args.schema.now c.args.bytes.now c.requires.small far.0 c.loop-num.rows.items fields c.read_next-in-loop-num.new.reader c.in-Err.fault
+          on far.2 (subst (λ (n : ℕ). HasRecordFault c.args.schema.now fields n c.in-Err.fault) (sym far.3) wrong))
     ]
 
 pub loop-num-preserved : goal.loop-num-preserved
@@ -87,7 +88,8 @@ loop-num-preserved c = record {
         subst (λ (rs : List RowValue). AreRows c.args.schema.now 0 (far.0 ++ (fields ∷ [])) rs) (sym c.in_ok-push-in-Ok.ensures.items) more,
         lines_more far.0 fields c.loop-num.num far.3,
       );
-  fit = all_fit c.args.schema.now c.loop-num.rows.items c.push.new.self.items c.in-Ok.row c.loop-num.invariant.fit c.in-Ok.ensures.fits c.in_ok-push-in-Ok.ensures.items;
+  fit = all_fit c.args.schema.now c.loop-num.rows.items c.push.new.self.items c.in-Ok.row c.loop-num.invariant.fit c.in-Ok.ensures.fits
+      c.in_ok-push-in-Ok.ensures.items;
 }
 
 pub unreachable-requires : goal.unreachable-requires

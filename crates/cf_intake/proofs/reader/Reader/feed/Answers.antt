@@ -40,7 +40,11 @@ returns-in_default-feed-clause-fed c =
     let is : c.args.self.now ≡ PcapNg c.in-PcapNg.pcapng = search rules in
     let other : c.feed-in-PcapNg.result ≢ Err ng.Memory = search rules in
     let fed = c.feed-in-PcapNg.ensures.fed other in
-    rw is (fed.0, fed.1, blocks_fed c.in-PcapNg.pcapng c.feed-in-PcapNg.new.self c.feed-in-PcapNg.ensures.scope c.args.piece.now fed.0 c.feed-in-PcapNg.result fed.2)
+    rw is (
+      fed.0,
+      fed.1,
+      blocks_fed c.in-PcapNg.pcapng c.feed-in-PcapNg.new.self c.feed-in-PcapNg.ensures.scope c.args.piece.now fed.0 c.feed-in-PcapNg.result fed.2,
+    )
 
 pub returns-in_default-feed-clause-few : goal.returns-in_default-feed-clause-few
 returns-in_default-feed-clause-few c =
@@ -48,14 +52,19 @@ returns-in_default-feed-clause-few c =
     let other : c.feed-in-PcapNg.result ≢ Err ng.Memory = search rules in
     let fed = c.feed-in-PcapNg.ensures.fed other in
     rw is
-    (blocks_few c.in-PcapNg.pcapng c.feed-in-PcapNg.new.self c.args.piece.now fed.0 c.args.out.now.items c.feed-in-PcapNg.new.out.items c.feed-in-PcapNg.result fed.1 fed.2)
+    (blocks_few c.in-PcapNg.pcapng c.feed-in-PcapNg.new.self c.args.piece.now fed.0 c.args.out.now.items c.feed-in-PcapNg.new.out.items c.feed-in-PcapNg.result
+    fed.1 fed.2)
 
 pub returns-in_default-feed-2-clause-fed : goal.returns-in_default-feed-2-clause-fed
 returns-in_default-feed-2-clause-fed c =
     let is : c.args.self.now ≡ PcapNg c.in-PcapNg.pcapng = search rules in
     let other : c.feed-in-PcapNg.result ≢ Err ng.Memory = search rules in
     let fed = c.feed-in-PcapNg.ensures.fed other in
-    rw is (fed.0, fed.1, blocks_fed c.in-PcapNg.pcapng c.feed-in-PcapNg.new.self c.feed-in-PcapNg.ensures.scope c.args.piece.now fed.0 c.feed-in-PcapNg.result fed.2)
+    rw is (
+      fed.0,
+      fed.1,
+      blocks_fed c.in-PcapNg.pcapng c.feed-in-PcapNg.new.self c.feed-in-PcapNg.ensures.scope c.args.piece.now fed.0 c.feed-in-PcapNg.result fed.2,
+    )
 
 pub returns-in_default-feed-2-clause-few : goal.returns-in_default-feed-2-clause-few
 returns-in_default-feed-2-clause-few c =
@@ -63,4 +72,5 @@ returns-in_default-feed-2-clause-few c =
     let other : c.feed-in-PcapNg.result ≢ Err ng.Memory = search rules in
     let fed = c.feed-in-PcapNg.ensures.fed other in
     rw is
-    (blocks_few c.in-PcapNg.pcapng c.feed-in-PcapNg.new.self c.args.piece.now fed.0 c.args.out.now.items c.feed-in-PcapNg.new.out.items c.feed-in-PcapNg.result fed.1 fed.2)
+    (blocks_few c.in-PcapNg.pcapng c.feed-in-PcapNg.new.self c.args.piece.now fed.0 c.args.out.now.items c.feed-in-PcapNg.new.out.items c.feed-in-PcapNg.result
+    fed.1 fed.2)

@@ -15,7 +15,8 @@ returns c = λ bytes rows have.
     let opening : IsOpening held bytes rows = rw c.in-None.is at have.by in
     let begins = rw c.deref.ensures.value at c.in_ok-reader-in-None.ensures.blocks in
     let fed = rw c.deref-in-None.ensures.value at c.in_ok-feed_rows-in-None.ensures.fed in
-    ended_short c.args.self.schema c.args.truncated c.in_ok-reader-in-None.reader c.feed_rows.new.reader held bytes rows c.in_ok-feed_rows-in-None.field-0.items fed.0
+    ended_short c.args.self.schema c.args.truncated c.in_ok-reader-in-None.reader c.feed_rows.new.reader held bytes rows
+    c.in_ok-feed_rows-in-None.field-0.items fed.0
     c.finish-in-None.result opening begins (c.in_ok-reader-in-None.ensures.scope ∙ (c.unlimited.ensures ∙ ap unlimited c.links_of.ensures))
     c.in_ok-reader-in-None.ensures.begins
     c.in_ok-feed_rows-in-None.ensures.blocks c.in_ok-feed_rows-in-None.ensures.scope fed.1 fed.2 c.finish-in-None.ensures

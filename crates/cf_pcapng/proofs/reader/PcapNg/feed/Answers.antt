@@ -15,7 +15,8 @@ returns-in-Stopped-clause-fed c =
     λ _. (
       [],
       sym (append-nil c.args.out.now.items),
-      λ stream state. fed_stopped (pcapng reader.scope) (stepper reader.scope) c.in-Stopped.fault reader.stage (IsRunning reader) stream c.args.piece.now is state,
+      λ stream state. fed_stopped (pcapng reader.scope) (stepper reader.scope) c.in-Stopped.fault reader.stage
+          (IsRunning reader) stream c.args.piece.now is state,
     )
 
 pub returns-in-Stopped-clause-stopped : goal.returns-in-Stopped-clause-stopped

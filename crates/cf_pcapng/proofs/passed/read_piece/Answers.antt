@@ -4,7 +4,7 @@ use Rattle.cf_pcapng.specs.Position.{state_of}
 use Rattle.cf_pcapng.specs.Reading.{AreReadOn, IsGoneOn}
 use Rattle.cf_pcapng.proofs.Passing.{in_parts, first_read, both_lengths}
 use Rattle.cf_pcapng.proofs.Nexts.{by_ok}
-use Rattle.cf_pcapng.proofs.passed.go_on.Goals as goal
+use Rattle.cf_pcapng.proofs.passed.read_piece.Goals as goal
 
 pub returns-clause-sound : goal.returns-clause-sound
 returns-clause-sound c =

@@ -3,7 +3,7 @@ use Rattle.cf_pcapng.specs.Position.{state_of}
 use Rattle.cf_pcapng.specs.Reading.{AreRead, IsSoundOn, Begins}
 use Rattle.cf_pcapng.proofs.Passing.{goes_within, goes_wrong, goes_over, sound_over, sound_within}
 use Rattle.cf_pcapng.proofs.Nexts.{by_ok}
-use Rattle.cf_pcapng.proofs.passed.go_past.Goals as goal
+use Rattle.cf_pcapng.proofs.passed.resume_passed_block.Goals as goal
 
 pub returns-in_ok-read-in-Over-clause-read : goal.returns-in_ok-read-in-Over-clause-read
 returns-in_ok-read-in-Over-clause-read c =
@@ -14,14 +14,14 @@ returns-in_ok-read-in-Over-clause-read c =
     let all = c.in_ok-read-in-Over.ensures.read in
     let rest : AreRead c.args.scope s (drop left bytes) all.more (state_of read.position) read.rest.now read.flaw =
     subst (λ (xs : List ℕ). AreRead c.args.scope s xs all.more (state_of read.position) read.rest.now read.flaw) c.split_at.ensures.back all.read in
-    by_ok c.let_go.result _ _
+    by_ok c.drop_passed_block.result _ _
     (λ given on. record {
       more = all.more;
       frames_are = on.0 ∙ all.frames_are;
       read = λ gone was. on.1 c.args.scope s (gone ++ bytes) all.more
           (goes_over c.args.scope s c.args.block gone bytes left all.more (state_of read.position) read.rest.now read.flaw was c.in-Over.ensures.0
           c.in-Over.ensures.1 c.in-Over.ensures.2 rest);
-    }) c.let_go.ensures.read
+    }) c.drop_passed_block.ensures.read
 
 pub returns-in_ok-held-in-Within-clause-read : goal.returns-in_ok-held-in-Within-clause-read
 returns-in_ok-held-in-Within-clause-read c =
@@ -54,9 +54,9 @@ returns-in_ok-read-in-Over-clause-sound c =
     let all = c.in_ok-read-in-Over.ensures.read in
     let rest : AreRead c.args.scope s (drop left bytes) all.more (state_of read.position) read.rest.now read.flaw =
     subst (λ (xs : List ℕ). AreRead c.args.scope s xs all.more (state_of read.position) read.rest.now read.flaw) c.split_at.ensures.back all.read in
-    by_ok c.let_go.result _ _
+    by_ok c.drop_passed_block.result _ _
     (λ given on. sound_over c.args.scope s bytes left all.more (state_of given.position) given.passed given.held.items given.flaw
-    (on.1 c.args.scope s (drop left bytes) all.more rest)) c.let_go.ensures.read
+    (on.1 c.args.scope s (drop left bytes) all.more rest)) c.drop_passed_block.ensures.read
 
 pub returns-in_ok-held-in-Within-clause-sound : goal.returns-in_ok-held-in-Within-clause-sound
 returns-in_ok-held-in-Within-clause-sound c =

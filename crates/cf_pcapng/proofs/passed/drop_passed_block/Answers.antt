@@ -4,7 +4,7 @@ use Rattle.cf_pcapng.specs.declared.fault.Flaw.{Flaw}
 use Rattle.cf_pcapng.specs.Position.{state_of}
 use Rattle.cf_pcapng.specs.Reading.{AreRead, AreReadOn, IsPassedAt, Begins}
 use Rattle.cf_pcapng.proofs.Passing.{not_some, room_at, begins_whole, begins_passed}
-use Rattle.cf_pcapng.proofs.passed.let_go.Goals as goal
+use Rattle.cf_pcapng.proofs.passed.drop_passed_block.Goals as goal
 
 pub within-some-requires-clause-room : goal.within-some-requires-clause-room
 within-some-requires-clause-room c =
