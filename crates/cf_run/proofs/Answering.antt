@@ -116,8 +116,11 @@ module _ (told : Option (List File)) (before now : Option (List ℕ)) (status : 
   run_by_rows call setup work sized gives (whole what said next) =
       by_log (IsByCall (Some (run call))) call.sizes setup what.rows (IsReportOf call setup what) (run_by_call call Full (λ e. cc e) (λ e. cc e))
       (run_by_call call Nodes (λ e. cc e) (λ e. cc e))
-      (λ q few made.
-      (λ e. cc e, λ e. seals_within call.sizes what.rows made.order (tails_of made.report_is.lives) q sized few made.report_is.order_is made.seals_are))
+      (λ q few made. (
+        λ e. cc e,
+        λ e. seals_within call.sizes what.rows made.sealed.order (tails_of (made.sealed).report.lives) q sized few (made.sealed).report.order_is
+            (made.sealed).seals_are,
+      ))
       (subst (λ (w : Work). WorkGives w status text seals) next.0 gives)
 
   run_by_work : (call : RunCall) (work : Work) → AreSizes call.sizes → WorkGives work status text seals → ComesTo told (Some (run call)) before now work

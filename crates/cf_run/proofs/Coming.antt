@@ -25,10 +25,10 @@ use Rattle.cf_run.specs.Parts.{EndsWith, IsPrepared, reply_status, reply_text, r
 use Rattle.cf_intake.specs.Parts.{captured, captured_each, rows_each}
 use Rattle.cf_intake.specs.Rows.{CaptureValue}
 use Rattle.cf_intake.specs.declared.rows.Captured.{Captured}
-use Rattle.cf_run.specs.Logs.{IsUnmade, halt_of}
+use Rattle.cf_run.specs.Logs.{HasNodes, IsUnmade, halt_of}
 use Rattle.cf_intake.specs.Refusals.{line_of}
 use Rattle.cf_run.specs.Refusals.{status_of}
-use Rattle.cf_run.specs.Seals.{IsSealedReport, IsSealedFinal}
+use Rattle.cf_run.specs.Seals.{IsSealedReport}
 use Rattle.cf_intake.specs.Several.{AreReadAs, AreHalted, AreStopped}
 use Rattle.cf_run.specs.Work.{draws, drawn_rows, shape_for, rows_told, ends_told}
 use Rattle.cf_run.specs.Due.Exceeds.{full, short}
@@ -112,12 +112,9 @@ module _ (told : Option (List File)) (call : RunCall) (before now : Option (List
 
       pub run_sealed : (body text : List ℕ) (seals : List SealValue) → text ≡ body ++ truncated_line what.cut
           → length what.rows ≤ call.sizes.capacity * call.sizes.segments
-          → IsSealedReport setup call.sizes.capacity call.sizes.writers call.sizes.nodes call.rounds what.rows body seals
+          → IsSealedReport setup call.sizes.capacity call.sizes.writers call.sizes.nodes call.rounds what.rows body seals × HasNodes setup call.sizes what.rows
           → IsDue told (Some (run call)) before now Done text seals
-      run_sealed body text seals is few made =
-          run_gives Done text seals
-          (tells few made.few_nodes refl
-          (record { order = made.order; body = body; report_is = made.report; text_is = is; seals_are = made.seals_are }))
+      run_sealed body text seals is few made = run_gives Done text seals (tells few made.1 refl (record { body = body; sealed = made.0; text_is = is }))
 
 module _ (told : Option (List File)) (call : SynthCall) (before now : Option (List ℕ)) where
   pub synth_unset : (halt : Halt) → Halts setups told call.setup before now halt → EndsWith told (Some (synth call)) before now (Err halt)
@@ -159,10 +156,8 @@ module _ (told : Option (List File)) (call : SynthCall) (before now : Option (Li
       synth_unmade unmade.Memory few many = synth_stopped
 
       pub synth_sealed : (text : List ℕ) (seals : List SealValue) → length (drawn_rows call) ≤ call.sizes.capacity * call.sizes.segments
-          → IsSealedFinal setup call.sizes.capacity call.sizes.writers call.sizes.nodes (drawn_rows call) text seals
-          → IsDue told (Some (synth call)) before now Done text seals
-      synth_sealed text seals few made =
-          synth_gives Done text seals (tells few made.few_nodes refl (record { text_is = made.text_is; seals_are = made.seals_are }))
+          → AreAnswersOf call setup text seals × HasNodes setup call.sizes (drawn_rows call) → IsDue told (Some (synth call)) before now Done text seals
+      synth_sealed text seals few made = synth_gives Done text seals (tells few made.1 refl made.0)
 
 module _ (told : Option (List File)) (call : DumpCall) (before now : Option (List ℕ)) where
   pub dump_unread : (halt : Halt) → Halts (captures (Packets call.schema) call.truncated (attrs_by call.schema)) told call.capture before now halt

@@ -1,6 +1,6 @@
 -- From a log that is loaded and closed to what is told of it.
 use Rattle.std.proofs.Common.{◌≡◌, ℕ, ◌<◌, nat_lt, List, [], ◌∷◌, length, map, get_or, All, Result, Ok, Err, MatchResult, refl, sym, ap, ap₂, subst, ◌∙◌, ◌≤◌, ◌^◌, mul_comm}
-use Rattle.std.specs.List.{range_with_len}
+use Rattle.std.specs.List.{flat_map, range_with_len}
 use Rattle.std.proofs.lemmas.Bool.{ltb-true}
 use Rattle.std.proofs.lemmas.List.{length-map}
 use Rattle.std.proofs.lemmas.List.Sums.{AllPass-from_list_all}
@@ -159,7 +159,6 @@ module _ (setup : SetupValue) (capacity writers nodes rounds : ℕ) (rows : List
         order = order_of entries;
         report = report_with;
         seals_are = seals_as;
-        few_nodes = closed.few_nodes;
       } in
       subst (λ (t : List ℕ). IsSealedReport setup capacity writers nodes rounds rows t seals) (sym shown) base
 
@@ -173,7 +172,6 @@ module _ (setup : SetupValue) (capacity writers nodes rounds : ℕ) (rows : List
       seals_are = subst (λ (ts : List ℕ). AreSeals capacity (log_of rows writers (order_of entries)) ts seals)
           (untold (length (log_of rows writers (order_of entries))) setup.lives answered.lives (rw none at meant.tails.turns)) seals_as;
     };
-    few_nodes = closed.few_nodes;
   }
 
   -- in either form
@@ -183,6 +181,7 @@ module _ (setup : SetupValue) (capacity writers nodes rounds : ℕ) (rows : List
   sealed_in forms.Final text text_is = λ none. final_sealed none text text_is
 
 -- where no live question was asked, the final part is sealed
-pub final_so : {T E : Type 0} (r : Result T E) (P : T → Type 0) (Q : E → Type 0) → MatchResult r (λ made. ◌≡◌ {A = ℕ} 0 0 → P made) Q → MatchResult r P Q
-final_so (Ok made) P Q sealed = sealed refl
-final_so (Err why) P Q unmade = unmade
+pub final_so : {T E : Type 0} (r : Result T E) (P : T → Type 0) (N : Type 0) (Q : E → Type 0)
+    → MatchResult r (λ made. (◌≡◌ {A = ℕ} 0 0 → P made) × N) Q → MatchResult r (λ made. P made × N) Q
+final_so (Ok made) P N Q sealed = (sealed.0 refl, sealed.1)
+final_so (Err why) P N Q unmade = unmade

@@ -14,12 +14,14 @@ use Rattle.cf_segments.specs.Tags.{nums_of}
 use Rattle.cf_load.specs.declared.plan.LivePlan.{LivePlan}
 use Rattle.cf_segments.specs.declared.segments.Sealing.{Sealing}
 use Rattle.cf_report.specs.Tags.{bare}
+use Rattle.cf_command.specs.declared.words.LogSizes.{LogSizes}
 use Rattle.cf_intake.specs.declared.refusal.Halt.{Halt}
 use Rattle.cf_intake.specs.declared.refusal.Halt.TheVariants.{Refused, Stopped}
 use Rattle.cf_intake.specs.declared.refusal.Refusal.TheVariants as refusals
 use Rattle.cf_intake.specs.declared.refusal.Stop.TheVariants as stops
 use Rattle.cf_run.specs.Needs.{NeedsAtMost, NeedsMore}
 use Rattle.cf_run.specs.Seals.{AreSeals, IsClosed}
+use Rattle.cf_run.specs.Work.{shape_for}
 use Rattle.cf_run.specs.declared.log.Unmade.{Unmade}
 use Rattle.cf_run.specs.declared.log.Unmade.TheVariants.{Nodes, Memory}
 
@@ -54,6 +56,10 @@ pub record IsTagged (setup : SetupValue) (capacity writers nodes rounds : ℕ) (
   pub entries : List Entry
   pub tags_are : tags ≡ bare entries
   pub closed : IsClosed setup capacity writers nodes rounds rows entries seals answered
+
+-- the paths of the rows of each segment need no more different nodes than all writers have in it
+abbrev pub HasNodes : SetupValue → LogSizes → List RowValue → Type 0
+HasNodes setup sizes rows = NeedsAtMost (shape_for setup sizes) (sizes.writers * sizes.nodes) rows
 
 -- why a log of rows wasn't made: the paths of those in some segment need more different nodes than a writer has in it, or memory ran out
 abbrev pub IsUnmade : ShapeValue → List RowValue → Unmade → Type 0

@@ -41,19 +41,19 @@ pub record IsClosed (setup : SetupValue) (capacity writers nodes rounds : ℕ) (
   pub seals_are : AreSeals capacity entries (tails_of answered.lives) seals
   pub few_nodes : NeedsAtMost (shaped setup capacity writers nodes) (writers * nodes) rows
 
--- a report of the rows, with the seals of the log that it prints
+-- A report of the rows, in an order that the writers can have made. The seals of the log's segments have the rows in that very order, and
+-- their roots were told of the tails of the very live answers that the text prints.
 pub record IsSealedReport (setup : SetupValue) (capacity writers nodes rounds : ℕ) (rows : List RowValue) (text : List ℕ)
     (seals : List SealValue) : Type 0 where
   pub order : List ℕ
   pub report : IsReport setup capacity writers nodes rounds rows order text
   pub seals_are : AreSeals capacity (log_of rows writers order) (tails_of report.lives) seals
-  pub few_nodes : NeedsAtMost (shaped setup capacity writers nodes) (writers * nodes) rows
 
--- the final part of a report of the rows, with the seals of a log to which no live question was asked
+-- The final part of a report of the rows: the same whatever the numbers of writers and segments and the schedule. The seals of the log's
+-- segments have the rows in an order that the writers can have made, and nothing was asked live.
 pub record IsSealedFinal (setup : SetupValue) (capacity writers nodes : ℕ) (rows : List RowValue) (text : List ℕ) (seals : List SealValue) : Type 0 where
   pub text_is : text ≡ final_text (shaped setup capacity writers nodes) setup rows
   pub seals_are : AreSynthSeals rows capacity writers seals
-  pub few_nodes : NeedsAtMost (shaped setup capacity writers nodes) (writers * nodes) rows
 
 -- A report of the rows in that form, with the seals of the log. Of the final part this is said where no live question was asked.
 abbrev pub IsSealedIn : Form → SetupValue → ℕ → ℕ → ℕ → ℕ → List RowValue → List ℕ → List SealValue → Type 0

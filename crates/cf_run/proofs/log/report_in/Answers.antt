@@ -32,9 +32,11 @@ returns g c = λ sizes rounds rows lawful is.
     let seals = c.in_ok-tags.seals.items in
     let answers = c.in_ok-tags.answers in
     let made = c.in_ok-tags.ensures setup sizes rounds rows is in
-    let told = c.in_ok-text.ensures ∙ ap (λ (es : List Entry). text_of form setup es answers) made.tags_are ∙ text_bare setup made.entries form answers in
-    sealed_in setup sizes.capacity sizes.writers sizes.nodes rounds rows made.entries seals answers lawful.writers.0 made.closed form c.in_ok-text.text.items
-    told
+    let told = c.in_ok-text.ensures ∙ ap (λ (es : List Entry). text_of form setup es answers) made.tags_are ∙ text_bare setup made.entries form answers in (
+      sealed_in setup sizes.capacity sizes.writers sizes.nodes rounds rows made.entries seals answers lawful.writers.0 made.closed form
+          c.in_ok-text.text.items told,
+      made.closed.few_nodes,
+    )
 
 pub returns-in_err-tags : goal.returns-in_err-tags
 returns-in_err-tags g c = λ sizes rounds rows lawful is.
