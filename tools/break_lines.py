@@ -3,10 +3,10 @@
 
     tools/break_lines.py [--check] FILE..
 
-A line of more than 160 columns, or a clause of more than 200, goes on below, where rt fmt then indents it: before an arrow, a product, a sum or a step of an
-equation, behind a comma, a semicolon, `in` or `=`, or before an argument in parentheses, as far out as one fits; if there is no such
-place, before any argument. Comments are broken between words; a line of `use` and text between quotes stay. With --check nothing is
-written: ends with 1 if a line would be broken. Needs the standard library alone.
+A line of more than 160 columns, or a clause of more than 200, goes on below, where rt fmt then indents it: before an arrow, a
+product, a sum or a step of an equation, behind a comma, a semicolon, `in` or `=`, or before an argument in parentheses, as far out
+as one fits; if there is no such place, before any argument. Comments are broken between words; a line of `use` and text between
+quotes stay. With --check nothing is written: ends with 1 if a line would be broken. Needs the standard library alone.
 """
 
 import pathlib
@@ -90,7 +90,10 @@ def broken(line):
 
 
 def broken_clause(line):
-    """A clause, a ghost member, or a line by which one goes on, as lines of at most 200 columns, where that is possible. Other lines of a program stay."""
+    """A clause, a ghost member or a line by which one goes on, as lines of at most 200 columns, where that is possible.
+
+    Other lines of a program stay.
+    """
     if not CLAUSE.match(line):
         return [line]
     return continued(line, len(line) - len(line.lstrip()), WIDEST_CLAUSE)
