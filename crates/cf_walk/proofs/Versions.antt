@@ -7,7 +7,7 @@ use Rattle.cf_row.specs.Row.{RowValue, values_fit}
 use Rattle.cf_row.specs.Words.{word_count}
 use Rattle.cf_row.specs.declared.row.Entry.{Entry}
 use Rattle.cf_row.proofs.Bytes.{both}
-use Rattle.cf_fold.specs.Quads.{quad_of, IsQuad}
+use Rattle.cf_fold.specs.Quads.{QuadValue, quad_of, IsQuad}
 use Rattle.cf_fold.specs.Cells.{AreWordsOf}
 use Rattle.cf_fold.specs.declared.cell.CellWords.{CellWords}
 use Rattle.cf_fold.proofs.Lawful.{AreLow, quad_is_lawful}
