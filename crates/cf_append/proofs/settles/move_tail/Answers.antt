@@ -1,4 +1,4 @@
-use Rattle.std.proofs.Common.{◌∙◌, arith}
+use Rattle.std.proofs.Common.{false, ◌∙◌, arith}
 use Rattle.cf_table.proofs.Looks.{tail_loads}
 use Rattle.cf_table.proofs.Settling.{moved_then, begins_long, settled_moved}
 use Rattle.cf_append.proofs.Settling.{goes_on, moved_tail, counts_tail, known_tail, home_alone, stops_since}
