@@ -169,15 +169,15 @@ calls_head shape p l node d o w word lt dl wl own is may =
     }
 
 -- A writer's pass keeps its one book.
-pub writes_same : (w : ℕ) (over : Bool) (u : ℕ) (p q : Pass) → Writes w over u p → q.books ≡ p.books → Writes w over u q
+pub writes_same : (w : ℕ) (over : Bool) (u : ℕ) (p q : Pass) → Writes w over u p.books → q.books ≡ p.books → Writes w over u q.books
 writes_same w over u p q W same = record { book = W.book; one = same ∙ W.one; writer_is = W.writer_is; over_is = W.over_is; used_is = W.used_is }
 
-book_is : (w : ℕ) (over : Bool) (u : ℕ) (p : Pass) (W : Writes w over u p) → book_of p ≡ W.book
+book_is : (w : ℕ) (over : Bool) (u : ℕ) (p : Pass) (W : Writes w over u p.books) → book_of p ≡ W.book
 book_is w over u p W = ap (λ (bs : List Book). get_or bs 0 (Rattle.cf_law.specs.Events.no_book 0)) W.one
 
 -- with this book in its place
-pub writes_at : (w : ℕ) (over over' : Bool) (u u' : ℕ) (p : Pass) (b : Book) → Writes w over u p → b.writer ≡ (book_of p).writer → b.over ≡ over'
-    → length b.used ≡ u' → Writes w over' u' (pass_with_book 0 b p)
+pub writes_at : (w : ℕ) (over over' : Bool) (u u' : ℕ) (p : Pass) (b : Book) → Writes w over u p.books → b.writer ≡ (book_of p).writer → b.over ≡ over'
+    → length b.used ≡ u' → Writes w over' u' (pass_with_book 0 b p).books
 writes_at w over over' u u' p b W writer marked used =
     let same = book_is w over u p W in
     record {
@@ -188,17 +188,17 @@ writes_at w over over' u u' p b W writer marked used =
       used_is = used;
     }
 
-pub writes_kept : (w : ℕ) (over : Bool) (u : ℕ) (p : Pass) (b : Book) → Writes w over u p → b.writer ≡ (book_of p).writer → b.over ≡ (book_of p).over
-    → b.used ≡ (book_of p).used → Writes w over u (pass_with_book 0 b p)
+pub writes_kept : (w : ℕ) (over : Bool) (u : ℕ) (p : Pass) (b : Book) → Writes w over u p.books → b.writer ≡ (book_of p).writer → b.over ≡ (book_of p).over
+    → b.used ≡ (book_of p).used → Writes w over u (pass_with_book 0 b p).books
 writes_kept w over u p b W writer marked used =
     let same = book_is w over u p W in
     writes_at w over over u u p b W writer (marked ∙ (ap (λ (c : Book). c.over) same ∙ W.over_is))
     (ap (λ (xs : List Spot). length xs) (used ∙ ap (λ (c : Book). c.used) same) ∙ W.used_is)
 
 abbrev pub Holding : ℕ → Bool → ℕ → PassValue → Type 0
-Holding w over u h = Writes w over u h.view × (w < 16) × (u ≤ h.nodes) × (h.nodes ≤ 65536)
+Holding w over u h = Writes w over u (h.view).books × (w < 16) × (u ≤ h.nodes) × (h.nodes ≤ 65536)
 
-holding : (w : ℕ) (over over' : Bool) (u u' : ℕ) (m n : PassValue) → Holding w over u m → n ≡ record m { view = n.view } → Writes w over' u' n.view
+holding : (w : ℕ) (over over' : Bool) (u u' : ℕ) (m n : PassValue) → Holding w over u m → n ≡ record m { view = n.view } → Writes w over' u' (n.view).books
     → u' ≤ m.nodes → Holding w over' u' n
 holding w over over' u u' m n H same W le =
     let nodes : n.nodes ≡ m.nodes = ap (λ (h : PassValue). h.nodes) same in (W, H.1, omega (arith, nodes), (let few = H.3 in omega (arith, nodes)))
@@ -210,7 +210,7 @@ pub kept_by : (shape : ShapeValue) (way : StepEffect) (w : ℕ) (over : Bool) (u
 kept_by shape way w over u b m n H made after writer marked used =
     let told = made.made.told in
     let is : n.view ≡ pass_with_book 0 b m.view = told.is ∙ after made.found told.entries in
-    holding w over over u u m n H made.made.same (subst (Writes w over u) (sym is) (writes_kept w over u m.view b H.0 writer marked used)) H.2
+    holding w over over u u m n H made.made.same (subst (λ (q : Pass). Writes w over u q.books) (sym is) (writes_kept w over u m.view b H.0 writer marked used)) H.2
 
 only_book : (b c : Book) (k : ℕ) → slice_get (b ∷ []) k ≡ Some c → b ≡ c
 only_book b c zero h = cc h
@@ -220,7 +220,7 @@ link_room : (sh : Layout) (p : Pass) (w node : ℕ) (t : Slot) (f : ℕ → ℕ)
     × (slice_get p.books k ≡ Some b) × (length b.used < sh.sizes.nodes)
 link_room sh p w node t f g (links k b s u holds room child named) = (k, b, holds, room)
 
-pub link_low : (shape : ShapeValue) (w : ℕ) (over : Bool) (u : ℕ) (p : Pass) (s : Spot) (t : Slot) (word node : ℕ) → Writes w over u p
+pub link_low : (shape : ShapeValue) (w : ℕ) (over : Bool) (u : ℕ) (p : Pass) (s : Spot) (t : Slot) (word node : ℕ) → Writes w over u p.books
     → IsLawfulStep shape p (link word node) (link_effect p s t node) → u < shape.nodes
 link_low shape w over u p s t word node W may =
     let room = link_room (layout shape) p word node t _ _ may in
@@ -237,7 +237,7 @@ linked_by shape w over u m n s t word node found H room made none =
     let used : length (book_with_node s (book_of p)).used ≡ u + 1 = length-append (book_of p).used (s ∷ [])
     ∙ (let e = ap (λ (c : Book). length c.used) same ∙ (H.0).used_is in omega (arith, e)) in
     holding w over over u (u + 1) m n H made.same
-    (subst (Writes w over (u + 1)) (sym is)
+    (subst (λ (q : Pass). Writes w over (u + 1) q.books) (sym is)
     (writes_at w over over u (u + 1) (pass_with_node s node p) (book_with_node s (book_of p))
     (writes_same w over u p (pass_with_node s node p) H.0 refl) refl (ap (λ (c : Book). c.over) same ∙ (H.0).over_is) used))
     (omega arith)
@@ -248,4 +248,4 @@ pub lost_by : (shape : ShapeValue) (w : ℕ) (over : Bool) (u : ℕ) (m n : Pass
 lost_by shape w over u m n s t node zero H made some = absurd (some refl)
 lost_by shape w over u m n s t node (suc found) H made some =
     holding w over over u u m n H made.same
-    (subst (Writes w over u) (sym made.told.is) (writes_same w over u m.view (pass_with_node s found m.view) H.0 refl)) H.2
+    (subst (λ (q : Pass). Writes w over u q.books) (sym made.told.is) (writes_same w over u m.view (pass_with_node s found m.view) H.0 refl)) H.2

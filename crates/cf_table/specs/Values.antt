@@ -1,5 +1,5 @@
 -- What contracts see of a log and of a pass.
-use Rattle.std.specs.Prelude.{ℕ, ◌≡◌, Option, Some, None, [], ◌∷◌, get_or, length, Bool}
+use Rattle.std.specs.Prelude.{ℕ, ◌≡◌, Option, Some, None, List, [], ◌∷◌, get_or, length, Bool}
 use Rattle.atomic_table.specs.Seated.{TableId}
 use Rattle.cf_shape.specs.Lanes.{ShapeValue}
 use Rattle.cf_law.specs.Passes.{Book, Flight, Pass}
@@ -39,10 +39,10 @@ flight_or (Some f) = f
 abbrev pub flight_of : Pass → Flight
 flight_of p = flight_or (book_of p).flight
 
--- the pass holds the one book of that writer, marked or not, with as many used nodes
-pub record Writes (writer : ℕ) (over : Bool) (used : ℕ) (pass : Pass) : Type 0 where
+-- there is the one book of that writer, marked or not, with as many used nodes
+pub record Writes (writer : ℕ) (over : Bool) (used : ℕ) (books : List Book) : Type 0 where
   pub book : Book
-  pub one : pass.books ≡ book ∷ []
+  pub one : books ≡ book ∷ []
   pub writer_is : book.writer ≡ writer
   pub over_is : book.over ≡ over
   pub used_is : length book.used ≡ used

@@ -5,7 +5,7 @@ ghost use Rattle.cf_table.specs.Values.{IsOf, book_of};
 ghost use Rattle.cf_table.specs.Moves.{AreNoted, AreDealt, AreAll, HasFolded, Gathers, HasGathered, HoldsAllBooks, note_of};
 
 use crate::log::MultiLog;
-use crate::pass::{Note, Root, WriterPass};
+use crate::pass::{Note, PassWith, Root, WriterPass};
 use crate::rule::Token;
 use crate::settles::settle_counted;
 use cf_row::Memory;
@@ -24,11 +24,9 @@ impl MultiLog {
         ensures of { IsOf result self.now }
         ensures view { result.view ≡ new_pass (book_of token.old.view ∷ []) token.old.view.seen }
     {
-        WriterPass {
+        PassWith {
             token: self.hand_token(token),
-            writer: note.writer,
-            over: note.over,
-            used: note.used,
+            notes: *note,
         }
     }
 
@@ -64,13 +62,8 @@ impl MultiLog {
         ensures folded { HasFolded self.now.shape root.old pass.view root.new }
         ensures one { length root.new.view.books ≡ length root.old.view.books + 1 }
     {
-        let WriterPass {
-            token,
-            writer,
-            over,
-            used,
-        } = pass;
-        root.notes.push_reserved(Note { writer, over, used });
+        let PassWith { token, notes } = pass;
+        root.notes.push_reserved(notes);
         self.fold_token(&mut root.token, token);
     }
 

@@ -25,5 +25,5 @@ mod writes;
 pub use closes::{Closed, Seal};
 pub use count::Steps;
 pub use log::MultiLog;
-pub use pass::{Pass, ReaderPass, Root, WriterPass};
+pub use pass::{BookNotes, Note, Pass, PassWith, ReaderPass, Root, WriterPass};
 pub use rule::{Gives, Parts, Token};

@@ -5,7 +5,7 @@ ghost use Rattle.cf_table.specs.Moves.{note_of, HoldsAllBooks};
 ghost use Rattle.cf_shape.specs.Lanes.{IsShape};
 ghost use Rattle.cf_table.specs.Rule.{root_pass};
 
-use crate::pass::{Note, Root};
+use crate::pass::{Note, PassWith, Root};
 use crate::rule::{Law, Token, View};
 use atomic_table::Table;
 use cf_row::Memory;
@@ -52,7 +52,7 @@ impl MultiLog {
             nodes,
         };
         let log = MultiLog { table, shape };
-        Ok((log, Root { token, notes }))
+        Ok((log, PassWith { token, notes }))
     }
 
     /// The shape that the log was opened with.

@@ -5,7 +5,7 @@ ghost use Rattle.cf_table.specs.Values.{IsOf, book_of};
 ghost use Rattle.cf_table.specs.Moves.{HasFolded, HoldsAllBooks};
 
 use crate::log::MultiLog;
-use crate::pass::{ReaderPass, Root};
+use crate::pass::{PassWith, ReaderPass, Root};
 use crate::rule::{Comes, Hands, Parts, Token};
 use std::marker::Brand;
 
@@ -77,8 +77,9 @@ impl MultiLog {
         ensures of { IsOf result self.now }
         ensures view { result.view ≡ new_pass [] root.old.view.seen }
     {
-        ReaderPass {
+        PassWith {
             token: self.note_token(&mut root.token),
+            notes: (),
         }
     }
 
@@ -89,7 +90,7 @@ impl MultiLog {
         ensures books { root.new.view.books ≡ root.old.view.books }
         ensures stays { HoldsAllBooks self.now.shape root.old.view → root.new.view.seen ≡ root.old.view.seen }
     {
-        let ReaderPass { token } = pass;
+        let PassWith { token, notes: () } = pass;
         self.fold_token(&mut root.token, token);
     }
 

@@ -1,7 +1,7 @@
 // The kinds of pass.
 ghost use Rattle.std.specs.Prelude.{◌≡◌, ◌+◌, ◌*◌, ◌<◌, ◌≤◌, length, MatchOption};
 ghost use Rattle.cf_law.specs.Steps.Act.{advance};
-ghost use Rattle.cf_table.specs.Values.{IsOf, book_of, Writes};
+ghost use Rattle.cf_table.specs.Values.{IsOf, book_of};
 ghost use Rattle.cf_table.specs.Effects.{IsLawfulStep, HasStepped, HasSteppedUnseen, tail_effect, advance_effect};
 ghost use Rattle.cf_table.specs.Rule.{AsksOnWord, KeepsBooks};
 
@@ -48,70 +48,68 @@ pub trait Pass {
         ensures steps { steps.new ≡ steps.old + 1 };
 }
 
-/// A pass that holds one book, and appends.
+/// What a pass notes of the books that it holds.
+pub trait BookNotes {
+    ghost use Rattle.std.specs.Prelude.{ℕ, List};
+    ghost use Rattle.cf_law.specs.Passes.{Book};
+
+    // the notes are of these books, of which each has at most so many nodes
+    ghost are_of: { Self → List Book → ℕ → Type 0 };
+}
+
+/// A pass with what it notes of its books. Contracts see its table, its number, how many nodes each writer has, and its view.
 #[derive(Drop)]
-pub struct WriterPass {
+pub struct PassWith<B: BookNotes + Drop> {
     pub(crate) token: Token,
+    pub(crate) notes: B,
+}
+
+impl<B: BookNotes + Drop> Model for PassWith<B> {
+    ghost use Rattle.cf_table.specs.Values.{PassValue};
+
+    ghost Value = { PassValue };
+
+    ghost view = { λ p. p.token };
+
+    ghost invariant = { λ p. B.are_of p.notes p.token.view.books p.token.nodes };
+}
+
+/// What is noted of a book: its writer, whether it is marked, and how many of its nodes are used.
+#[derive(Clone, Copy, Drop)]
+pub struct Note {
     pub(crate) writer: u8,
     pub(crate) over: bool,
     pub(crate) used: u32,
 }
 
-impl Model for WriterPass {
+impl BookNotes for Note {
     ghost use Rattle.std.specs.Prelude.{◌<◌, ◌≤◌};
-    ghost use Rattle.cf_table.specs.Values.{PassValue, Writes};
+    ghost use Rattle.cf_table.specs.Values.{Writes};
 
-    ghost Value = { PassValue };
-
-    ghost view = { λ w. w.token };
-
-    ghost invariant = { λ w. Writes w.writer w.over w.used w.token.view × (w.writer < 16) × (w.used ≤ w.token.nodes) × (w.token.nodes ≤ 65536) };
+    ghost are_of = { λ n books nodes. Writes n.writer n.over n.used books × (n.writer < 16) × (n.used ≤ nodes) × (nodes ≤ 65536) };
 }
 
-/// A pass that reads.
-#[derive(Drop)]
-pub struct ReaderPass {
-    pub(crate) token: Token,
-}
-
-impl Model for ReaderPass {
-    ghost use Rattle.cf_table.specs.Values.{PassValue};
+impl BookNotes for () {
     ghost use Rattle.std.specs.Prelude.{◌≡◌, []};
 
-    ghost Value = { PassValue };
-
-    ghost view = { λ w. w.token };
-
-    ghost invariant = { λ r. r.token.view.books ≡ [] };
+    ghost are_of = { λ _ books _. books ≡ [] };
 }
 
-// What the root notes of a book that is at home.
-#[derive(Clone, Copy, Drop)]
-pub(crate) struct Note {
-    pub(crate) writer: u8,
-    pub(crate) over: bool,
-    pub(crate) used: u32,
-}
-
-/// The first pass, which holds the books that are at home.
-#[derive(Drop)]
-pub struct Root {
-    pub(crate) token: Token,
-    // of the books that are at home, in their order
-    pub(crate) notes: Vec<Note>,
-}
-
-impl Model for Root {
+impl BookNotes for Vec<Note> {
     ghost use Rattle.std.specs.Prelude.{◌≤◌, vec_capacity};
-    ghost use Rattle.cf_table.specs.Values.{PassValue};
     ghost use Rattle.cf_table.specs.Moves.{AreNoted};
 
-    ghost Value = { PassValue };
-
-    ghost view = { λ w. w.token };
-
-    ghost invariant = { λ r. AreNoted r.notes.items r.token.view.books r.token.nodes × (16 ≤ vec_capacity r.notes) };
+    ghost are_of = { λ notes books nodes. AreNoted notes.items books nodes × (16 ≤ vec_capacity notes) };
 }
+
+/// A pass that holds one book, and appends.
+pub type WriterPass = PassWith<Note>;
+
+/// A pass that holds no book, and reads.
+pub type ReaderPass = PassWith<()>;
+
+/// The first pass, which holds the books that are at home.
+pub type Root = PassWith<Vec<Note>>;
 
 impl Token {
     pub(crate) fn known(&self) -> u32
@@ -127,14 +125,14 @@ impl WriterPass {
         ensures writer { result ≡ (book_of self.now.view).writer }
         ensures few { result < 16 }
     {
-        self.writer
+        self.notes.writer
     }
 
     /// Whether its book is marked: it takes no further ticket.
     pub fn over(&self) -> bool
         ensures { result ≡ (book_of self.now.view).over }
     {
-        self.over
+        self.notes.over
     }
 
     /// The least own node that isn't used, none exactly where all are.
@@ -142,80 +140,14 @@ impl WriterPass {
         ensures { MatchOption result (length (book_of self.now.view).used ≡ self.now.nodes)
             (λ node. (length (book_of self.now.view).used < self.now.nodes) × (node ≡ (book_of self.now.view).writer * self.now.nodes + length (book_of self.now.view).used)) }
     {
-        if self.used == self.token.nodes {
+        if self.notes.used == self.token.nodes {
             return None;
         }
-        Some(u32::from(self.writer) * self.token.nodes + self.used)
+        Some(u32::from(self.notes.writer) * self.token.nodes + self.notes.used)
     }
 }
 
-impl Pass for WriterPass {
-    ghost held = { λ w. w };
-
-    fn covered(&self) -> u32 {
-        self.token.known()
-    }
-
-    fn load_by<N: Gives, L: Ledger>(
-        &mut self,
-        log: &MultiLog,
-        word: u64,
-        steps: &mut Steps<L>,
-    ) -> u64 {
-        steps.tick();
-        log.load_token::<N>(&mut self.token, word)
-    }
-
-    fn load_tail_by<L: Ledger>(
-        &mut self,
-        log: &MultiLog,
-        asked: bool,
-        steps: &mut Steps<L>,
-    ) -> u32 {
-        steps.tick();
-        log.load_tail_token(&mut self.token, asked)
-    }
-
-    fn advance_by<L: Ledger>(&mut self, log: &MultiLog, tail: u32, steps: &mut Steps<L>) {
-        steps.tick();
-        log.advance_token(&mut self.token, tail);
-    }
-}
-
-impl Pass for ReaderPass {
-    ghost held = { λ w. w };
-
-    fn covered(&self) -> u32 {
-        self.token.known()
-    }
-
-    fn load_by<N: Gives, L: Ledger>(
-        &mut self,
-        log: &MultiLog,
-        word: u64,
-        steps: &mut Steps<L>,
-    ) -> u64 {
-        steps.tick();
-        log.load_token::<N>(&mut self.token, word)
-    }
-
-    fn load_tail_by<L: Ledger>(
-        &mut self,
-        log: &MultiLog,
-        asked: bool,
-        steps: &mut Steps<L>,
-    ) -> u32 {
-        steps.tick();
-        log.load_tail_token(&mut self.token, asked)
-    }
-
-    fn advance_by<L: Ledger>(&mut self, log: &MultiLog, tail: u32, steps: &mut Steps<L>) {
-        steps.tick();
-        log.advance_token(&mut self.token, tail);
-    }
-}
-
-impl Pass for Root {
+impl<B: BookNotes + Drop> Pass for PassWith<B> {
     ghost held = { λ w. w };
 
     fn covered(&self) -> u32 {

@@ -33,7 +33,7 @@ impl MultiLog {
         steps.tick();
         let found = take_as::<Brand>(self, &mut pass.token, row);
         if found >= u64::from(self.shape.capacity()) {
-            pass.over = true;
+            pass.notes.over = true;
         }
         found
     }
@@ -108,7 +108,7 @@ impl MultiLog {
         steps.tick();
         let found = link_as::<Brand>(self, &mut pass.token, place, node);
         if found == 0 {
-            pass.used += 1;
+            pass.notes.used += 1;
         }
         found
     }

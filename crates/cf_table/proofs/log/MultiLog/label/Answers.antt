@@ -21,5 +21,5 @@ pub invariant_of-pass : goal.invariant_of-pass
 invariant_of-pass g c =
     let w = c.pass.inside in
     let m = w.token in
-    kept_by c.args.self.now.shape (label_effect m.view c.args.node c.args.value) w.writer w.over w.used
+    kept_by c.args.self.now.shape (label_effect m.view c.args.node c.args.value) w.notes.writer w.notes.over w.notes.used
     (book_with_label c.args.value (book_of m.view)) m c.store_as.new.token c.pass.invariant c.store_as.ensures.made (λ found es. refl) refl refl refl

@@ -22,6 +22,6 @@ pub invariant_of-pass : goal.invariant_of-pass
 invariant_of-pass g c =
     let w = c.pass.inside in
     let m = w.token in
-    kept_by c.args.self.now.shape (store_effect m.view c.args.offset c.args.index c.args.value) w.writer w.over w.used
+    kept_by c.args.self.now.shape (store_effect m.view c.args.offset c.args.index c.args.value) w.notes.writer w.notes.over w.notes.used
     (book_with_word c.args.index (book_of m.view) (flight_of m.view)) m c.store_as.new.token c.pass.invariant c.store_as.ensures.made
     (λ found es. refl) refl refl refl
