@@ -1,4 +1,2 @@
 pub mod Amounts
 pub mod Chunks
-pub mod Splitting
-pub mod Numbered

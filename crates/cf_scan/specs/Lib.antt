@@ -1,3 +1,2 @@
 pub mod Scans
 pub mod Laws
-pub mod Split

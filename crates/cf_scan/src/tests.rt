@@ -3,7 +3,6 @@ ghost use Rattle.cf_scan.specs.Scans.{FitAll};
 
 use super::*;
 use cf_fold::Quad;
-use cf_plain::Ask;
 use cf_row::{
     Atom, Attr, Conjunction, Entry, Expr, Kind, Memory, Name, Op, Row, Schema, Value, fits,
     is_of_schema,
@@ -135,22 +134,5 @@ fn more_entries_than_two_chunks(rt: HostRuntime) -> Result<(), Fail> {
     assert_eq!(rt; places.len(), 90 * 71);
     assert_eq!(rt; places.last().copied(), Some(8970));
     assert_eq!(rt; total, Quad::new(90 * 71, 90 * 2485, 0, 70));
-    Ok(())
-}
-
-// Of a list, a search, a total and a list that is asked live, in this order, the search and the last list go by the log.
-#[test]
-fn a_search_and_a_live_list_go_by_the_log(rt: HostRuntime) -> Result<(), Fail> {
-    let alloc = rt.alloc();
-    let mut asks = Vec::new(alloc);
-    asks.push(Ask::List(short(alloc)?))?;
-    asks.push(Ask::Find(0, 5, 9))?;
-    asks.push(Ask::Total(2, short(alloc)?))?;
-    asks.push(Ask::List(short(alloc)?))?;
-    let split = split_asks(alloc, &asks, &[3, 3])?;
-    assert_eq!(rt; split.lives.as_slice(), [1, 1].as_slice());
-    assert_eq!(rt; split.asks.len(), 2);
-    assert!(rt; matches!(split.asks[0], Ask::Find(0, 5, 9)));
-    assert!(rt; matches!(split.asks[1], Ask::List(_)));
     Ok(())
 }

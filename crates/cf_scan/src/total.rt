@@ -29,24 +29,22 @@ fn merged(parts: &[Quad]) -> Quad
     total
 }
 
-// The quads of the chunks of that size.
+// The quads of the chunks.
 fn chunk_totals(
     rt: &(impl Threads + Sync),
     alloc: Global,
-    size: usize,
     schema: &Schema,
     attr: u8,
     expr: &Expr,
     entries: &[Entry],
 ) -> Result<Vec<Quad>, Memory>
-    requires size { (0 < size) × (size ≤ 2 ^ 20) }
     requires narrow { IsNarrow schema.now attr }
     requires suits { IsOfSchema schema.now expr.now }
     requires fit { FitAll schema.now entries.now }
-    ensures { IfOk result (λ parts. parts.items ≡ map (λ chunk. total attr expr.now (rows_in chunk)) (chunks_of size entries.now)) }
+    ensures { IfOk result (λ parts. parts.items ≡ map (λ chunk. total attr expr.now (rows_in chunk)) (chunks_of 4096 entries.now)) }
 {
     entries
-        .par_chunks(size)
+        .par_chunks(CHUNK)
         .with_min_len(1)
         .map(
             |chunk: &[Entry]| -> Quad
@@ -73,6 +71,6 @@ pub fn scan_total(
     requires few { length entries.now ≤ 2 ^ 20 }
     ensures { IfOk result (λ found. found ≡ total attr expr.now (rows_in entries.now)) }
 {
-    let parts = chunk_totals(rt, alloc, CHUNK, schema, attr, expr, entries)?;
+    let parts = chunk_totals(rt, alloc, schema, attr, expr, entries)?;
     Ok(merged(&parts))
 }
