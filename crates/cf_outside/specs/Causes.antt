@@ -11,18 +11,15 @@ count_up count = min (count + 1) (2 ^ 64 - 1)
 abbrev pub Rose : ℕ → ℕ → Type 0
 Rose before now = count_up before ≤ now
 
--- the count never falls, and rose if the call failed: `if_failed` says of a fact that it is so then
-pub record HasCauseIf (if_failed : Type 0 → Type 0) (before now : ℕ) : Type 0 where
+-- of a call whose every error is a failure of the device: the count never falls, and rose if the call failed
+pub record HasCause {T E : Type 0} (before now : ℕ) (result : Result T E) : Type 0 where
   pub later : before ≤ now
-  pub failed : if_failed (Rose before now)
+  pub failed : OnErr result (Rose before now)
 
--- of a call whose every error is a failure of the device,
-abbrev pub HasCause : {T E : Type 0} → ℕ → ℕ → Result T E → Type 0
-HasCause before now result = HasCauseIf (OnErr result) before now
-
--- of one whose other errors are none,
-abbrev pub HasCauseWhen : {T E : Type 0} → E → ℕ → ℕ → Result T E → Type 0
-HasCauseWhen failure before now result = HasCauseIf (λ fact. result ≡ Err failure → fact) before now
+-- of a call that can fail otherwise too: the count never falls, and rose if the call failed so
+pub record HasCauseWhen {T E : Type 0} (failure : E) (before now : ℕ) (result : Result T E) : Type 0 where
+  pub later : before ≤ now
+  pub failed : result ≡ Err failure → Rose before now
 
 -- as an `open`
 abbrev pub HasOpenCause : ℕ → ℕ → Result (Unit {0}) OpenFault → Type 0
