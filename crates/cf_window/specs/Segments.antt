@@ -15,7 +15,7 @@ pub record SegmentValue : Type 0 where
 
 -- The log has one writer, whose pass has seen all that it has finished. While it has refused no row, its used nodes are those that
 -- its rows need.
-pub record IsSegment (log : LogValue) (pass : PassValue) (is_spent : Bool) : Type 0 where
+pub record IsWindowSegment (log : LogValue) (pass : PassValue) (is_spent : Bool) : Type 0 where
   pub alone : IsAlone log pass
   pub nodes : is_spent ≡ false → HasNodes log.shape (rows_in (pass.view).seen) pass.view
 
