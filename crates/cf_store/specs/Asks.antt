@@ -23,7 +23,7 @@ use Rattle.cf_store.specs.declared.held.Shared.{Shared}
 use Rattle.cf_store.specs.declared.held.Reader.{Reader}
 use Rattle.cf_store.specs.Values.{ShowsRow}
 use Rattle.cf_store.specs.declared.shown.Head.{Head}
-use Rattle.cf_store.specs.declared.shown.PlainValue.{PlainValue}
+use Rattle.cf_store.specs.declared.shown.ShownValue.{ShownValue}
 use Rattle.cf_store.specs.declared.shown.Shown.{Shown}
 use Rattle.cf_calls.specs.declared.refusals.AskRefusal.{AskRefusal}
 use Rattle.cf_calls.specs.declared.refusals.AskRefusal.TheVariants.{NoQuestion, Memory}
@@ -196,7 +196,7 @@ ReadsRow offset m n (Err rows.NoRow) = (n ≡ m) × (length (m.pass.view).seen �
 ReadsRow offset m n (Err rows.Memory) = (n.of ≡ m.of) × (n.words.items ≡ m.words.items) × OnlyLooked m.pass n.pass
 
 -- What showing the row at an offset answers. Refused, nothing is shown.
-abbrev pub ShowsRowAt : ℕ → Reader → Reader → List PlainValue → List PlainValue → Result Shown RowRefusal → Type 0
+abbrev pub ShowsRowAt : ℕ → Reader → Reader → List ShownValue → List ShownValue → Result Shown RowRefusal → Type 0
 ShowsRowAt offset m n before after (Ok shown) =
     (row : RowValue) × ReadsRow offset m n (Ok row) × (shown.number ≡ row.num) × ShowsRow row before after shown.count
 ShowsRowAt offset m n before after (Err refusal) = ReadsRow offset m n (Err refusal) × (after ≡ before)

@@ -9,7 +9,7 @@ ghost use Rattle.cf_store.specs.Asks.{Answers, AnswersSeen, AsksAt, AsksSeen, As
 ghost use Rattle.cf_store.specs.Reports.{Reports};
 
 use crate::held::{Reader, Shared};
-use crate::shown::{Head, PlainValue, Shown};
+use crate::shown::{Head, Shown, ShownValue};
 use crate::values::show_row;
 use cf_calls::{AskRefusal, LaneRefusal, RowRefusal};
 use cf_fold::Quad;
@@ -229,7 +229,7 @@ impl Reader {
         &mut self,
         alloc: Global,
         offset: u32,
-        out: &mut [PlainValue],
+        out: &mut [ShownValue],
     ) -> Result<Shown, RowRefusal>
         ensures { ShowsRowAt offset self.old self.new out.old out.new result }
     {
