@@ -5,7 +5,7 @@ ghost use Rattle.std.specs.Arc.{arc_value};
 ghost use Rattle.cf_plain.specs.Groups.{pair_of};
 ghost use Rattle.cf_table.specs.Moves.{IsReading};
 ghost use Rattle.cf_calls.specs.declared.refusals.AskRefusal.TheVariants.{Memory};
-ghost use Rattle.cf_store.specs.Asks.{Answers, AnswersSeen, AsksAt, AsksSeen, AsksTail, FindsGroups, IsMeasured, IsTold, ReadsRow, ShowsRowAt, TellsGroups, groups_words, mark_words as mark_words_of, body_words as body_words_of, body_kind as body_kind_of};
+ghost use Rattle.cf_store.specs.Asks.{AnswersQuestion, AnswersSeen, AsksAt, AsksSeen, AsksTail, FindsGroups, IsMeasured, IsTold, ReadsRow, ShowsRowAt, TellsGroups, groups_words, mark_words as mark_words_of, body_words as body_words_of, body_kind as body_kind_of};
 ghost use Rattle.cf_store.specs.Reports.{Reports};
 
 use crate::held::{Reader, Shared};
@@ -93,7 +93,7 @@ fn ask_of(
     number: u32,
 ) -> Result<Answer, AskRefusal>
     requires { IsReading shared.now.log pass.old }
-    ensures answers { Answers shared.now number pass.old pass.new result }
+    ensures answers { AnswersQuestion shared.now number pass.old pass.new result }
     ensures aware { IsReading shared.now.log pass.new }
 {
     let Some(question) = shared.setup.asks().get(number as usize) else {
