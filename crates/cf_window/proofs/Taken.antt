@@ -32,7 +32,7 @@ use Rattle.cf_plain.specs.declared.ask.Ask.{Ask}
 use Rattle.cf_plain.specs.declared.finding.Finding.{Finding}
 use Rattle.cf_query.specs.Asking.{HasAsked}
 use Rattle.cf_snapshot.proofs.Hosting.{alone_still, seen_still}
-use Rattle.cf_window.specs.Segments.{SegmentValue, IsWindowSegment, with_row}
+use Rattle.cf_window.specs.Segments.{WindowSegmentValue, IsWindowSegment, with_row}
 use Rattle.cf_window.specs.Windows.{takes}
 
 -- the one book of a pass at rest
@@ -208,7 +208,7 @@ empty_segment log h alone none unused = record {
   };
 }
 
-abbrev pub value_of : ShapeValue → List Entry → SegmentValue
+abbrev pub value_of : ShapeValue → List Entry → WindowSegmentValue
 value_of shape entries = record { shape = shape; rows = rows_in entries; is_spent = false }
 
 pub empty_value : (s shape : ShapeValue) (entries : List Entry) → s ≡ shape → entries ≡ []

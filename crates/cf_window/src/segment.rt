@@ -27,9 +27,9 @@ pub struct WindowSegment {
 }
 
 impl Model for WindowSegment {
-    ghost use Rattle.cf_window.specs.Segments.{SegmentValue, IsWindowSegment, segment_value};
+    ghost use Rattle.cf_window.specs.Segments.{WindowSegmentValue, IsWindowSegment, segment_value};
 
-    ghost Value = { SegmentValue };
+    ghost Value = { WindowSegmentValue };
 
     ghost view = { λ s. segment_value s.log s.pass s.is_spent };
 
