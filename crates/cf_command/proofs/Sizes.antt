@@ -8,7 +8,7 @@ use Rattle.cf_command.specs.declared.words.LogSizes.{LogSizes}
 use Rattle.cf_command.specs.declared.words.WindowSizes.{WindowSizes}
 use Rattle.cf_command.specs.Table.{SaidValue, said_of}
 use Rattle.cf_command.specs.Table.SaidValue.{run_said, synth_said, dump_said, snapshot_said, watch_said}
-use Rattle.cf_command.specs.Call.{SnapshotCall, HasSizes, AreSizes, AreWindowSizes, number_in, is_given, schema_named, sizes_with, divided, sizes_in, window_in, call_in, call_of}
+use Rattle.cf_command.specs.Call.{SnapshotCall, HasSizes, AreSizes, AreWindowSizes, number_in, is_given, schema_named, sizes_with, divided, sizes_in, window_in, call_in, call_said}
 use Rattle.cf_command.specs.Call.Call.{snapshot}
 
 -- what comes of a value that there may be
@@ -139,6 +139,6 @@ by_said (watch_said texts) =
     wide (window_in texts.capacity texts.segments texts.nodes) sizes (wide_in texts.capacity texts.segments texts.nodes) found))
 
 -- whatever words call for
-pub has_sizes : (words : List (List ℕ)) → HasSizes (call_of words)
-unfolding call_of
+pub has_sizes : (words : List (List ℕ)) → HasSizes (call_said words)
+unfolding call_said
 has_sizes words = and_then_by HasSizes call_in (said_of words) tt (λ said found. by_said said)

@@ -165,8 +165,8 @@ call_in (watch_said texts) =
 
 -- What the words call for: a command with its options, as clap takes them, each number being in its range. Other words are no
 -- command.
-unfoldable pub call_of : List (List ℕ) → Option Call
-call_of words = option_and_then call_in (said_of words)
+unfoldable pub call_said : List (List ℕ) → Option Call
+call_said words = option_and_then call_in (said_of words)
 
 -- a log that a call has is of sizes that a log may have
 abbrev pub HasSizes : Option Call → Type 0

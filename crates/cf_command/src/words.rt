@@ -1,6 +1,6 @@
 // What the words ask for.
 ghost use Rattle.std.specs.Prelude.{◌≡◌, ◌≤◌, ◌*◌, IfOk, IfSome, option_map};
-ghost use Rattle.cf_command.specs.Call.{call_of, call_in, call_by, is_given, schema_named, sizes_in, sizes_with, divided, bounded_window, window_in, texts, AreSizes, AreWindowSizes, IsInRange};
+ghost use Rattle.cf_command.specs.Call.{call_said, call_in, call_by, is_given, schema_named, sizes_in, sizes_with, divided, bounded_window, window_in, texts, AreSizes, AreWindowSizes, IsInRange};
 ghost use Rattle.cf_command.specs.Table.{says_of, synth_says_of, dump_says_of, snapshot_says_of, watch_says_of};
 ghost use Rattle.cf_command.specs.Table.SaidValue.{run_said, synth_said, dump_said, snapshot_said, watch_said};
 
@@ -352,9 +352,9 @@ fn watch_from<'a>(alloc: Global, texts: &WatchTexts<'a>) -> Result<Option<Comman
 }
 
 /// The command that the words are, or nothing where they are none. Each of its numbers is in its range.
-#[tactic(auto, unfolding(crate::specs::Call::call_of))]
+#[tactic(auto, unfolding(crate::specs::Call::call_said))]
 pub fn command_of<'a>(alloc: Global, words: &'a [&'a str]) -> Result<Option<Command<'a>>, Memory>
-    ensures call { IfOk result (λ found. option_map call_by found ≡ call_of (texts words.entry.now)) }
+    ensures call { IfOk result (λ found. option_map call_by found ≡ call_said (texts words.entry.now)) }
     ensures within { IfOk result (λ found. IfSome found IsInRange) }
 {
     let Some(said) = read_words(alloc, words)? else {

@@ -29,10 +29,10 @@ use Rattle.cf_window.specs.Held.{count_of}
 use Rattle.cf_window.specs.Rounds.{Course, after_reads, came, span_of, start, was_read, with_round}
 use Rattle.cf_window.specs.Windows.{rows_in_all}
 use Rattle.cf_window.proofs.Rows.{rows_one}
-use Rattle.cf_follow.specs.Followed.{AreRead, IsDueOfStream, IsFollowed, HasBrokenOff, IsGoingOn, IsTurnedAway, GoesOn, halted, spoken, truncated_line, whole}
+use Rattle.cf_follow.specs.Followed.{AreRead, IsDueOfStream, IsFollowed, HasBrokenOff, IsGoingOn, IsTurnedAway, ReadComesTo, halted, spoken, truncated_line, whole}
 use Rattle.cf_follow.specs.Followed.IsDueOfStream.{done, broken, refused, unread}
 use Rattle.cf_follow.specs.Followed.IsFollowed.{wrote, cut, cut_round, out}
-use Rattle.cf_follow.specs.Heard.{Concludes, Hears, Refuses, SaysAll, SaysPart, Stops, through}
+use Rattle.cf_follow.specs.Heard.{Concludes, Hears, Refuses, SaysAll, SaysPart, StopsAfterRound, through}
 use Rattle.cf_follow.specs.declared.ending.Ending.{Ending}
 use Rattle.cf_follow.specs.declared.ending.Ending.TheVariants.{Done, Refused, Stopped, Unwritten}
 use Rattle.cf_follow.proofs.Hearing.{set_refl, set_trans}
@@ -308,7 +308,7 @@ module _ (schema : PacketSchema) (begun m : RoundsValue) (reading : Reads) (befo
 
   -- The shelf failed.
   pub unread_now : (truncated : Bool) (now kept : Option (List ℕ)) (next : RoundsValue) (ending : Ending) → IsSetAs m next → Keeps mid now
-      → Stops m next told kept ending → IsFollowed schema begun truncated before now held kept ending
+      → StopsAfterRound m next told kept ending → IsFollowed schema begun truncated before now held kept ending
   unread_now truncated now kept next Done set keeps failed = absurd failed
   unread_now truncated now kept next (Refused why) set keeps failed = absurd failed
   unread_now truncated now kept next (Stopped stops.ReadFault) set keeps failed =

@@ -16,7 +16,7 @@ use Rattle.cf_window.specs.Held.{count_of}
 use Rattle.cf_window.specs.Rounds.{Course, came, with_round}
 use Rattle.cf_window.specs.Windows.{is_refused, window}
 use Rattle.cf_follow.specs.Followed.{IsTurnedAway}
-use Rattle.cf_follow.specs.Heard.{HaveAllGone, HavePartGone, Hears, Refuses, SaysAll, SaysPart, Stops, Tells, through}
+use Rattle.cf_follow.specs.Heard.{HaveAllGone, HavePartGone, Hears, Refuses, SaysAll, SaysPart, StopsAfterRound, TellsRound, through}
 use Rattle.cf_follow.specs.declared.ending.Ending.{Ending}
 use Rattle.cf_follow.specs.declared.ending.Ending.TheVariants.{Done, Refused, Stopped, Unwritten}
 
@@ -149,7 +149,7 @@ says_part m n o rows why text after part round = record {
 
 -- A read is heard.
 pub hears_all : (m n o : RoundsValue) (rows : List RowValue) (text : List ℕ) (held kept : Option (List ℕ)) (result : Result (Unit {0}) Ending)
-    → HaveAllGone m rows [] n text → Tells n text [] o held kept result → Hears m rows o held kept result
+    → HaveAllGone m rows [] n text → TellsRound n text [] o held kept result → Hears m rows o held kept result
 hears_all m n o rows text held kept (Ok done) gone tells =
     (tells.0, says_all m n o rows text tells.0 gone tells.1, subst (λ (t : List ℕ). Appends held kept t) (append-nil tells.0) tells.2)
 hears_all m n o rows text held kept (Err Done) gone tells = tells
@@ -173,11 +173,12 @@ hears_part m n o rows text why held kept Unwritten part refuses =
     (refuses.0 ++ line_of why, inr (why, says_part m n o rows why text refuses.0 part refuses.1), refuses.2)
 
 -- The shelf failed.
-pub stops_told : (m n : RoundsValue) (held kept : Option (List ℕ)) (done : Unit {0}) → Tells m [] [] n held kept (Ok done)
-    → Stops m n held kept (Stopped stops.ReadFault)
+pub stops_told : (m n : RoundsValue) (held kept : Option (List ℕ)) (done : Unit {0}) → TellsRound m [] [] n held kept (Ok done)
+    → StopsAfterRound m n held kept (Stopped stops.ReadFault)
 stops_told m n held kept done tells = (tells.0, tells.1, subst (λ (t : List ℕ). Appends held kept t) (append-nil tells.0) tells.2)
 
-pub stops_untold : (m n : RoundsValue) (held kept : Option (List ℕ)) (ending : Ending) → Tells m [] [] n held kept (Err ending) → Stops m n held kept ending
+pub stops_untold : (m n : RoundsValue) (held kept : Option (List ℕ)) (ending : Ending) → TellsRound m [] [] n held kept (Err ending)
+    → StopsAfterRound m n held kept ending
 stops_untold m n held kept Done tells = tells
 stops_untold m n held kept (Refused why) tells = absurd tells
 stops_untold m n held kept (Stopped stops.ReadFault) tells = absurd tells

@@ -11,7 +11,7 @@ use Rattle.cf_row.specs.Row.{RowValue}
 use Rattle.cf_setup.specs.Setups.{SetupValue}
 use Rattle.cf_shape.specs.Lanes.{ShapeValue}
 use Rattle.cf_intake.specs.Reads.{AreRowsGiven}
-use Rattle.cf_rounds.specs.Lines.{Said, View, nothing_said, with_view}
+use Rattle.cf_rounds.specs.Lines.{Said, WindowView, nothing_said, with_view}
 use Rattle.cf_rounds.specs.Texts.{said_on, view_of, with_span}
 use Rattle.cf_rounds.proofs.Again.{again}
 use Rattle.cf_window.specs.Rounds.{Course, Span, after_reads, came, span_of, start, was_read, with_round}

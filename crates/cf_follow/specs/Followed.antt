@@ -117,7 +117,7 @@ pub record IsGoingOn (schema : PacketSchema) (begun rounds : RoundsValue) (readi
   pub written : Appends held kept (spoken begun reads)
 
 -- what a read comes to: the following goes on, or the end of the capture is reached, or it has ended
-abbrev pub GoesOn : PacketSchema → RoundsValue → RoundsValue → Reads → (before now held kept : Option (List ℕ)) → Result Bool Ending → Type 0
-GoesOn schema begun rounds reading before now held kept (Ok true) = IsGoingOn schema begun rounds reading before now held kept
-GoesOn schema begun rounds reading before now held kept (Ok false) = IsGoingOn schema begun rounds reading before now held kept × IsAtEnd now
-GoesOn schema begun rounds reading before now held kept (Err ending) = (truncated : Bool) → IsFollowed schema begun truncated before now held kept ending
+abbrev pub ReadComesTo : PacketSchema → RoundsValue → RoundsValue → Reads → (before now held kept : Option (List ℕ)) → Result Bool Ending → Type 0
+ReadComesTo schema begun rounds reading before now held kept (Ok true) = IsGoingOn schema begun rounds reading before now held kept
+ReadComesTo schema begun rounds reading before now held kept (Ok false) = IsGoingOn schema begun rounds reading before now held kept × IsAtEnd now
+ReadComesTo schema begun rounds reading before now held kept (Err ending) = (truncated : Bool) → IsFollowed schema begun truncated before now held kept ending

@@ -37,13 +37,13 @@ HaveGone old rows before new after None = HaveAllGone old rows before new after
 HaveGone old rows before new after (Some why) = HavePartGone old rows before new after why
 
 -- A round was made, and what it says is written behind a text, and then a line.
-abbrev pub Tells : RoundsValue → List ℕ → List ℕ → RoundsValue → (held kept : Option (List ℕ)) → Result (Unit {0}) Ending → Type 0
-Tells old before line new held kept (Ok done) = (after : List ℕ) × HasRound old before new after × Appends held kept (after ++ line)
-Tells old before line new held kept (Err Done) = ⊥
-Tells old before line new held kept (Err (Refused why)) = ⊥
-Tells old before line new held kept (Err (Stopped stops.ReadFault)) = ⊥
-Tells old before line new held kept (Err (Stopped stops.Memory)) = Keeps held kept
-Tells old before line new held kept (Err Unwritten) = (after : List ℕ) × HasRound old before new after × WritesFront held kept (after ++ line)
+abbrev pub TellsRound : RoundsValue → List ℕ → List ℕ → RoundsValue → (held kept : Option (List ℕ)) → Result (Unit {0}) Ending → Type 0
+TellsRound old before line new held kept (Ok done) = (after : List ℕ) × HasRound old before new after × Appends held kept (after ++ line)
+TellsRound old before line new held kept (Err Done) = ⊥
+TellsRound old before line new held kept (Err (Refused why)) = ⊥
+TellsRound old before line new held kept (Err (Stopped stops.ReadFault)) = ⊥
+TellsRound old before line new held kept (Err (Stopped stops.Memory)) = Keeps held kept
+TellsRound old before line new held kept (Err Unwritten) = (after : List ℕ) × HasRound old before new after × WritesFront held kept (after ++ line)
 
 -- The same, which ends with a refusal.
 abbrev pub Refuses : RoundsValue → List ℕ → Refusal → RoundsValue → (held kept : Option (List ℕ)) → Ending → Type 0
@@ -55,12 +55,12 @@ Refuses old before why new held kept (Stopped stops.Memory) = Keeps held kept
 Refuses old before why new held kept Unwritten = (after : List ℕ) × HasRound old before new after × WritesFront held kept (after ++ line_of why)
 
 -- The same of no text, where the shelf failed.
-abbrev pub Stops : RoundsValue → RoundsValue → (held kept : Option (List ℕ)) → Ending → Type 0
-Stops old new held kept Done = ⊥
-Stops old new held kept (Refused why) = ⊥
-Stops old new held kept (Stopped stops.ReadFault) = (after : List ℕ) × HasRound old [] new after × Appends held kept after
-Stops old new held kept (Stopped stops.Memory) = Keeps held kept
-Stops old new held kept Unwritten = (after : List ℕ) × HasRound old [] new after × WritesFront held kept after
+abbrev pub StopsAfterRound : RoundsValue → RoundsValue → (held kept : Option (List ℕ)) → Ending → Type 0
+StopsAfterRound old new held kept Done = ⊥
+StopsAfterRound old new held kept (Refused why) = ⊥
+StopsAfterRound old new held kept (Stopped stops.ReadFault) = (after : List ℕ) × HasRound old [] new after × Appends held kept after
+StopsAfterRound old new held kept (Stopped stops.Memory) = Keeps held kept
+StopsAfterRound old new held kept Unwritten = (after : List ℕ) × HasRound old [] new after × WritesFront held kept after
 
 -- what is said of all rows, a round being made then
 pub record SaysAll (old : RoundsValue) (rows : List RowValue) (new : RoundsValue) (text : List ℕ) : Type 0 where

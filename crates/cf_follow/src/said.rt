@@ -5,7 +5,7 @@ ghost use Rattle.cf_row.specs.Row.{Fits};
 ghost use Rattle.cf_intake.specs.Reads.{AreNumberedFrom};
 ghost use Rattle.cf_rounds.specs.Held.{IsSetAs};
 ghost use Rattle.cf_window.specs.Held.{count_of};
-ghost use Rattle.cf_follow.specs.Heard.{Hears, Refuses, Tells};
+ghost use Rattle.cf_follow.specs.Heard.{Hears, Refuses, TellsRound};
 ghost use Rattle.cf_follow.specs.declared.ending.Ending.TheVariants as endings;
 
 use crate::Ending;
@@ -27,7 +27,7 @@ pub(crate) fn tell<K: Sink>(
 ) -> Result<(), Ending>
     ensures set { IsSetAs rounds.old rounds.new }
     ensures window { OnOk result (rounds.new.window ≡ rounds.old.window) }
-    ensures told { Tells rounds.old (string_bytes text) line.now rounds.new (K.held sink.old) (K.held sink.new) result }
+    ensures told { TellsRound rounds.old (string_bytes text) line.now rounds.new (K.held sink.old) (K.held sink.new) result }
     ensures later { K.faults sink.old ≤ K.faults sink.new }
     ensures cause { result ≡ Err endings.Unwritten → Rose (K.faults sink.old) (K.faults sink.new) }
 {

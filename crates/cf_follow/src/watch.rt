@@ -6,9 +6,9 @@ ghost use Rattle.cf_packet6.specs.Schema6.{attrs_by};
 ghost use Rattle.cf_packet6.specs.declared.PacketSchema.{PacketSchema};
 ghost use Rattle.cf_intake.specs.declared.refusal.Stop.TheVariants as stops;
 ghost use Rattle.cf_rounds.specs.Held.{IsSetAs, RoundsValue};
-ghost use Rattle.cf_follow.specs.Followed.{GoesOn, IsFollowed, IsGoingOn, IsReady, begun_with};
+ghost use Rattle.cf_follow.specs.Followed.{ReadComesTo, IsFollowed, IsGoingOn, IsReady, begun_with};
 ghost use Rattle.cf_follow.specs.Completed.{IsWatchable, Yields};
-ghost use Rattle.cf_follow.specs.Heard.{Stops};
+ghost use Rattle.cf_follow.specs.Heard.{StopsAfterRound};
 ghost use Rattle.cf_follow.specs.declared.ending.Ending.TheVariants as endings;
 
 use crate::Ending;
@@ -64,7 +64,7 @@ impl Watch {
 // The shelf failed: a round is made of what was read.
 fn stop<K: Sink>(alloc: Global, rounds: &mut Rounds, sink: &mut K) -> Ending
     ensures set { IsSetAs rounds.old rounds.new }
-    ensures stopped { Stops rounds.old rounds.new (K.held sink.old) (K.held sink.new) result }
+    ensures stopped { StopsAfterRound rounds.old rounds.new (K.held sink.old) (K.held sink.new) result }
     ensures later { K.faults sink.old ≤ K.faults sink.new }
     ensures cause { result ≡ endings.Unwritten → Rose (K.faults sink.old) (K.faults sink.new) }
 {
@@ -90,7 +90,7 @@ fn step<R: Threads, F: Shelf, K: Sink>(
     ensures packets { OnOk result (rounds.new.window.shape.schema ≡ attrs_by reads.new.schema) }
     ensures files { F.files shelf.new ≡ F.files shelf.old }
     ensures goes { (schema : PacketSchema) (begun : RoundsValue) (before held : Option (List ℕ)) → IsGoingOn schema begun rounds.old reads.old before (F.rest shelf.old) held (K.held sink.old)
-        → GoesOn schema begun rounds.new reads.new before (F.rest shelf.new) held (K.held sink.new) result }
+        → ReadComesTo schema begun rounds.new reads.new before (F.rest shelf.new) held (K.held sink.new) result }
     ensures shelf_later { F.faults shelf.old ≤ F.faults shelf.new }
     ensures sink_later { K.faults sink.old ≤ K.faults sink.new }
     ensures read_cause { result ≡ Err (endings.Stopped stops.ReadFault) → Rose (F.faults shelf.old) (F.faults shelf.new) }

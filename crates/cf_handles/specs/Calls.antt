@@ -23,7 +23,7 @@ use Rattle.cf_calls.specs.Codes.{code_number, line_code, merge_code, open_code, 
 use Rattle.cf_calls.specs.Copied.{Puts}
 use Rattle.cf_store.specs.Opens.{Opens, Takes, Forks}
 use Rattle.cf_calls.specs.declared.refusals.AppendRefusal.{AppendRefusal}
-use Rattle.cf_store.specs.Appends.{AppendsFrames, HasRoom}
+use Rattle.cf_store.specs.Appends.{AppendsFrames, IsRoomOf}
 use Rattle.cf_store.specs.Asks.{AsksLine, AsksTail}
 
 -- the number that a call answers: 0, or that of its code
@@ -79,7 +79,7 @@ ForksTo before after m n (Err code) = (after ≡ before) × (code ≡ codes.Memo
 
 -- what the log and the writer have room for; the writer is as it was
 abbrev pub IsRoom : Writer → Writer → Result Room Code → Type 0
-IsRoom m n (Ok room) = (n ≡ m) × HasRoom m room
+IsRoom m n (Ok room) = (n ≡ m) × IsRoomOf m room
 IsRoom m n (Err code) = ⊥
 
 -- how many records are covered

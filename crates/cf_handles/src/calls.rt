@@ -1,7 +1,7 @@
 // Calls by handles.
 ghost use Rattle.std.specs.Prelude.{◌≡◌, MatchOption, OnErr, Some, None};
 ghost use Rattle.cf_calls.specs.Codes.{append_code, ask_code, lane_code, row_code};
-ghost use Rattle.cf_store.specs.Appends.{AppendsFrame, AppendsPlain, AppendsValues, HasRoom};
+ghost use Rattle.cf_store.specs.Appends.{AppendsFrame, AppendsPlain, AppendsValues, IsRoomOf};
 ghost use Rattle.cf_store.specs.Asks.{AsksAt, AsksSeen, AsksTail, ShowsRowAt, TellsGroups};
 ghost use Rattle.cf_calls.specs.Copied.{Copies};
 ghost use Rattle.cf_handles.specs.Calls.{BatchBy, ByHandle, ForksTo, IsCoded, IsRoom, IsTail, LineBy, OpensAt, TakesTo};
@@ -9,7 +9,7 @@ ghost use Rattle.cf_handles.specs.Calls.{BatchBy, ByHandle, ForksTo, IsCoded, Is
 use crate::handles::{LogHandle, ReaderHandle, WriterHandle};
 use cf_calls::copy_part;
 use cf_store::{
-    Capture, Code, Framed, Head, LineRefusal, Log, OpenRefusal, PlainValue, Room, Shown, Sizes,
+    Capture, Code, Framed, Head, LineRefusal, Log, OpenRefusal, Room, Shown, ShownValue, Sizes,
 };
 use std::alloc::Global;
 
@@ -127,7 +127,7 @@ impl WriterHandle {
         &mut self,
         alloc: Global,
         number: u32,
-        values: &[PlainValue],
+        values: &[ShownValue],
     ) -> Result<u32, Code>
         ensures { ByHandle (λ m n. IsCoded append_code (AppendsPlain number values.now m n)) self.old.seat.held self.new.seat.held result }
     {
@@ -218,7 +218,7 @@ impl ReaderHandle {
         &mut self,
         alloc: Global,
         offset: u32,
-        values: &mut [PlainValue],
+        values: &mut [ShownValue],
     ) -> Result<Shown, Code>
         ensures shown { ByHandle (λ m n. IsCoded row_code (ShowsRowAt offset m n values.old values.new)) self.old.seat.held self.new.seat.held result }
         ensures refused { OnErr result (values.new ≡ values.old) }

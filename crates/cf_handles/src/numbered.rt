@@ -18,7 +18,7 @@ ghost use Rattle.cf_handles.specs.Calls.{BatchBy, ByHandle, ForksTo, IsCoded, Is
 use crate::handles::{LogHandle, ReaderHandle, WriterHandle};
 use cf_calls::put_all;
 use cf_store::{
-    Capture, Code, Fault, Framed, Head, LineRefusal, OpenRefusal, PlainValue, Room, Sizes, measure,
+    Capture, Code, Fault, Framed, Head, LineRefusal, OpenRefusal, Room, ShownValue, Sizes, measure,
     merge,
 };
 use std::alloc::Global;
@@ -218,7 +218,7 @@ pub fn confluo_append_row(
     alloc: Global,
     writer: &mut WriterHandle,
     number: u32,
-    values: &[PlainValue],
+    values: &[ShownValue],
     offset: &mut u32,
 ) -> u32
     ensures { Tells (λ m n. IsCoded append_code (AppendsPlain number values.now m n)) writer.old.seat.held writer.new.seat.held offset.old offset.new result }
@@ -285,7 +285,7 @@ pub fn confluo_row(
     reader: &mut ReaderHandle,
     offset: u32,
     number: &mut u32,
-    values: &mut [PlainValue],
+    values: &mut [ShownValue],
     count: &mut usize,
 ) -> u32
     ensures { (r : Result ShownValue CodeValue) × ByHandle (λ m n. IsCoded row_code (ShowsRowAt offset m n values.old values.new)) reader.old.seat.held reader.new.seat.held r

@@ -8,7 +8,7 @@ use crate::numbered::{
     confluo_tail, confluo_take_reader, confluo_take_writer, confluo_words,
 };
 use cf_about::About;
-use cf_store::{Capture, Fault, Framed, Head, PlainValue, Room, Sizes};
+use cf_store::{Capture, Fault, Framed, Head, Room, ShownValue, Sizes};
 use std::alloc::Global;
 use std::process::Abort;
 use std::test::*;
@@ -280,8 +280,8 @@ fn a_batch_stops_at_the_first_refusal(rt: HostRuntime) {
     confluo_free_reader(alloc, &mut reader);
 }
 
-fn number_of(number: u64) -> PlainValue {
-    PlainValue {
+fn number_of(number: u64) -> ShownValue {
+    ShownValue {
         number,
         kind: 0,
         length: 0,
@@ -289,10 +289,10 @@ fn number_of(number: u64) -> PlainValue {
     }
 }
 
-fn string_of(length: u32, kind: u32) -> PlainValue {
+fn string_of(length: u32, kind: u32) -> ShownValue {
     let mut bytes = [0u8; 16];
     bytes[0] = b'x';
-    PlainValue {
+    ShownValue {
         number: 0,
         kind,
         length,

@@ -16,7 +16,7 @@ use std::alloc::Global;
 
 /// What a frame is beside its bytes.
 #[derive(Clone, Copy)]
-pub(crate) struct Head {
+pub(crate) struct FrameFields {
     pub num: u32,
     pub ts: u64,
     pub caplen: u32,
@@ -24,11 +24,11 @@ pub(crate) struct Head {
     pub link: u16,
 }
 
-impl Head {
-    pub(crate) fn of(frame: &Frame) -> Head
+impl FrameFields {
+    pub(crate) fn of(frame: &Frame) -> FrameFields
         ensures { frame_of result frame.now.bytes ≡ frame.now }
     {
-        Head {
+        FrameFields {
             num: frame.num,
             ts: frame.ts,
             caplen: frame.caplen,
@@ -92,7 +92,7 @@ pub(crate) fn transport_values(transport: Transport, frame: &[u8]) -> [Value; 6]
 }
 
 // All values of a packet's row.
-fn packet_values(head: Head, bytes: &[u8]) -> [Value; 20]
+fn packet_values(head: FrameFields, bytes: &[u8]) -> [Value; 20]
     ensures { result ≡ (packet_row_of (frame_of head bytes.now)).values }
 {
     let header = link_header(head.link, bytes);
@@ -128,7 +128,7 @@ fn packet_values(head: Head, bytes: &[u8]) -> [Value; 20]
     ]
 }
 
-fn row_of(alloc: Global, head: Head, bytes: &[u8]) -> Result<Row, Memory>
+fn row_of(alloc: Global, head: FrameFields, bytes: &[u8]) -> Result<Row, Memory>
     ensures row { IfOk result (λ row. row ≡ packet_row_of (frame_of head bytes.now)) }
     ensures fits { IfOk result (Fits packet_attrs) }
     ensures free { IsOk result }
@@ -147,5 +147,5 @@ pub fn packet_row(alloc: Global, frame: &Frame) -> Result<Row, Memory>
     ensures fits { IfOk result (Fits packet_attrs) }
     ensures free { IsOk result }
 {
-    row_of(alloc, Head::of(frame), &frame.bytes)
+    row_of(alloc, FrameFields::of(frame), &frame.bytes)
 }

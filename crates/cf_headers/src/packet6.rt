@@ -10,7 +10,7 @@ ghost use Rattle.cf_headers.specs.Packet6.{packet6_row_of, network_values_in as 
 use crate::ipv6::{address6_values, has_ipv6, network6_values, transport6_of};
 use crate::layer::{link_layer, past_tag, vlan_of};
 use crate::network::has_ipv4;
-use crate::packet::{Head, address_values, network_values, transport_values};
+use crate::packet::{FrameFields, address_values, network_values, transport_values};
 use crate::transport::{Transport, kind_of, transport_of};
 use cf_pcap::Frame;
 use cf_row::{Memory, Row, Value};
@@ -57,7 +57,7 @@ fn address6_if(ipv6: bool, at: usize, frame: &[u8]) -> [Value; 4]
 }
 
 // All values of a packet's row.
-fn packet6_values(head: Head, bytes: &[u8]) -> [Value; 24]
+fn packet6_values(head: FrameFields, bytes: &[u8]) -> [Value; 24]
     ensures { result ≡ (packet6_row_of (frame_of head bytes.now)).values }
 {
     let first = link_layer(head.link, bytes);
@@ -98,7 +98,7 @@ fn packet6_values(head: Head, bytes: &[u8]) -> [Value; 24]
     ]
 }
 
-fn row6_of(alloc: Global, head: Head, bytes: &[u8]) -> Result<Row, Memory>
+fn row6_of(alloc: Global, head: FrameFields, bytes: &[u8]) -> Result<Row, Memory>
     ensures row { IfOk result (λ row. row ≡ packet6_row_of (frame_of head bytes.now)) }
     ensures fits { IfOk result (Fits packet6_attrs) }
 {
@@ -113,7 +113,7 @@ pub fn packet6_row(alloc: Global, frame: &Frame) -> Result<Row, Memory>
     ensures row { IfOk result (λ row. row ≡ packet6_row_of frame.now) }
     ensures fits { IfOk result (Fits packet6_attrs) }
 {
-    row6_of(alloc, Head::of(frame), &frame.bytes)
+    row6_of(alloc, FrameFields::of(frame), &frame.bytes)
 }
 
 /// The row of a packet of kind 1, 2 or 3 from a basic link is the begin of its row with IPv6 addresses.

@@ -5,7 +5,7 @@ use Rattle.std.specs.List.{flat_map}
 use Rattle.cf_row.specs.Row.{RowValue}
 use Rattle.cf_row.specs.declared.row.Entry.{Entry}
 use Rattle.cf_shape.specs.Lanes.{ShapeValue}
-use Rattle.cf_segments.specs.Segments.{SegmentsValue, HasTurned, HoldsRows, KeepsAll, base_of, entries_of, room_of, seen_of}
+use Rattle.cf_segments.specs.Segments.{SegmentsValue, HasTurnedOver, HoldsRows, KeepsAll, base_of, entries_of, room_of, seen_of}
 use Rattle.cf_load.specs.Planned.{findings_on}
 use Rattle.cf_load.specs.Priors.{IsFoundBefore, KnowsBefore, entries_before}
 use Rattle.cf_load.specs.declared.plan.LivePlan.{LivePlan}
@@ -44,7 +44,7 @@ turned_full s t rows count keeps holds long full =
     omega (arith, full, room, same, shape, long)
 
 -- and then there is room
-pub turned_room : (t u : SegmentsValue) (count : ℕ) → HasTurned t u → count < room_of t → count ≡ base_of t + (t.shape).capacity
+pub turned_room : (t u : SegmentsValue) (count : ℕ) → HasTurnedOver t u → count < room_of t → count ≡ base_of t + (t.shape).capacity
     → count < base_of u + (u.shape).capacity
 turned_room t u count turned room full =
     let n = (t.shape).capacity in
@@ -64,7 +64,7 @@ turned_room t u count turned room full =
     omega (arith, shape, base, many, step, some, full)
 
 -- what they found in all segments is what they found before the one that came behind
-pub knows_turned : (t u : SegmentsValue) (plan : LivePlan) (prior : FoundBefore) (rows : List RowValue) → HasTurned t u → HoldsRows t rows
+pub knows_turned : (t u : SegmentsValue) (plan : LivePlan) (prior : FoundBefore) (rows : List RowValue) → HasTurnedOver t u → HoldsRows t rows
     → length rows ≡ base_of t + (t.shape).capacity → prior.base ≡ base_of u → entries_before prior ≡ flat_map seen_of u.closed
     → (0 < plan.rounds → prior.findings.items ≡ findings_on t.shape plan (entries_of t)) → KnowsBefore u plan prior
 knows_turned t u plan prior rows turned holds full base entries found =

@@ -9,7 +9,7 @@ use Rattle.cf_table.specs.Moves.{HasAll, HasPaths, SeenFirst, AreFit, MarkedIsFu
 use Rattle.cf_append.specs.Appends.{PassGoesOn, Rests, HasAppendAnswer, IsSettledTo}
 use Rattle.cf_append.specs.declared.appends.AppendFault.{AppendFault}
 use Rattle.cf_append.specs.declared.settles.Settled.{Settled}
-use Rattle.cf_log.specs.Chains.{GoesOn}
+use Rattle.cf_log.specs.Chains.{AreDoneUpTo}
 
 -- The row was appended by the pass, or why it was not: the clauses of cf_append's `append`.
 pub record HasAppended (shape : ShapeValue) (row : RowValue) (m n : PassValue) (r : Result ℕ AppendFault) : Type 0 where
@@ -35,4 +35,4 @@ pub record HasSettled (shape : ShapeValue) (offset : ℕ) (m n : PassValue) (r :
 
 -- The rows were appended in order, up to one that was refused, and their offsets stand at the front of the list.
 abbrev pub AppendsAll : ShapeValue → List RowValue → PassValue → PassValue → List ℕ → List ℕ → ℕ → Option AppendFault → Type 0
-AppendsAll shape = GoesOn (λ row m n o. HasAppended shape row m n (Ok o)) (λ row m n e. HasAppended shape row m n (Err e))
+AppendsAll shape = AreDoneUpTo (λ row m n o. HasAppended shape row m n (Ok o)) (λ row m n e. HasAppended shape row m n (Err e))

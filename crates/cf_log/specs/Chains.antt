@@ -15,7 +15,7 @@ Refuses {T} {A} Refused xs done k n (Some e) = (a : A) × (slice_get xs done ≡
 
 -- So many of them were done, in order, with answers that stand at the front of a list in place of what was there; and then the next one
 -- was refused, or there was none.
-pub record GoesOn {T A B E : Type 0} (Does : A → T → T → B → Type 0) (Refused : A → T → T → E → Type 0) (xs : List A) (m n : T)
+pub record AreDoneUpTo {T A B E : Type 0} (Does : A → T → T → B → Type 0) (Refused : A → T → T → E → Type 0) (xs : List A) (m n : T)
     (before after : List B) (done : ℕ) (stop : Option E) : Type 0 where
   pub last : T
   pub within : done ≤ length xs

@@ -12,7 +12,7 @@ use Rattle.cf_pcap.specs.declared.fault.PcapFault.{PcapFault}
 use Rattle.cf_pcap.specs.declared.fault.PcapFault.TheVariants.{BadMagic, BadVersion, BadLink, FrameTooLong, Cut, TooManyBytes, Memory}
 use Rattle.cf_pcap.specs.Capture.{number_in, layout_of, link_at, IsVersion, IsFileHeader, HasBadMagic, HasBadVersion, HasBadLink, HasLongFrame, Shows}
 use Rattle.cf_pcap.specs.Links.{is_link}
-use Rattle.cf_pcap.specs.declared.head.Head.TheVariants.{Short, Faulty, Stands}
+use Rattle.cf_pcap.specs.declared.head.HeaderShown.TheVariants.{Short, Faulty, Stands}
 use Rattle.cf_pcap.specs.File.{is_version, by_link, by_layout, head_of}
 use Rattle.cf_pcap.proofs.Following.{longer, number_first, number_later}
 

@@ -10,8 +10,8 @@ use Rattle.cf_pcap.specs.declared.scope.Scope.{Scope}
 use Rattle.cf_pcap.specs.declared.form.FileHeader.{FileHeader}
 use Rattle.cf_pcap.specs.declared.fault.PcapFault.{PcapFault}
 use Rattle.cf_pcap.specs.declared.fault.PcapFault.TheVariants.{FrameTooLong}
-use Rattle.cf_pcap.specs.declared.head.Head.{Head}
-use Rattle.cf_pcap.specs.declared.head.Head.TheVariants.{Short, Faulty, Stands}
+use Rattle.cf_pcap.specs.declared.head.HeaderShown.{HeaderShown}
+use Rattle.cf_pcap.specs.declared.head.HeaderShown.TheVariants.{Short, Faulty, Stands}
 use Rattle.cf_pcap.specs.Capture.{FrameValue, caplen_at, frame_at, IsFileHeader, HasRecord, HasLongRecord}
 use Rattle.cf_pcap.specs.File.{State, head_of, head_found, found_at, step, pcap}
 use Rattle.cf_pcap.specs.Reading.{state_of}
@@ -69,15 +69,15 @@ head_short scope bytes (Begun is less nothing) short none = is
 
 pub found_header : (scope : Scope) (header : FileHeader) (k : ℕ) (bytes : List ℕ) → IsFileHeader scope.links header bytes
     → found_at scope None k bytes ≡ Takes 24 [] (state_of (Some header) k)
-found_header scope header k bytes h = ap (λ (x : Head). head_found k x) (head_stands scope header bytes (header_of scope.links bytes) h)
+found_header scope header k bytes h = ap (λ (x : HeaderShown). head_found k x) (head_stands scope header bytes (header_of scope.links bytes) h)
 
 pub found_fault : (scope : Scope) (fault : PcapFault) (k : ℕ) (bytes : List ℕ) → HasHeaderFault scope.links bytes fault
     → found_at scope None k bytes ≡ Bad fault
-found_fault scope fault k bytes h = ap (λ (x : Head). head_found k x) (head_faulty scope fault bytes (header_of scope.links bytes) h)
+found_fault scope fault k bytes h = ap (λ (x : HeaderShown). head_found k x) (head_faulty scope fault bytes (header_of scope.links bytes) h)
 
 pub found_begun : (scope : Scope) (k : ℕ) (bytes : List ℕ) → length bytes < 24 → ((fault : PcapFault) → HasHeaderFault scope.links bytes fault → ⊥)
     → found_at scope None k bytes ≡ Wants
-found_begun scope k bytes short none = ap (λ (x : Head). head_found k x) (head_short scope bytes (header_of scope.links bytes) short none)
+found_begun scope k bytes short none = ap (λ (x : HeaderShown). head_found k x) (head_short scope bytes (header_of scope.links bytes) short none)
 
 -- Of a record.
 
@@ -330,7 +330,7 @@ counts scope s bytes n items t h = elim (taken scope s bytes n items t h) [
 ]
 
 nothing_at : (scope : Scope) (header : Option FileHeader) (k : ℕ) → found_at scope header k [] ≡ Wants
-nothing_at scope None k = ap (λ (x : Head). head_found k x) (head_few scope.links [] (omega arith))
+nothing_at scope None k = ap (λ (x : HeaderShown). head_found k x) (head_few scope.links [] (omega arith))
 nothing_at scope (Some header) k = refl
 
 nothing : (scope : Scope) (s : State) → step scope s [] ≡ Wants

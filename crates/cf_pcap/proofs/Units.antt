@@ -8,8 +8,8 @@ use Rattle.cf_stream.proofs.Units.{reads_nothing, reads_one, reads_on}
 use Rattle.cf_pcap.specs.declared.scope.Scope.{Scope}
 use Rattle.cf_pcap.specs.declared.form.FileHeader.{FileHeader}
 use Rattle.cf_pcap.specs.declared.fault.PcapFault.{PcapFault}
-use Rattle.cf_pcap.specs.declared.head.Head.{Head}
-use Rattle.cf_pcap.specs.declared.head.Head.TheVariants.{Short, Faulty, Stands}
+use Rattle.cf_pcap.specs.declared.head.HeaderShown.{HeaderShown}
+use Rattle.cf_pcap.specs.declared.head.HeaderShown.TheVariants.{Short, Faulty, Stands}
 use Rattle.cf_pcap.specs.Capture.{FrameValue, caplen_at, frame_at, IsFileHeader, HasRecord, HasLongRecord}
 use Rattle.cf_pcap.specs.File.{State, head_of, head_found, found_at, step, pcap}
 use Rattle.cf_pcap.specs.Reading.{state_of, AreRead}
@@ -59,7 +59,7 @@ pub after_head : (scope : Scope) (header : FileHeader) (k : ℕ) (bytes : List �
 after_head scope header k bytes frames t rest is read = record {
   read = reads_on (pcap scope) (state_of None k) bytes [] frames (state_of (Some header) k) (drop 24 bytes) t rest
       (reads_one (pcap scope) (state_of None k) bytes 24 [] (state_of (Some header) k)
-      (step_at scope (state_of None k) bytes ∙ ap (λ (x : Head). head_found k x) is)) read.read;
+      (step_at scope (state_of None k) bytes ∙ ap (λ (x : HeaderShown). head_found k x) is)) read.read;
   none = read.none;
 }
 
@@ -68,7 +68,7 @@ pub fault_of_head : (scope : Scope) (s : State) (fault : PcapFault) (bytes : Lis
     → step scope s bytes ≡ Bad fault
 fault_of_head scope s fault bytes none is =
     step_at scope s bytes
-    ∙ subst (λ (x : Option FileHeader). found_at scope x s.count bytes ≡ Bad fault) (sym none) (ap (λ (x : Head). head_found s.count x) is)
+    ∙ subst (λ (x : Option FileHeader). found_at scope x s.count bytes ≡ Bad fault) (sym none) (ap (λ (x : HeaderShown). head_found s.count x) is)
 
 pub no_head_fault : (scope : Scope) (s : State) (bytes : List ℕ) → s.header ≡ None → ((fault : PcapFault) → head_of scope.links bytes ≡ Faulty fault → ⊥)
     → (fault : PcapFault) → step scope s bytes ≡ Bad fault → ⊥

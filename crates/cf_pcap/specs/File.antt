@@ -9,8 +9,8 @@ use Rattle.cf_pcap.specs.declared.links.LinkSet.{LinkSet}
 use Rattle.cf_pcap.specs.declared.scope.Scope.{Scope}
 use Rattle.cf_pcap.specs.declared.fault.PcapFault.{PcapFault}
 use Rattle.cf_pcap.specs.declared.fault.PcapFault.TheVariants.{BadMagic, BadVersion, BadLink, FrameTooLong, Cut, TooManyBytes}
-use Rattle.cf_pcap.specs.declared.head.Head.{Head}
-use Rattle.cf_pcap.specs.declared.head.Head.TheVariants.{Short, Faulty, Stands}
+use Rattle.cf_pcap.specs.declared.head.HeaderShown.{HeaderShown}
+use Rattle.cf_pcap.specs.declared.head.HeaderShown.TheVariants.{Short, Faulty, Stands}
 use Rattle.cf_pcap.specs.Capture.{FrameValue, number_in, layout_of, link_at, caplen_at, frame_at}
 use Rattle.cf_pcap.specs.Links.{is_link, longest}
 
@@ -24,24 +24,24 @@ abbrev pub is_version : Layout → List ℕ → Bool
 is_version layout bytes = (number_in layout.order 2 (drop 4 bytes) == 2) && (number_in layout.order 2 (drop 6 bytes) == 4)
 
 -- what a file header shows whose version is right: its link after 24 bytes
-abbrev pub by_link : LinkSet → Layout → List ℕ → Head
+abbrev pub by_link : LinkSet → Layout → List ℕ → HeaderShown
 by_link links layout bytes =
     if nat_lt (length bytes) 24 then Short
     else (if is_link links (link_at layout bytes) then Stands (record { layout = layout; link = link_at layout bytes }) else Faulty BadLink)
 
 -- what one shows by its magic: its version after 8 bytes
-abbrev pub by_layout : LinkSet → Option Layout → List ℕ → Head
+abbrev pub by_layout : LinkSet → Option Layout → List ℕ → HeaderShown
 by_layout links None bytes = Faulty BadMagic
 by_layout links (Some layout) bytes =
     if nat_lt (length bytes) 8 then Short
     else (if is_version layout bytes then by_link links layout bytes else Faulty BadVersion)
 
 -- what the first bytes of a file show of its header: the magic after 4 bytes
-unfoldable pub head_of : LinkSet → List ℕ → Head
+unfoldable pub head_of : LinkSet → List ℕ → HeaderShown
 head_of links bytes = if nat_lt (length bytes) 4 then Short else by_layout links (layout_of bytes) bytes
 
 -- a file header gives no frame
-abbrev pub head_found : ℕ → Head → Found State FrameValue PcapFault
+abbrev pub head_found : ℕ → HeaderShown → Found State FrameValue PcapFault
 head_found k Short = Wants
 head_found k (Faulty fault) = Bad fault
 head_found k (Stands header) = Takes 24 [] (record { header = Some header; count = k })

@@ -10,7 +10,7 @@ pub(crate) const HEADER: usize = 24;
 
 /// What the first bytes of a file show of its header.
 #[derive(Clone, Copy, Debug, PartialEq, Eq)]
-pub(crate) enum Head {
+pub(crate) enum HeaderShown {
     /// Too few bytes.
     Short,
     /// No file header begins so.
@@ -28,35 +28,35 @@ fn is_version(layout: Layout, bytes: &[u8]) -> bool
 }
 
 // What a header of this layout shows by its link.
-fn by_link(links: LinkSet, layout: Layout, bytes: &[u8]) -> Head
+fn by_link(links: LinkSet, layout: Layout, bytes: &[u8]) -> HeaderShown
     ensures { result ≡ head_by_link links layout bytes.now }
 {
     if bytes.len() < HEADER {
-        return Head::Short;
+        return HeaderShown::Short;
     }
     let link = (layout.order.read_u32(&bytes[20..]) % 65536) as u16;
     if !links.reads(link) {
-        return Head::Faulty(PcapFault::BadLink);
+        return HeaderShown::Faulty(PcapFault::BadLink);
     }
-    Head::Stands(FileHeader { layout, link })
+    HeaderShown::Stands(FileHeader { layout, link })
 }
 
 // What the first bytes of a file show of its header.
 #[tactic(auto, unfolding(crate::specs::File::head_of))]
-pub(crate) fn head_of(links: LinkSet, bytes: &[u8]) -> Head
+pub(crate) fn head_of(links: LinkSet, bytes: &[u8]) -> HeaderShown
     ensures { result ≡ head_at links bytes.now }
 {
     if bytes.len() < 4 {
-        return Head::Short;
+        return HeaderShown::Short;
     }
     let Some(layout) = layout_of(bytes) else {
-        return Head::Faulty(PcapFault::BadMagic);
+        return HeaderShown::Faulty(PcapFault::BadMagic);
     };
     if bytes.len() < 8 {
-        return Head::Short;
+        return HeaderShown::Short;
     }
     if !is_version(layout, bytes) {
-        return Head::Faulty(PcapFault::BadVersion);
+        return HeaderShown::Faulty(PcapFault::BadVersion);
     }
     by_link(links, layout, bytes)
 }

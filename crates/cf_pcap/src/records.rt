@@ -5,7 +5,7 @@ ghost use Rattle.cf_stream.specs.Limits.{HasRoom};
 ghost use Rattle.cf_pcap.specs.Reading.{state_of, AreRead, IsFaultAt, IsOneRecord};
 
 use crate::form::FileHeader;
-use crate::head::{HEADER, Head, head_of};
+use crate::head::{HEADER, HeaderShown, head_of};
 use crate::{Frame, PcapFault, Scope};
 use std::alloc::{AllocError, Global};
 
@@ -17,7 +17,7 @@ pub const LONGEST: u32 = 262_144;
 
 /// What was read of some bytes: what the file header states, the frames, the number of the next, and how many of the bytes they take.
 #[derive(Drop)]
-pub(crate) struct Read {
+pub(crate) struct RecordsRead {
     pub header: Option<FileHeader>,
     pub frames: Vec<Frame>,
     pub count: u32,
@@ -99,7 +99,7 @@ fn read_records(
     header: FileHeader,
     num: u32,
     bytes: &[u8],
-) -> Result<Read, AllocError>
+) -> Result<RecordsRead, AllocError>
     requires { HasRoom scope.length (16 * num + length bytes.now) }
     ensures read { IfOk result (λ read. AreRead scope (state_of (Some header) num) bytes.now read.frames.items (state_of read.header read.count) (drop read.used bytes.now)) }
     ensures used { IfOk result (λ read. read.used ≤ length bytes.now) }
@@ -114,7 +114,7 @@ fn read_records(
         count = scope.length.number_after(count);
         rest = rest.split_at(end).1;
     }
-    Ok(Read {
+    Ok(RecordsRead {
         header: Some(header),
         frames,
         count,
@@ -123,18 +123,23 @@ fn read_records(
 }
 
 // Reads the first bytes of a file.
-fn read_first(alloc: Global, scope: Scope, num: u32, bytes: &[u8]) -> Result<Read, AllocError>
+fn read_first(
+    alloc: Global,
+    scope: Scope,
+    num: u32,
+    bytes: &[u8],
+) -> Result<RecordsRead, AllocError>
     requires { HasRoom scope.length (16 * num + length bytes.now) }
     ensures read { IfOk result (λ read. AreRead scope (state_of None num) bytes.now read.frames.items (state_of read.header read.count) (drop read.used bytes.now)) }
     ensures used { IfOk result (λ read. read.used ≤ length bytes.now) }
 {
     match head_of(scope.links, bytes) {
-        Head::Stands(header) => {
+        HeaderShown::Stands(header) => {
             let mut read = read_records(alloc, scope, header, num, bytes.split_at(HEADER).1)?;
             read.used += HEADER;
             Ok(read)
         }
-        _ => Ok(Read {
+        _ => Ok(RecordsRead {
             header: None,
             frames: Vec::new(alloc),
             count: num,
@@ -150,7 +155,7 @@ pub(crate) fn read_frames(
     header: Option<FileHeader>,
     num: u32,
     bytes: &[u8],
-) -> Result<Read, AllocError>
+) -> Result<RecordsRead, AllocError>
     requires { HasRoom scope.length (16 * num + length bytes.now) }
     ensures read { IfOk result (λ read. AreRead scope (state_of header num) bytes.now read.frames.items (state_of read.header read.count) (drop read.used bytes.now)) }
     ensures used { IfOk result (λ read. read.used ≤ length bytes.now) }
@@ -174,7 +179,7 @@ pub(crate) fn fault_at(
         Some(header) if is_too_long(header, bytes) => Some(PcapFault::FrameTooLong(num)),
         Some(_) => None,
         None => match head_of(scope.links, bytes) {
-            Head::Faulty(fault) => Some(fault),
+            HeaderShown::Faulty(fault) => Some(fault),
             _ => None,
         },
     }

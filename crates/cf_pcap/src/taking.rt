@@ -11,7 +11,7 @@ use std::alloc::{AllocError, Global};
 
 /// What the bytes at hand gave: the frames, the reader after them, and how many of the bytes it lets go.
 #[derive(Drop)]
-struct Given {
+struct BytesTaken {
     stage: Stage<PcapFault>,
     header: Option<FileHeader>,
     frames: Vec<Frame>,
@@ -68,7 +68,7 @@ fn read_with_stage(
     place: Place,
     late: usize,
     bytes: &[u8],
-) -> Result<Given, AllocError>
+) -> Result<BytesTaken, AllocError>
     requires late { late ≤ length bytes.now }
     requires room { HasRoom place.scope.length (16 * place.count + length bytes.now) }
     ensures taken { IfOk result (λ given. AreTaken place.scope (state_of place.header place.count) late bytes.now given.frames.items
@@ -88,7 +88,7 @@ fn read_with_stage(
         Stage::Running => read.used,
         Stage::Stopped(_) => bytes.len(),
     };
-    Ok(Given {
+    Ok(BytesTaken {
         stage,
         header: read.header,
         frames: read.frames,

@@ -6,7 +6,7 @@ use Rattle.cf_pcap.specs.declared.form.Order.{Order}
 use Rattle.cf_pcap.specs.Capture.{FrameValue}
 use Rattle.cf_stream.specs.declared.limit.Length.{Length}
 use Rattle.cf_stream.specs.declared.limit.Length.TheVariants.{Limited, Any}
-use Rattle.cf_stream.specs.Limits.{IsShort, IsLong, IsAtLimit, HasRoom as MayCome, IsTotal, total_on}
+use Rattle.cf_stream.specs.Limits.{IsShort, IsLong, IsAtLimit, HasRoom, IsTotal, total_on}
 use Rattle.cf_stream.proofs.Limits.{limit_long, total_same}
 use Rattle.cf_stream.specs.Format.{Wants, Bad, ReadsTo, IsFound}
 use Rattle.cf_stream.specs.Stream.{Runs}
@@ -20,13 +20,13 @@ use Rattle.cf_stream.specs.declared.stage.Stage.TheVariants.{Running, Stopped}
 use Rattle.cf_pcapng.specs.declared.passed.Passed.{Passed}
 use Rattle.cf_pcapng.specs.File.{State, fault_of, step, pcapng}
 use Rattle.cf_pcapng.specs.Position.{listed, PositionValue, state_of}
-use Rattle.cf_pcapng.specs.Reading.{WasPassed, Begins, Breaks, AreReadOn, FitsIn, early_of, late_of, IsGoneOn, MayGoOn}
+use Rattle.cf_pcapng.specs.Reading.{WasPassed, Begins, Breaks, AreReadOn, FitsIn, early_bytes, late_bytes, IsGoneOn, MayGoOn}
 use Rattle.cf_stream.specs.Stages.{IsAt, answer_at, kept_at}
 use Rattle.cf_stream.proofs.Stages.{at_running}
 use Rattle.cf_pcapng.specs.Reader.{PcapNgValue, IsRunning, IsStateOf, IsFed, IsEnded, IsSoundAt, IsSound, IsCalled, state_after, ShowsLate, IsStageAtLimit, IsStageAfter}
 use Rattle.cf_pcapng.specs.declared.interfaces.Interface.{Interface}
 use Rattle.cf_pcapng.specs.declared.position.Reached.{Reached}
-use Rattle.cf_pcapng.specs.declared.head.Kind.TheVariants.{Other}
+use Rattle.cf_pcapng.specs.declared.head.BlockKind.TheVariants.{Other}
 use Rattle.cf_pcapng.proofs.Heads.{standing}
 use Rattle.cf_pcapng.proofs.Steps.{stepper}
 
@@ -38,11 +38,11 @@ regroup : (a b c : List ℕ) → a ++ (b ++ c) ≡ (a ++ b) ++ c
 regroup a b c = sym (append_assoc a b c)
 
 -- the two parts of a piece
-both_parts : (l : Length) (total : ℕ) (piece : List ℕ) → early_of l total piece ++ late_of l total piece ≡ piece
+both_parts : (l : Length) (total : ℕ) (piece : List ℕ) → early_bytes l total piece ++ late_bytes l total piece ≡ piece
 both_parts Any total piece = append-nil piece
 both_parts Limited total piece = take-append-drop (2 ^ 32 - 1 - total) piece
 
-early_short : (l : Length) (total n : ℕ) (piece early : List ℕ) → IsShort l total → IsTotal l total n → early ≡ early_of l total piece
+early_short : (l : Length) (total n : ℕ) (piece early : List ℕ) → IsShort l total → IsTotal l total n → early ≡ early_bytes l total piece
     → IsShort l (n + length early)
 early_short Any total n piece early small is early_is = tt
 early_short Limited total n piece early small is early_is =
@@ -50,7 +50,7 @@ early_short Limited total n piece early small is early_is =
     omega (arith, size, small, is)
 
 late_limit : (l : Length) (total n : ℕ) (piece early : List ℕ) (byte : ℕ) (late : List ℕ) → IsShort l total → IsTotal l total n
-    → early ≡ early_of l total piece → (byte ∷ late) ≡ late_of l total piece → IsAtLimit l (n + length early + 1)
+    → early ≡ early_bytes l total piece → (byte ∷ late) ≡ late_bytes l total piece → IsAtLimit l (n + length early + 1)
 late_limit Any total n piece early byte late small is early_is late_is = let none : length (byte ∷ late) ≡ 0 = ap length late_is in
     absurd (omega (arith, none))
 late_limit Limited total n piece early byte late small is early_is late_is =
@@ -66,7 +66,7 @@ total_first : (l : Length) (total : ℕ) → total ≡ 0 → IsTotal l total 0
 total_first Any total is = tt
 total_first Limited total is = is
 
-short_after : (l : Length) (total : ℕ) (piece early : List ℕ) (after : ℕ) → IsShort l total → early ≡ early_of l total piece
+short_after : (l : Length) (total : ℕ) (piece early : List ℕ) (after : ℕ) → IsShort l total → early ≡ early_bytes l total piece
     → after ≡ total_on l total (length early) → IsShort l after
 short_after Any total piece early after small early_is after_is = tt
 short_after Limited total piece early after small early_is after_is =
@@ -79,7 +79,7 @@ fits_after Any total frames held early count kept after had on after_is = tt
 fits_after Limited total frames held early count kept after had on after_is = omega (arith, had, on, after_is)
 
 byte_room : (l : Length) (total frames held count kept : ℕ) (piece early : List ℕ) → IsShort l total → FitsIn l (frames + held) total
-    → early ≡ early_of l total piece → FitsIn l (count + kept) (frames + (held + length early)) → MayCome l (count + kept + 1)
+    → early ≡ early_bytes l total piece → FitsIn l (count + kept) (frames + (held + length early)) → HasRoom l (count + kept + 1)
 byte_room Any total frames held count kept piece early small had early_is on = tt
 byte_room Limited total frames held count kept piece early small had early_is on =
     let size : length early ≡ min (2 ^ 32 - 1 - total) (length piece) = ap length early_is ∙ length-take (2 ^ 32 - 1 - total) piece in
@@ -87,7 +87,7 @@ byte_room Limited total frames held count kept piece early small had early_is on
 
 -- no more bytes are taken than there is room for
 pub room_for : (l : Length) (total frames held : ℕ) (piece early : List ℕ) → IsShort l total → FitsIn l (frames + held) total
-    → early ≡ early_of l total piece → MayCome l (frames + (held + length early)) × MayCome l (total + length early)
+    → early ≡ early_bytes l total piece → HasRoom l (frames + (held + length early)) × HasRoom l (total + length early)
 room_for Any total frames held piece early small had early_is = (tt, tt)
 room_for Limited total frames held piece early small had early_is =
     let size : length early ≡ min (2 ^ 32 - 1 - total) (length piece) = ap length early_is ∙ length-take (2 ^ 32 - 1 - total) piece in
@@ -96,14 +96,14 @@ room_for Limited total frames held piece early small had early_is =
 -- a call of which some bytes come early enough
 record Call (before : PcapNgValue) (stream piece early late : List ℕ) : Type 0 where
   run : IsRunning before stream
-  early_is : early ≡ early_of before.scope.length before.total piece
-  late_is : late ≡ late_of before.scope.length before.total piece
+  early_is : early ≡ early_bytes before.scope.length before.total piece
+  late_is : late ≡ late_bytes before.scope.length before.total piece
   small : IsShort before.scope.length before.total
 
 whole_piece : (before : PcapNgValue) (stream piece early late : List ℕ) → Call before stream piece early late → early ++ late ≡ piece
 whole_piece before stream piece early late call =
     ap (λ xs. xs ++ late) call.early_is
-    ∙ ap (λ xs. early_of before.scope.length before.total piece ++ xs) call.late_is
+    ∙ ap (λ xs. early_bytes before.scope.length before.total piece ++ xs) call.late_is
     ∙ both_parts before.scope.length before.total piece
 
 early_fits : (before : PcapNgValue) (stream piece early late : List ℕ) → Call before stream piece early late
@@ -255,7 +255,7 @@ sound_case before early (byte ∷ late) t passed held (Some flaw) total stage ha
 -- room for one more byte
 pub may_go_on : (before : PcapNgValue) (piece early : List ℕ) (t : State) (passed : Option Passed) (held : List ℕ) (flaw : Option Flaw)
     → IsShort before.scope.length before.total → FitsIn before.scope.length (before.state.count + length before.held) before.total
-    → early ≡ early_of before.scope.length before.total piece
+    → early ≡ early_bytes before.scope.length before.total piece
     → IsGoneOn before.scope.length before.state (length (before.held ++ early)) t passed held flaw → MayGoOn before.scope.length t passed held flaw
 may_go_on before piece early t passed held (Some flaw) small had early_is on = tt
 may_go_on before piece early t passed held None small had early_is on =
@@ -268,8 +268,9 @@ may_go_on before piece early t passed held None small had early_is on =
 
 -- a call that takes a piece
 pub called : (before : PcapNgValue) (piece early late bytes : List ℕ) (given : List FrameValue) (s t : State) (passed : Option Passed) (held kept : List ℕ)
-    (flaw : Option Flaw) (total : ℕ) (stage : Stage NgFault) → before.stage ≡ Running → IsSound before → early ≡ early_of before.scope.length before.total piece
-    → late ≡ late_of before.scope.length before.total piece → bytes ≡ before.held ++ early → s ≡ before.state
+    (flaw : Option Flaw) (total : ℕ) (stage : Stage NgFault) → before.stage ≡ Running → IsSound before
+    → early ≡ early_bytes before.scope.length before.total piece → late ≡ late_bytes before.scope.length before.total piece
+    → bytes ≡ before.held ++ early → s ≡ before.state
     → ((gone : List ℕ) → WasPassed s.order before.passed gone → AreReadOn before.scope s (gone ++ bytes) given t passed held flaw)
     → IsGoneOn before.scope.length s (length bytes) t passed held flaw → IsStageAfter before.scope t passed held flaw late stage
     → total ≡ total_on before.scope.length before.total (length early)

@@ -8,9 +8,9 @@ use Rattle.cf_pcap.specs.declared.form.Order.TheVariants.{Little, Big}
 use Rattle.cf_pcap.specs.Capture.{number_in}
 use Rattle.cf_pcap.proofs.Following.{longer, number_first, number_later}
 use Rattle.cf_pcapng.specs.declared.fault.Flaw.TheVariants.{BadLength}
-use Rattle.cf_pcapng.specs.declared.head.Kind.{Kind}
-use Rattle.cf_pcapng.specs.declared.head.Kind.TheVariants.{SectionHeader, InterfaceDescription, EnhancedPacket, SimplePacket, Other}
-use Rattle.cf_pcapng.specs.declared.head.Head.TheVariants.{Short, Flawed, Stands}
+use Rattle.cf_pcapng.specs.declared.head.BlockKind.{BlockKind}
+use Rattle.cf_pcapng.specs.declared.head.BlockKind.TheVariants.{SectionHeader, InterfaceDescription, EnhancedPacket, SimplePacket, Other}
+use Rattle.cf_pcapng.specs.declared.head.BlockHead.TheVariants.{Short, Flawed, Stands}
 use Rattle.cf_pcapng.specs.Blocks.{is_section, kind_of, order_at, least, is_within, is_total, total_at, sized, in_order, section_head, block_head, head_of}
 
 pub below : (n m : ℕ) → n < m → nat_lt n m ≡ true
@@ -55,7 +55,7 @@ section_first xs ys h = ap (λ n. n == 0x0a0d0d0a) (number_first Little 4 xs ys 
 order_first : (xs ys : List ℕ) → 12 ≤ length xs → order_at (xs ++ ys) ≡ order_at xs
 order_first xs ys h = rw (number_later Little 4 8 xs ys (omega (arith, h)), number_later Big 4 8 xs ys (omega (arith, h))) refl
 
-sized_first : (order : Order) (kind : Kind) (xs ys : List ℕ) → 8 ≤ length xs → sized order kind (xs ++ ys) ≡ sized order kind xs
+sized_first : (order : Order) (kind : BlockKind) (xs ys : List ℕ) → 8 ≤ length xs → sized order kind (xs ++ ys) ≡ sized order kind xs
 unfolding sized
 sized_first order kind xs ys h = rw (number_later order 4 4 xs ys (omega (arith, h))) refl
 
@@ -117,22 +117,22 @@ head_stays order xs ys seen = elim (cases_lt (length xs) 4) [
 -- what a head that stands says
 
 -- a lawful block of a kind: one that is passed over is no section header, and is in a section's byte order
-pub record Standing (order : Option Order) (bytes : List ℕ) (o : Order) (kind : Kind) (total : ℕ) : Type 0 where
+pub record Standing (order : Option Order) (bytes : List ℕ) (o : Order) (kind : BlockKind) (total : ℕ) : Type 0 where
   pub lawful : is_total kind total ≡ true
   pub total_is : total ≡ total_at o bytes
   pub size : 8 ≤ length bytes
   pub other : kind ≡ Other → (is_section bytes ≡ false) × (order ≡ Some o)
 
-stands_order : (a b : Order) (j k : Kind) (n m : ℕ) → Stands a j n ≡ Stands b k m → a ≡ b
+stands_order : (a b : Order) (j k : BlockKind) (n m : ℕ) → Stands a j n ≡ Stands b k m → a ≡ b
 stands_order a b j k n m h = cc
 
-stands_kind : (a b : Order) (j k : Kind) (n m : ℕ) → Stands a j n ≡ Stands b k m → j ≡ k
+stands_kind : (a b : Order) (j k : BlockKind) (n m : ℕ) → Stands a j n ≡ Stands b k m → j ≡ k
 stands_kind a b j k n m h = cc
 
-stands_total : (a b : Order) (j k : Kind) (n m : ℕ) → Stands a j n ≡ Stands b k m → n ≡ m
+stands_total : (a b : Order) (j k : BlockKind) (n m : ℕ) → Stands a j n ≡ Stands b k m → n ≡ m
 stands_total a b j k n m h = cc
 
-sized_standing : (order : Option Order) (p o : Order) (j kind : Kind) (bytes : List ℕ) (total : ℕ) → 8 ≤ length bytes
+sized_standing : (order : Option Order) (p o : Order) (j kind : BlockKind) (bytes : List ℕ) (total : ℕ) → 8 ≤ length bytes
     → (j ≡ Other → (is_section bytes ≡ false) × (order ≡ Some p)) → sized p j bytes ≡ Stands o kind total → Standing order bytes o kind total
 unfolding sized
 sized_standing order p o j kind bytes total size other h = by_test (is_total j (total_at p bytes)) refl h where
@@ -142,19 +142,19 @@ sized_standing order p o j kind bytes total size other h = by_test (is_total j (
       let order_is : p ≡ o = stands_order p o j kind (total_at p bytes) total e in
       let kind_is : j ≡ kind = stands_kind p o j kind (total_at p bytes) total e in
       let total_is : total_at p bytes ≡ total = stands_total p o j kind (total_at p bytes) total e in record {
-        lawful = ap (λ (k : Kind). is_total k total) (sym kind_is) ∙ ap (λ n. is_total j n) (sym total_is) ∙ is;
+        lawful = ap (λ (k : BlockKind). is_total k total) (sym kind_is) ∙ ap (λ n. is_total j n) (sym total_is) ∙ is;
         total_is = sym total_is ∙ ap (λ (x : Order). total_at x bytes) order_is;
         size = size;
         other = λ k. let both = other (kind_is ∙ k) in (both.0, both.1 ∙ ap (λ (x : Order). Some x) order_is);
       }
   by_test false is e = cc
 
-in_order_standing : (order found : Option Order) (bytes : List ℕ) (o : Order) (kind : Kind) (total : ℕ) → 8 ≤ length bytes
+in_order_standing : (order found : Option Order) (bytes : List ℕ) (o : Order) (kind : BlockKind) (total : ℕ) → 8 ≤ length bytes
     → in_order found bytes ≡ Stands o kind total → Standing order bytes o kind total
 in_order_standing order None bytes o kind total size h = cc
 in_order_standing order (Some p) bytes o kind total size h = sized_standing order p o SectionHeader kind bytes total size (λ e. cc) h
 
-block_standing : (order : Option Order) (bytes : List ℕ) (o : Order) (kind : Kind) (total : ℕ) → is_section bytes ≡ false
+block_standing : (order : Option Order) (bytes : List ℕ) (o : Order) (kind : BlockKind) (total : ℕ) → is_section bytes ≡ false
     → block_head order bytes ≡ Stands o kind total → Standing order bytes o kind total
 block_standing None bytes o kind total is h = cc
 block_standing (Some p) bytes o kind total is h = elim (cases_lt (length bytes) 8) [
@@ -162,14 +162,14 @@ block_standing (Some p) bytes o kind total is h = elim (cases_lt (length bytes) 
   | inr size ↦ sized_standing (Some p) p o (kind_of (number_in p 4 bytes)) kind bytes total size (λ _. (is, refl)) (sym (block_long p bytes size) ∙ h)
 ]
 
-section_standing : (order : Option Order) (bytes : List ℕ) (o : Order) (kind : Kind) (total : ℕ) → section_head bytes ≡ Stands o kind total
+section_standing : (order : Option Order) (bytes : List ℕ) (o : Order) (kind : BlockKind) (total : ℕ) → section_head bytes ≡ Stands o kind total
     → Standing order bytes o kind total
 section_standing order bytes o kind total h = elim (cases_lt (length bytes) 12) [
   | inl short ↦ let none : Short ≡ Stands o kind total = sym (section_short bytes short) ∙ h in cc
   | inr size ↦ in_order_standing order (order_at bytes) bytes o kind total (omega (arith, size)) (sym (section_long bytes size) ∙ h)
 ]
 
-pub standing : (order : Option Order) (bytes : List ℕ) (o : Order) (kind : Kind) (total : ℕ) → head_of order bytes ≡ Stands o kind total
+pub standing : (order : Option Order) (bytes : List ℕ) (o : Order) (kind : BlockKind) (total : ℕ) → head_of order bytes ≡ Stands o kind total
     → Standing order bytes o kind total
 standing order bytes o kind total h = elim (cases_lt (length bytes) 4) [
   | inl short ↦ let none : Short ≡ Stands o kind total = sym (head_short order bytes short) ∙ h in cc
@@ -179,26 +179,26 @@ standing order bytes o kind total h = elim (cases_lt (length bytes) 4) [
   by_section true is long = section_standing order bytes o kind total (sym (head_section order bytes long is) ∙ h)
   by_section false is long = block_standing order bytes o kind total is (sym (head_block order bytes long is) ∙ h)
 
-pub at_least : (kind : Kind) (n : ℕ) → is_total kind n ≡ true → least kind ≤ n
+pub at_least : (kind : BlockKind) (n : ℕ) → is_total kind n ≡ true → least kind ≤ n
 at_least kind n h =
     let front = both ((n % 4 == 0) && nat_le (least kind) n) (is_within kind n) h in
     let mid = both (n % 4 == 0) (nat_le (least kind) n) front.0 in
     let is : nat_le (least kind) n ≡ true = mid.1 in
     grind (arith, nat_tests)
 
-pub least_12 : (kind : Kind) → 12 ≤ least kind
+pub least_12 : (kind : BlockKind) → 12 ≤ least kind
 least_12 SectionHeader = omega arith
 least_12 InterfaceDescription = omega arith
 least_12 EnhancedPacket = omega arith
 least_12 SimplePacket = omega arith
 least_12 Other = omega arith
 
-pub at_most : (kind : Kind) (n : ℕ) → is_total kind n ≡ true → (kind ≡ Other → ⊥) → n ≤ 2 ^ 20
+pub at_most : (kind : BlockKind) (n : ℕ) → is_total kind n ≡ true → (kind ≡ Other → ⊥) → n ≤ 2 ^ 20
 at_most kind n h other = by_kind kind ((both ((n % 4 == 0) && nat_le (least kind) n) (is_within kind n) h).1) other where
   within : (n : ℕ) → nat_le n (2 ^ 20) ≡ true → n ≤ 2 ^ 20
   within n h = grind (arith, nat_tests)
 
-  by_kind : (kind : Kind) → is_within kind n ≡ true → (kind ≡ Other → ⊥) → n ≤ 2 ^ 20
+  by_kind : (kind : BlockKind) → is_within kind n ≡ true → (kind ≡ Other → ⊥) → n ≤ 2 ^ 20
   by_kind SectionHeader h other = within n h
   by_kind InterfaceDescription h other = within n h
   by_kind EnhancedPacket h other = within n h
@@ -206,7 +206,7 @@ at_most kind n h other = by_kind kind ((both ((n % 4 == 0) && nat_le (least kind
   by_kind Other h other = absurd (other refl)
 
 -- a head that isn't seen yet has few bytes
-sized_seen : (order : Order) (kind : Kind) (bytes : List ℕ) → sized order kind bytes ≡ Short → ⊥
+sized_seen : (order : Order) (kind : BlockKind) (bytes : List ℕ) → sized order kind bytes ≡ Short → ⊥
 unfolding sized
 sized_seen order kind bytes h = by_test (is_total kind (total_at order bytes)) h where
   by_test : (b : Bool) → cond b (Stands order kind (total_at order bytes)) (Flawed BadLength) ≡ Short → ⊥

@@ -11,9 +11,9 @@ use Rattle.cf_pcap.specs.Capture.{FrameValue}
 use Rattle.cf_stream.specs.Format.{Wants, Bad, Takes, ReadsTo}
 use Rattle.cf_stream.proofs.Units.{reads_on, reads_one}
 use Rattle.cf_pcapng.specs.declared.fault.Flaw.{Flaw}
-use Rattle.cf_pcapng.specs.declared.head.Kind.{Kind}
-use Rattle.cf_pcapng.specs.declared.head.Head.{Head}
-use Rattle.cf_pcapng.specs.declared.head.Head.TheVariants.{Short, Flawed, Stands}
+use Rattle.cf_pcapng.specs.declared.head.BlockKind.{BlockKind}
+use Rattle.cf_pcapng.specs.declared.head.BlockHead.{BlockHead}
+use Rattle.cf_pcapng.specs.declared.head.BlockHead.TheVariants.{Short, Flawed, Stands}
 use Rattle.cf_pcapng.specs.declared.content.Content.{Content}
 use Rattle.cf_pcapng.specs.declared.content.Content.TheVariants.{NewSection, NewInterface, Captures, Nothing}
 use Rattle.cf_pcapng.specs.declared.blocks.Next.{Next}
@@ -24,16 +24,16 @@ use Rattle.cf_pcapng.specs.Reading.{block_next, next_at, next_of, IsEnd, AreRead
 use Rattle.cf_pcapng.proofs.Heads.{below, not_below}
 use Rattle.cf_pcapng.proofs.Steps.{Shown, step_at, length_front}
 
-pub next_by_head : (links : LinkSet) (s : State) (bytes : List ℕ) (head : Head) → head_of s.order bytes ≡ head
+pub next_by_head : (links : LinkSet) (s : State) (bytes : List ℕ) (head : BlockHead) → head_of s.order bytes ≡ head
     → next_of links s bytes ≡ next_at links s.interfaces bytes head
 unfolding next_of
-next_by_head links s bytes head h = ap (λ (x : Head). next_at links s.interfaces bytes x) h
+next_by_head links s bytes head h = ap (λ (x : BlockHead). next_at links s.interfaces bytes x) h
 
-pub next_part : (links : LinkSet) (s : State) (bytes : List ℕ) (order : Order) (kind : Kind) (total : ℕ) → head_of s.order bytes ≡ Stands order kind total
+pub next_part : (links : LinkSet) (s : State) (bytes : List ℕ) (order : Order) (kind : BlockKind) (total : ℕ) → head_of s.order bytes ≡ Stands order kind total
     → length bytes < total → next_of links s bytes ≡ next.Wants
 next_part links s bytes order kind total h short = next_by_head links s bytes (Stands order kind total) h ∙ rw (below (length bytes) total short) refl
 
-pub next_whole : (links : LinkSet) (s : State) (bytes : List ℕ) (order : Order) (kind : Kind) (total : ℕ) → head_of s.order bytes ≡ Stands order kind total
+pub next_whole : (links : LinkSet) (s : State) (bytes : List ℕ) (order : Order) (kind : BlockKind) (total : ℕ) → head_of s.order bytes ≡ Stands order kind total
     → total ≤ length bytes → next_of links s bytes ≡ block_next total (content_of links s.interfaces order kind (take total bytes))
 next_whole links s bytes order kind total h whole = next_by_head links s bytes (Stands order kind total) h ∙ rw (not_below (length bytes) total whole) refl
 
@@ -49,7 +49,7 @@ by_content l s bytes total (Ok content) whole =
     ap (λ n. Takes n (frames_of s.count content (take total bytes)) (after l s content)) (length_front total bytes whole)
 by_content l s bytes total (Err flaw) whole = refl
 
-by_head : (scope : Scope) (s : State) (bytes : List ℕ) (head : Head)
+by_head : (scope : Scope) (s : State) (bytes : List ℕ) (head : BlockHead)
     → found_at scope s bytes head ≡ shown_by scope.length s bytes (next_at scope.links s.interfaces bytes head)
 by_head scope s bytes Short = refl
 by_head scope s bytes (Flawed flaw) = refl

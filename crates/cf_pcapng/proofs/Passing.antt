@@ -10,22 +10,22 @@ use Rattle.cf_pcap.specs.Capture.{FrameValue, number_in}
 use Rattle.cf_pcap.proofs.Following.{number_later}
 use Rattle.cf_stream.specs.declared.limit.Length.{Length}
 use Rattle.cf_stream.specs.declared.limit.Length.TheVariants.{Limited, Any}
-use Rattle.cf_stream.specs.Limits.{count_on, HasRoom as MayCome}
+use Rattle.cf_stream.specs.Limits.{count_on, HasRoom}
 use Rattle.cf_stream.specs.Format.{Wants, Bad, Takes, ReadsTo}
 use Rattle.cf_stream.proofs.Units.{reads_nothing, reads_more, reads_on, reads_one, reads_fit, reads_count}
 use Rattle.cf_pcapng.specs.declared.fault.Flaw.{Flaw}
 use Rattle.cf_pcapng.specs.declared.fault.Flaw.TheVariants.{BadLength}
-use Rattle.cf_pcapng.specs.declared.head.Kind.{Kind}
-use Rattle.cf_pcapng.specs.declared.head.Kind.TheVariants.{Other}
-use Rattle.cf_pcapng.specs.declared.head.Head.{Head}
-use Rattle.cf_pcapng.specs.declared.head.Head.TheVariants.{Short, Flawed, Stands}
+use Rattle.cf_pcapng.specs.declared.head.BlockKind.{BlockKind}
+use Rattle.cf_pcapng.specs.declared.head.BlockKind.TheVariants.{Other}
+use Rattle.cf_pcapng.specs.declared.head.BlockHead.{BlockHead}
+use Rattle.cf_pcapng.specs.declared.head.BlockHead.TheVariants.{Short, Flawed, Stands}
 use Rattle.cf_pcapng.specs.declared.interfaces.Interface.{Interface}
 use Rattle.cf_pcapng.specs.declared.content.Content.{Content}
 use Rattle.cf_pcapng.specs.declared.content.Content.TheVariants.{Nothing}
 use Rattle.cf_pcapng.specs.declared.passed.Passed.{Passed}
 use Rattle.cf_pcapng.specs.Blocks.{head_of, last_total, content_of, is_section}
 use Rattle.cf_pcapng.specs.File.{State, fault_of, found_at, block_found, step, pcapng}
-use Rattle.cf_pcapng.specs.Reading.{AreRead, WasPassed, Begins, Breaks, AreReadOn, AreReadOnAfter, IsLetGo, IsPassedAt, HasRoom, FitsIn, IsSoundOn, IsGoneOn, MayReadOn, size_by, missing_of}
+use Rattle.cf_pcapng.specs.Reading.{AreRead, WasPassed, Begins, Breaks, AreReadOn, AreReadOnAfter, IsLetGo, IsPassedAt, KeepsLastField, FitsIn, IsSoundOn, IsGoneOn, MayReadOn, size_by, missing_of}
 use Rattle.cf_pcapng.proofs.Heads.{head_stays, head_by_8, section_first, standing, at_least, at_most, seen_size}
 use Rattle.cf_pcapng.proofs.Steps.{Shown, step_at, found_short, found_whole, length_front, block_not_wants, stepper}
 
@@ -103,14 +103,14 @@ passed_flawed scope s block gone bytes was whole other =
 
 -- What is held of a block that has only begun.
 
-few_at : (scope : Scope) (s : State) (rest : List ℕ) (head : Head) → head_of s.order rest ≡ head → found_at scope s rest head ≡ Wants
+few_at : (scope : Scope) (s : State) (rest : List ℕ) (head : BlockHead) → head_of s.order rest ≡ head → found_at scope s rest head ≡ Wants
     → IsPassedAt s.order rest None → length rest < 2 ^ 20
 few_at scope s rest Short is h none = let small : length rest < 12 = seen_size s.order rest is in omega (arith, small)
 few_at scope s rest (Flawed flaw) is h none = absurd (let no : ◌≡◌ {A = Shown} (Bad (fault_of s.count flaw)) Wants = h in cc)
 few_at scope s rest (Stands order kind total) is h none = elim (cases_lt (length rest) total) [
   | inl short ↦
       let it = standing s.order rest order kind total is in
-      let most : total ≤ 2 ^ 20 = at_most kind total it.lawful (λ e. none order total short (is ∙ ap (λ (k : Kind). Stands order k total) e)) in
+      let most : total ≤ 2 ^ 20 = at_most kind total it.lawful (λ e. none order total short (is ∙ ap (λ (k : BlockKind). Stands order k total) e)) in
       omega (arith, short, most)
   | inr whole ↦ absurd
       (block_not_wants scope s (take total rest) (content_of scope.links s.interfaces order kind (take total rest))
@@ -250,7 +250,7 @@ sound_of scope s bytes frames t passed held None on =
       room = room_of t.order passed on.gone on.was;
       few = on.few;
     } where
-      room_of : (order : Option Order) (passed : Option Passed) (gone : List ℕ) → WasPassed order passed gone → HasRoom passed
+      room_of : (order : Option Order) (passed : Option Passed) (gone : List ℕ) → WasPassed order passed gone → KeepsLastField passed
       room_of order None gone was = tt
       room_of order (Some block) gone was = was.2
 
@@ -337,13 +337,13 @@ then_sound l s size n t passed held u block rest (Some flaw) had on = tt
 then_sound l s size n t passed held u block rest None had on =
     record { fits = fits_then l s.count size t.count (length held) n (u.count + length rest) had.fits on.fits; room = on.room; few = on.few }
 
-room_then : (l : Length) (k size t held n all : ℕ) → FitsIn l (t + held) (k + size) → size + n ≤ all → MayCome l (k + all) → MayCome l (t + (held + n))
+room_then : (l : Length) (k size t held n all : ℕ) → FitsIn l (t + held) (k + size) → size + n ≤ all → HasRoom l (k + all) → HasRoom l (t + (held + n))
 room_then Any k size t held n all had few room = tt
 room_then Limited k size t held n all had few room = omega (arith, had, few, room)
 
 -- there is room for what comes after it
 pub may_read_on : (l : Length) (s : State) (size n all : ℕ) (t : State) (passed : Option Passed) (held : List ℕ) (flaw : Option Flaw)
-    → IsGoneOn l s size t passed held flaw → size + n ≤ all → MayCome l (s.count + all) → MayReadOn l t passed held flaw n
+    → IsGoneOn l s size t passed held flaw → size + n ≤ all → HasRoom l (s.count + all) → MayReadOn l t passed held flaw n
 may_read_on l s size n all t passed held (Some flaw) on few room = tt
 may_read_on l s size n all t passed held None on few room =
     (on.room, on.few, room_then l s.count size t.count (length held) n all on.fits few room)

@@ -13,9 +13,9 @@ use Rattle.cf_stream.specs.Format.{Wants, Bad, Takes}
 use Rattle.cf_pcapng.specs.declared.fault.Flaw.{Flaw}
 use Rattle.cf_pcapng.specs.declared.fault.Flaw.TheVariants.{BadMagic, BadVersion, BadLink, FrameTooLong, BadLength, NoInterface}
 use Rattle.cf_pcapng.specs.declared.fault.NgFault.{NgFault}
-use Rattle.cf_pcapng.specs.declared.head.Kind.{Kind}
-use Rattle.cf_pcapng.specs.declared.head.Kind.TheVariants.{SectionHeader, InterfaceDescription, EnhancedPacket, SimplePacket, Other}
-use Rattle.cf_pcapng.specs.declared.head.Head.TheVariants.{Short, Flawed, Stands}
+use Rattle.cf_pcapng.specs.declared.head.BlockKind.{BlockKind}
+use Rattle.cf_pcapng.specs.declared.head.BlockKind.TheVariants.{SectionHeader, InterfaceDescription, EnhancedPacket, SimplePacket, Other}
+use Rattle.cf_pcapng.specs.declared.head.BlockHead.TheVariants.{Short, Flawed, Stands}
 use Rattle.cf_pcapng.specs.declared.interfaces.Interface.{Interface}
 use Rattle.cf_pcapng.specs.declared.content.Packet.{Packet}
 use Rattle.cf_pcapng.specs.declared.content.Content.{Content}
@@ -137,7 +137,7 @@ section_false : (links : LinkSet) (interfaces : List Interface) (order : Order) 
     → stated links interfaces order SectionHeader block ≡ Err BadVersion
 section_false links interfaces order block h = let test : eqb (number_in order 2 (drop 12 block)) 1 ≡ false = grind (arith, nat_tests) in rw test refl
 
-stated_case : (links : LinkSet) (interfaces : List Interface) (order : Order) (kind : Kind) (block : List ℕ)
+stated_case : (links : LinkSet) (interfaces : List Interface) (order : Order) (kind : BlockKind) (block : List ℕ)
     → BlockCase (stated links interfaces order kind block) (BlockBreaks links interfaces order kind block) (BlockStates links interfaces order kind block)
 stated_case links interfaces order SectionHeader block = elim (cases_eq (number_in order 2 (drop 12 block)) 1) [
   | inl one ↦ Stating (NewSection order) (section_true links interfaces order block one) (one, refl)
@@ -160,7 +160,7 @@ packet_of_lawful links None room packet content result some h = absurd h
 packet_of_lawful links (Some interface) room packet content result some h =
     some interface refl ∙ packet_fits links room (packet interface) h.0.link_is h.0.short h.0.fits ∙ ap (λ (c : Content). Ok c) (sym h.1)
 
-stated_broken : (links : LinkSet) (interfaces : List Interface) (order : Order) (kind : Kind) (block : List ℕ) (flaw : Flaw)
+stated_broken : (links : LinkSet) (interfaces : List Interface) (order : Order) (kind : BlockKind) (block : List ℕ) (flaw : Flaw)
     → BlockBreaks links interfaces order kind block flaw → stated links interfaces order kind block ≡ Err flaw
 stated_broken links interfaces order SectionHeader block flaw h = section_false links interfaces order block h.1 ∙ ap (λ (f : Flaw). Err f) (sym h.0)
 stated_broken links interfaces order InterfaceDescription block flaw h = absurd h
@@ -174,7 +174,7 @@ stated_broken links interfaces order SimplePacket block flaw h =
     (λ i is. ap (λ (o : Option Interface). simple_of links o order block) is) h
 stated_broken links interfaces order Other block flaw h = absurd h
 
-stated_lawful : (links : LinkSet) (interfaces : List Interface) (order : Order) (kind : Kind) (block : List ℕ) (content : Content)
+stated_lawful : (links : LinkSet) (interfaces : List Interface) (order : Order) (kind : BlockKind) (block : List ℕ) (content : Content)
     → BlockStates links interfaces order kind block content → stated links interfaces order kind block ≡ Ok content
 stated_lawful links interfaces order SectionHeader block content h = section_true links interfaces order block h.0 ∙ ap (λ (c : Content). Ok c) (sym h.1)
 stated_lawful links interfaces order InterfaceDescription block content h = ap (λ (c : Content). Ok c) (sym h)
@@ -188,13 +188,13 @@ stated_lawful links interfaces order Other block content h = ap (λ (c : Content
 
 -- Rule 4.
 
-closed : (links : LinkSet) (interfaces : List Interface) (order : Order) (kind : Kind) (block : List ℕ) → last_total order block ≡ length block
+closed : (links : LinkSet) (interfaces : List Interface) (order : Order) (kind : BlockKind) (block : List ℕ) → last_total order block ≡ length block
     → content_of links interfaces order kind block ≡ stated links interfaces order kind block
 unfolding content_of
 closed links interfaces order kind block h = let same : eqb (last_total order block) (length block) ≡ true =
     eq-eqb (last_total order block) (length block) h in rw same refl
 
-not_closed : (links : LinkSet) (interfaces : List Interface) (order : Order) (kind : Kind) (block : List ℕ) → (last_total order block ≡ length block → ⊥)
+not_closed : (links : LinkSet) (interfaces : List Interface) (order : Order) (kind : BlockKind) (block : List ℕ) → (last_total order block ≡ length block → ⊥)
     → content_of links interfaces order kind block ≡ Err BadLength
 unfolding content_of
 not_closed links interfaces order kind block h = let other : eqb (last_total order block) (length block) ≡ false = grind (arith, nat_tests) in rw other refl
@@ -204,18 +204,18 @@ not_closed links interfaces order kind block h = let other : eqb (last_total ord
 all_true : (a b c : Bool) → a ≡ true → b ≡ true → c ≡ true → (a && b) && c ≡ true
 all_true a b c p q r = rw (p, q, r) refl
 
-within_true : (kind : Kind) (n : ℕ) → ((kind ≡ Other → ⊥) → n ≤ 2 ^ 20) → is_within kind n ≡ true
+within_true : (kind : BlockKind) (n : ℕ) → ((kind ≡ Other → ⊥) → n ≤ 2 ^ 20) → is_within kind n ≡ true
 within_true SectionHeader n h = test_le n (2 ^ 20) (h (λ e. cc))
 within_true InterfaceDescription n h = test_le n (2 ^ 20) (h (λ e. cc))
 within_true EnhancedPacket n h = test_le n (2 ^ 20) (h (λ e. cc))
 within_true SimplePacket n h = test_le n (2 ^ 20) (h (λ e. cc))
 within_true Other n h = refl
 
-total_true : (kind : Kind) (n : ℕ) → IsLawfulTotal kind n → is_total kind n ≡ true
+total_true : (kind : BlockKind) (n : ℕ) → IsLawfulTotal kind n → is_total kind n ≡ true
 total_true kind n h =
     all_true (n % 4 == 0) (nat_le (least kind) n) (is_within kind n) (eq-eqb (n % 4) 0 h.fours) (test_le (least kind) n h.enough) (within_true kind n h.most)
 
-total_lawful : (kind : Kind) (n : ℕ) → is_total kind n ≡ true → IsLawfulTotal kind n
+total_lawful : (kind : BlockKind) (n : ℕ) → is_total kind n ≡ true → IsLawfulTotal kind n
 total_lawful kind n h =
     let front = both ((n % 4 == 0) && nat_le (least kind) n) (is_within kind n) h in
     let mid = both (n % 4 == 0) (nat_le (least kind) n) front.0 in
@@ -231,12 +231,12 @@ bool_case false = inr refl
 true_false : (b : Bool) → b ≡ true → b ≡ false → ⊥
 true_false b p q = cc
 
-sized_true : (order : Order) (kind : Kind) (bytes : List ℕ) → is_total kind (total_at order bytes) ≡ true
+sized_true : (order : Order) (kind : BlockKind) (bytes : List ℕ) → is_total kind (total_at order bytes) ≡ true
     → sized order kind bytes ≡ Stands order kind (total_at order bytes)
 unfolding sized
 sized_true order kind bytes h = rw h refl
 
-sized_false : (order : Order) (kind : Kind) (bytes : List ℕ) → is_total kind (total_at order bytes) ≡ false → sized order kind bytes ≡ Flawed BadLength
+sized_false : (order : Order) (kind : BlockKind) (bytes : List ℕ) → is_total kind (total_at order bytes) ≡ false → sized order kind bytes ≡ Flawed BadLength
 unfolding sized
 sized_false order kind bytes h = rw h refl
 
@@ -254,7 +254,7 @@ section_no bytes h = elim (bool_case (is_section bytes)) [
 type_yes : (bytes : List ℕ) → is_section bytes ≡ true → IsSectionType bytes
 type_yes bytes is = grind (arith, nat_tests)
 
-kind_true : (kind : Kind) (n : ℕ) → IsType kind n → kind_of n ≡ kind
+kind_true : (kind : BlockKind) (n : ℕ) → IsType kind n → kind_of n ≡ kind
 kind_true SectionHeader n h = absurd h
 kind_true InterfaceDescription n h = rw h refl
 kind_true EnhancedPacket n h = rw h refl
@@ -268,28 +268,28 @@ kind_is n = elim (cases_eq n 1) [
     | inl six ↦ subst (λ (m : ℕ). IsType (kind_of m) m) (sym six) refl
     | inr b ↦ elim (cases_eq n 3) [
       | inl three ↦ subst (λ (m : ℕ). IsType (kind_of m) m) (sym three) refl
-      | inr c ↦ subst (λ (k : Kind). IsType k n) (sym (kind_true Other n (a, b, c))) (a, b, c)
+      | inr c ↦ subst (λ (k : BlockKind). IsType k n) (sym (kind_true Other n (a, b, c))) (a, b, c)
     ]
   ]
 ]
 
 -- a block that begins is judged by its total length
-begins_head : (section : Option Order) (bytes : List ℕ) (order : Order) (kind : Kind) → BeginsAs section bytes order kind
+begins_head : (section : Option Order) (bytes : List ℕ) (order : Order) (kind : BlockKind) → BeginsAs section bytes order kind
     → head_of section bytes ≡ sized order kind bytes
 begins_head section bytes order kind (inl (is, h)) =
     let size : 12 ≤ length bytes = h.size in
     head_section section bytes (omega (arith, size)) (section_yes bytes h.type_is)
     ∙ section_long bytes size
     ∙ ap (λ (o : Option Order). in_order o bytes) h.magic
-    ∙ ap (λ (k : Kind). sized order k bytes) (sym is)
+    ∙ ap (λ (k : BlockKind). sized order k bytes) (sym is)
 begins_head section bytes order kind (inr h) =
     let size : 8 ≤ length bytes = h.size in
     head_block section bytes (omega (arith, size)) (section_no bytes h.other)
     ∙ ap (λ (o : Option Order). block_head o bytes) h.within
     ∙ block_long order bytes size
-    ∙ ap (λ (k : Kind). sized order k bytes) (kind_true kind (number_in order 4 bytes) h.type_is)
+    ∙ ap (λ (k : BlockKind). sized order k bytes) (kind_true kind (number_in order 4 bytes) h.type_is)
 
-head_stands : (section : Option Order) (bytes : List ℕ) (order : Order) (kind : Kind) (total : ℕ) → HasHead section bytes order kind total
+head_stands : (section : Option Order) (bytes : List ℕ) (order : Order) (kind : BlockKind) (total : ℕ) → HasHead section bytes order kind total
     → head_of section bytes ≡ Stands order kind total
 head_stands section bytes order kind total h =
     begins_head section bytes order kind h.begins
@@ -317,10 +317,10 @@ head_flawed section bytes NoInterface h = absurd h
 data HeadCase (section : Option Order) (bytes : List ℕ) : Type 0 where
   Unseen : head_of section bytes ≡ Short → HeadCase section bytes
   Breaking : (flaw : Flaw) → head_of section bytes ≡ Flawed flaw → HeadBreaks section bytes flaw → HeadCase section bytes
-  Standing : (order : Order) (kind : Kind) (total : ℕ) → head_of section bytes ≡ Stands order kind total → HasHead section bytes order kind total
+  Standing : (order : Order) (kind : BlockKind) (total : ℕ) → head_of section bytes ≡ Stands order kind total → HasHead section bytes order kind total
       → HeadCase section bytes
 
-by_size : (section : Option Order) (bytes : List ℕ) (order : Order) (kind : Kind) → BeginsAs section bytes order kind → HeadCase section bytes
+by_size : (section : Option Order) (bytes : List ℕ) (order : Order) (kind : BlockKind) → BeginsAs section bytes order kind → HeadCase section bytes
 by_size section bytes order kind h = elim (bool_case (is_total kind (total_at order bytes))) [
   | inl lawful ↦
       let head : HasHead section bytes order kind (total_at order bytes) =
@@ -375,7 +375,7 @@ data StepCase (scope : Scope) (s : State) (bytes : List ℕ) : Type 0 where
   Block : (n : ℕ) (content : Content) → step scope s bytes ≡ Takes n (frames_of s.count content (take n bytes)) (after scope.length s content)
       → IsBlock scope s bytes n (frames_of s.count content (take n bytes)) (after scope.length s content) → StepCase scope s bytes
 
-step_content : (scope : Scope) (s : State) (bytes : List ℕ) (order : Order) (kind : Kind) (total : ℕ) (found : Result Content Flaw)
+step_content : (scope : Scope) (s : State) (bytes : List ℕ) (order : Order) (kind : BlockKind) (total : ℕ) (found : Result Content Flaw)
     → HasBlock s.order bytes order kind total → content_of scope.links s.interfaces order kind (take total bytes) ≡ found
     → step scope s bytes ≡ block_found scope.length s (take total bytes) found
 step_content scope s bytes order kind total found h is =
@@ -383,7 +383,7 @@ step_content scope s bytes order kind total found h is =
     ∙ found_whole scope s bytes order kind total h.whole
     ∙ ap (λ (x : Result Content Flaw). block_found scope.length s (take total bytes) x) is
 
-step_block : (scope : Scope) (s : State) (bytes : List ℕ) (order : Order) (kind : Kind) (total : ℕ) (content : Content)
+step_block : (scope : Scope) (s : State) (bytes : List ℕ) (order : Order) (kind : BlockKind) (total : ℕ) (content : Content)
     → HasBlock s.order bytes order kind total → last_total order (take total bytes) ≡ total
     → BlockStates scope.links s.interfaces order kind (take total bytes) content
     → step scope s bytes ≡ Takes total (frames_of s.count content (take total bytes)) (after scope.length s content)
@@ -408,7 +408,7 @@ step_flawed scope s bytes flaw (inr (inr it)) =
     (closed scope.links s.interfaces it.order it.kind (take it.total bytes) (it.last ∙ sym size)
     ∙ stated_broken scope.links s.interfaces it.order it.kind (take it.total bytes) flaw it.breaks)
 
-by_content : (scope : Scope) (s : State) (bytes : List ℕ) (order : Order) (kind : Kind) (total : ℕ) → HasBlock s.order bytes order kind total
+by_content : (scope : Scope) (s : State) (bytes : List ℕ) (order : Order) (kind : BlockKind) (total : ℕ) → HasBlock s.order bytes order kind total
     → last_total order (take total bytes) ≡ total
     → BlockCase (stated scope.links s.interfaces order kind (take total bytes)) (BlockBreaks scope.links s.interfaces order kind (take total bytes))
     (BlockStates scope.links s.interfaces order kind (take total bytes)) → StepCase scope s bytes
@@ -419,7 +419,7 @@ by_content scope s bytes order kind total block last (Stating content is h) =
     Block total content (step_block scope s bytes order kind total content block last h)
     (record { order = order; kind = kind; content = content; block = block; last = last; states = h; frames_are = refl; after_is = refl })
 
-by_block : (scope : Scope) (s : State) (bytes : List ℕ) (order : Order) (kind : Kind) (total : ℕ) → HasBlock s.order bytes order kind total
+by_block : (scope : Scope) (s : State) (bytes : List ℕ) (order : Order) (kind : BlockKind) (total : ℕ) → HasBlock s.order bytes order kind total
     → StepCase scope s bytes
 by_block scope s bytes order kind total block = elim (cases_eq (last_total order (take total bytes)) total) [
   | inl last ↦ by_content scope s bytes order kind total block last (stated_case scope.links s.interfaces order kind (take total bytes))

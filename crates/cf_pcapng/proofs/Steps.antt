@@ -13,10 +13,10 @@ use Rattle.cf_stream.specs.Stream.{IsStepper}
 use Rattle.cf_pcapng.specs.declared.fault.Flaw.{Flaw}
 use Rattle.cf_pcapng.specs.declared.fault.Flaw.TheVariants.{BadLength}
 use Rattle.cf_pcapng.specs.declared.fault.NgFault.{NgFault}
-use Rattle.cf_pcapng.specs.declared.head.Kind.{Kind}
-use Rattle.cf_pcapng.specs.declared.head.Kind.TheVariants.{SectionHeader, InterfaceDescription, EnhancedPacket, SimplePacket, Other}
-use Rattle.cf_pcapng.specs.declared.head.Head.{Head}
-use Rattle.cf_pcapng.specs.declared.head.Head.TheVariants.{Short, Flawed, Stands}
+use Rattle.cf_pcapng.specs.declared.head.BlockKind.{BlockKind}
+use Rattle.cf_pcapng.specs.declared.head.BlockKind.TheVariants.{SectionHeader, InterfaceDescription, EnhancedPacket, SimplePacket, Other}
+use Rattle.cf_pcapng.specs.declared.head.BlockHead.{BlockHead}
+use Rattle.cf_pcapng.specs.declared.head.BlockHead.TheVariants.{Short, Flawed, Stands}
 use Rattle.cf_pcapng.specs.declared.interfaces.Interface.{Interface}
 use Rattle.cf_pcapng.specs.declared.content.Content.{Content}
 use Rattle.cf_pcapng.specs.declared.content.Content.TheVariants.{NewSection, NewInterface, Captures, Nothing}
@@ -36,13 +36,13 @@ wants_not_takes n items t h = cc
 pub bad_not_takes : (fault : NgFault) (n : ℕ) (items : List FrameValue) (t : State) → ◌≡◌ {A = Shown} (Bad fault) (Takes n items t) → ⊥
 bad_not_takes fault n items t h = cc
 
-pub step_at : (scope : Scope) (s : State) (bytes : List ℕ) (head : Head) → head_of s.order bytes ≡ head → step scope s bytes ≡ found_at scope s bytes head
+pub step_at : (scope : Scope) (s : State) (bytes : List ℕ) (head : BlockHead) → head_of s.order bytes ≡ head → step scope s bytes ≡ found_at scope s bytes head
 unfolding step
-step_at scope s bytes head h = ap (λ (x : Head). found_at scope s bytes x) h
+step_at scope s bytes head h = ap (λ (x : BlockHead). found_at scope s bytes x) h
 
 -- What more bytes leave.
 
-found_stays : (scope : Scope) (s : State) (xs ys : List ℕ) (head : Head) → (found_at scope s xs head ≡ Wants → ⊥)
+found_stays : (scope : Scope) (s : State) (xs ys : List ℕ) (head : BlockHead) → (found_at scope s xs head ≡ Wants → ⊥)
     → found_at scope s (xs ++ ys) head ≡ found_at scope s xs head
 found_stays scope s xs ys Short seen = refl
 found_stays scope s xs ys (Flawed flaw) seen = refl
@@ -71,7 +71,7 @@ takes_stays scope s bytes more n items t h = step_stays scope s bytes more (λ w
 
 pub record Taken (scope : Scope) (s : State) (bytes : List ℕ) (n : ℕ) (items : List FrameValue) (t : State) : Type 0 where
   pub order : Order
-  pub kind : Kind
+  pub kind : BlockKind
   pub stands : Standing s.order bytes order kind n
   pub whole : n ≤ length bytes
   pub content : Content
@@ -91,7 +91,7 @@ taken_state n m a b t u h = cc
 pub length_front : (n : ℕ) (bytes : List ℕ) → n ≤ length bytes → length (take n bytes) ≡ n
 length_front n bytes h = omega (arith, h, length-take n bytes)
 
-taken_of_content : (scope : Scope) (s : State) (bytes : List ℕ) (order : Order) (kind : Kind) (total n : ℕ) (items : List FrameValue) (t : State)
+taken_of_content : (scope : Scope) (s : State) (bytes : List ℕ) (order : Order) (kind : BlockKind) (total n : ℕ) (items : List FrameValue) (t : State)
     → Standing s.order bytes order kind total → total ≤ length bytes → (found : Result Content Flaw)
     → content_of scope.links s.interfaces order kind (take total bytes) ≡ found → block_found scope.length s (take total bytes) found ≡ Takes n items t
     → Taken scope s bytes n items t
@@ -111,16 +111,16 @@ taken_of_content scope s bytes order kind total n items t stands whole (Ok conte
       after_is = sym (taken_state (length block) n (frames_of s.count content block) items (after scope.length s content) t h);
     }
 
-pub found_short : (scope : Scope) (s : State) (bytes : List ℕ) (order : Order) (kind : Kind) (total : ℕ) → length bytes < total
+pub found_short : (scope : Scope) (s : State) (bytes : List ℕ) (order : Order) (kind : BlockKind) (total : ℕ) → length bytes < total
     → found_at scope s bytes (Stands order kind total) ≡ Wants
 found_short scope s bytes order kind total h = rw (below (length bytes) total h) refl
 
-pub found_whole : (scope : Scope) (s : State) (bytes : List ℕ) (order : Order) (kind : Kind) (total : ℕ) → total ≤ length bytes
+pub found_whole : (scope : Scope) (s : State) (bytes : List ℕ) (order : Order) (kind : BlockKind) (total : ℕ) → total ≤ length bytes
     → found_at scope s bytes (Stands order kind total) ≡ block_found scope.length s (take total bytes)
     (content_of scope.links s.interfaces order kind (take total bytes))
 found_whole scope s bytes order kind total h = rw (not_below (length bytes) total h) refl
 
-taken_at : (scope : Scope) (s : State) (bytes : List ℕ) (n : ℕ) (items : List FrameValue) (t : State) (head : Head) → head_of s.order bytes ≡ head
+taken_at : (scope : Scope) (s : State) (bytes : List ℕ) (n : ℕ) (items : List FrameValue) (t : State) (head : BlockHead) → head_of s.order bytes ≡ head
     → found_at scope s bytes head ≡ Takes n items t → Taken scope s bytes n items t
 taken_at scope s bytes n items t Short is h = absurd (wants_not_takes n items t h)
 taken_at scope s bytes n items t (Flawed flaw) is h = absurd (bad_not_takes (fault_of s.count flaw) n items t h)
@@ -155,7 +155,7 @@ taken_least scope s bytes n items t it =
 
 -- A block that gives a frame has 16 bytes at least.
 
-content_least : (scope : Scope) (interfaces : List Interface) (order : Order) (kind : Kind) (block : List ℕ) (k : ℕ) (content : Content)
+content_least : (scope : Scope) (interfaces : List Interface) (order : Order) (kind : BlockKind) (block : List ℕ) (k : ℕ) (content : Content)
     → stated scope.links interfaces order kind block ≡ Ok content → 16 * length (frames_of k content block) ≤ least kind
 content_least scope interfaces order SectionHeader block k content h = let few = frames_few k content block in omega (arith, few)
 content_least scope interfaces order InterfaceDescription block k content h = let few = frames_few k content block in omega (arith, few)
@@ -163,7 +163,7 @@ content_least scope interfaces order EnhancedPacket block k content h = let few 
 content_least scope interfaces order SimplePacket block k content h = let few = frames_few k content block in omega (arith, few)
 content_least scope interfaces order Other block k content h = let is : content ≡ Nothing = cc h in rw is (omega arith)
 
-content_stated : (scope : Scope) (interfaces : List Interface) (order : Order) (kind : Kind) (block : List ℕ) (content : Content)
+content_stated : (scope : Scope) (interfaces : List Interface) (order : Order) (kind : BlockKind) (block : List ℕ) (content : Content)
     → content_of scope.links interfaces order kind block ≡ Ok content → stated scope.links interfaces order kind block ≡ Ok content
 unfolding content_of
 content_stated scope interfaces order kind block content h = elim (cases_Bool (last_total order block == length block)) [
@@ -183,7 +183,7 @@ taken_few scope s bytes n items t it =
     omega (arith, most, size, same)
 
 -- a block that bytes only begin is longer
-taken_total : (scope : Scope) (s : State) (bytes : List ℕ) (order : Order) (kind : Kind) (total n : ℕ) (items : List FrameValue) (t : State)
+taken_total : (scope : Scope) (s : State) (bytes : List ℕ) (order : Order) (kind : BlockKind) (total n : ℕ) (items : List FrameValue) (t : State)
     → found_at scope s bytes (Stands order kind total) ≡ Takes n items t → total ≡ n
 taken_total scope s bytes order kind total n items t h = elim (cases_lt (length bytes) total) [
   | inl short ↦ absurd (wants_not_takes n items t (sym (found_short scope s bytes order kind total short) ∙ h))
@@ -200,7 +200,7 @@ pub block_not_wants : (scope : Scope) (s : State) (block : List ℕ) (found : Re
 block_not_wants scope s block (Err flaw) h = wants_not_bad (fault_of s.count flaw) (sym h)
 block_not_wants scope s block (Ok content) h = wants_not_takes (length block) (frames_of s.count content block) (after scope.length s content) (sym h)
 
-late_at : (scope : Scope) (s : State) (bytes more : List ℕ) (n : ℕ) (items : List FrameValue) (t : State) (head : Head) → head_of s.order bytes ≡ head
+late_at : (scope : Scope) (s : State) (bytes more : List ℕ) (n : ℕ) (items : List FrameValue) (t : State) (head : BlockHead) → head_of s.order bytes ≡ head
     → step scope s bytes ≡ Wants → step scope s (bytes ++ more) ≡ Takes n items t → n ≤ length bytes → ⊥
 late_at scope s bytes more n items t Short is wants takes whole =
     let some : 12 ≤ n = taken_least scope s (bytes ++ more) n items t (taken scope s (bytes ++ more) n items t takes) in
@@ -218,7 +218,7 @@ late_at scope s bytes more n items t (Stands order kind total) is wants takes wh
   | inr long ↦ block_not_wants scope s (take total bytes) (content_of scope.links s.interfaces order kind (take total bytes))
       (sym (found_whole scope s bytes order kind total long) ∙ (sym (step_at scope s bytes (Stands order kind total) is) ∙ wants))
 ] where
-  short_not_stands : (order : Order) (kind : Kind) (total : ℕ) → Short ≡ Stands order kind total → ⊥
+  short_not_stands : (order : Order) (kind : BlockKind) (total : ℕ) → Short ≡ Stands order kind total → ⊥
   short_not_stands order kind total h = cc
 
 late : (scope : Scope) (s : State) (bytes more : List ℕ) (n : ℕ) (items : List FrameValue) (t : State) → step scope s bytes ≡ Wants

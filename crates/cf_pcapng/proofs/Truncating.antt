@@ -13,8 +13,8 @@ use Rattle.cf_pcapng.specs.declared.fault.Flaw.{Flaw}
 use Rattle.cf_pcapng.specs.declared.fault.Flaw.TheVariants.{BadMagic, BadVersion, BadLink, FrameTooLong, BadLength, NoInterface}
 use Rattle.cf_pcapng.specs.declared.fault.NgFault.{NgFault}
 use Rattle.cf_pcapng.specs.declared.fault.NgFault.TheVariants.{Cut, TooManyBytes}
-use Rattle.cf_pcapng.specs.declared.head.Kind.{Kind}
-use Rattle.cf_pcapng.specs.declared.head.Kind.TheVariants.{SectionHeader}
+use Rattle.cf_pcapng.specs.declared.head.BlockKind.{BlockKind}
+use Rattle.cf_pcapng.specs.declared.head.BlockKind.TheVariants.{SectionHeader}
 use Rattle.cf_pcapng.specs.declared.content.Content.{Content}
 use Rattle.cf_pcapng.specs.declared.content.Content.TheVariants.{NewSection, NewInterface, Captures, Nothing}
 use Rattle.cf_pcapng.specs.File.{State, fault_of, after, step, pcapng}
@@ -37,7 +37,7 @@ block_some : (scope : Scope) (s : State) (bytes : List ℕ) (n : ℕ) (frames : 
 block_some scope s bytes n frames t h = ap (λ (x : State). is_some x.order) h.after_is ∙ elim h.block.head.begins [
   | inl section ↦
       let states : BlockStates scope.links s.interfaces h.order SectionHeader (take n bytes) h.content =
-      subst (λ (k : Kind). BlockStates scope.links s.interfaces h.order k (take n bytes) h.content) section.0 h.states in
+      subst (λ (k : BlockKind). BlockStates scope.links s.interfaces h.order k (take n bytes) h.content) section.0 h.states in
       ap (λ (c : Content). is_some (after scope.length s c).order) states.1
   | inr other ↦ after_some scope.length s h.content (ap (λ (x : Option Order). is_some x) other.within)
 ]

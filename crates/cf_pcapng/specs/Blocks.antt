@@ -10,10 +10,10 @@ use Rattle.cf_pcap.specs.Capture.{number_in}
 use Rattle.cf_pcap.specs.Links.{is_link, longest}
 use Rattle.cf_pcapng.specs.declared.fault.Flaw.{Flaw}
 use Rattle.cf_pcapng.specs.declared.fault.Flaw.TheVariants.{BadMagic, BadVersion, BadLink, FrameTooLong, BadLength, NoInterface}
-use Rattle.cf_pcapng.specs.declared.head.Kind.{Kind}
-use Rattle.cf_pcapng.specs.declared.head.Kind.TheVariants.{SectionHeader, InterfaceDescription, EnhancedPacket, SimplePacket, Other}
-use Rattle.cf_pcapng.specs.declared.head.Head.{Head}
-use Rattle.cf_pcapng.specs.declared.head.Head.TheVariants.{Short, Flawed, Stands}
+use Rattle.cf_pcapng.specs.declared.head.BlockKind.{BlockKind}
+use Rattle.cf_pcapng.specs.declared.head.BlockKind.TheVariants.{SectionHeader, InterfaceDescription, EnhancedPacket, SimplePacket, Other}
+use Rattle.cf_pcapng.specs.declared.head.BlockHead.{BlockHead}
+use Rattle.cf_pcapng.specs.declared.head.BlockHead.TheVariants.{Short, Flawed, Stands}
 use Rattle.cf_pcapng.specs.declared.interfaces.Interface.{Interface}
 use Rattle.cf_pcapng.specs.declared.content.Packet.{Packet}
 use Rattle.cf_pcapng.specs.declared.content.Content.{Content}
@@ -26,7 +26,7 @@ abbrev pub is_section : List ℕ → Bool
 is_section bytes = little_number 4 bytes == 0x0a0d0d0a
 
 -- the types of the other blocks that are read
-abbrev pub kind_of : ℕ → Kind
+abbrev pub kind_of : ℕ → BlockKind
 kind_of n = if n == 1 then InterfaceDescription else (if n == 6 then EnhancedPacket else (if n == 3 then SimplePacket else Other))
 
 -- the byte order in which a section header's magic is 0x1a2b3c4d
@@ -36,7 +36,7 @@ order_at bytes =
     else (if big_number 4 (drop 8 bytes) == 0x1a2b3c4d then Some Big else None)
 
 -- the fewest bytes that a block of a kind has
-abbrev pub least : Kind → ℕ
+abbrev pub least : BlockKind → ℕ
 least SectionHeader = 28
 least InterfaceDescription = 20
 least EnhancedPacket = 32
@@ -44,7 +44,7 @@ least SimplePacket = 16
 least Other = 12
 
 -- the blocks that are read have 2^20 bytes at most, and others any number
-abbrev pub is_within : Kind → ℕ → Bool
+abbrev pub is_within : BlockKind → ℕ → Bool
 is_within SectionHeader n = nat_le n (2 ^ 20)
 is_within InterfaceDescription n = nat_le n (2 ^ 20)
 is_within EnhancedPacket n = nat_le n (2 ^ 20)
@@ -52,7 +52,7 @@ is_within SimplePacket n = nat_le n (2 ^ 20)
 is_within Other n = true
 
 -- a lawful total length
-abbrev pub is_total : Kind → ℕ → Bool
+abbrev pub is_total : BlockKind → ℕ → Bool
 is_total kind n = (n % 4 == 0) && nat_le (least kind) n && is_within kind n
 
 -- the total length that the second field states
@@ -60,25 +60,25 @@ abbrev pub total_at : Order → List ℕ → ℕ
 total_at order bytes = number_in order 4 (drop 4 bytes)
 
 -- rule 3, after 8 bytes, of a section header after 12
-unfoldable pub sized : Order → Kind → List ℕ → Head
+unfoldable pub sized : Order → BlockKind → List ℕ → BlockHead
 sized order kind bytes = if is_total kind (total_at order bytes) then Stands order kind (total_at order bytes) else Flawed BadLength
 
 -- rule 2, after 12 bytes
-abbrev pub in_order : Option Order → List ℕ → Head
+abbrev pub in_order : Option Order → List ℕ → BlockHead
 in_order None bytes = Flawed BadMagic
 in_order (Some order) bytes = sized order SectionHeader bytes
 
 -- what the bytes at the front show of a section header, whose type is known: Short while its magic isn't whole
-unfoldable pub section_head : List ℕ → Head
+unfoldable pub section_head : List ℕ → BlockHead
 section_head bytes = if nat_lt (length bytes) 12 then Short else in_order (order_at bytes) bytes
 
 -- rule 1, after 4 bytes: outside of a section no other block stands
-abbrev pub block_head : Option Order → List ℕ → Head
+abbrev pub block_head : Option Order → List ℕ → BlockHead
 block_head None bytes = Flawed BadMagic
 block_head (Some order) bytes = if nat_lt (length bytes) 8 then Short else sized order (kind_of (number_in order 4 bytes)) bytes
 
 -- what the bytes at the front show of a block in a section of this byte order, or outside of any
-unfoldable pub head_of : Option Order → List ℕ → Head
+unfoldable pub head_of : Option Order → List ℕ → BlockHead
 head_of order bytes =
     if nat_lt (length bytes) 4 then Short
     else (if is_section bytes then section_head bytes else block_head order bytes)
@@ -185,7 +185,7 @@ simple_of links None order block = Err NoInterface
 simple_of links (Some interface) order block = packet_of links (length block - 16) (simple_packet interface order block)
 
 -- rules 5 to 9, by the kind of block, in a section with these interfaces
-abbrev pub stated : LinkSet → List Interface → Order → Kind → List ℕ → Result Content Flaw
+abbrev pub stated : LinkSet → List Interface → Order → BlockKind → List ℕ → Result Content Flaw
 stated links interfaces order SectionHeader block = if number_in order 2 (drop 12 block) == 1 then Ok (NewSection order) else Err BadVersion
 stated links interfaces order InterfaceDescription block = Ok (NewInterface (interface_at order block))
 stated links interfaces order EnhancedPacket block = enhanced_of links (slice_get interfaces (number_in order 4 (drop 8 block))) order block
@@ -197,5 +197,5 @@ abbrev pub last_total : Order → List ℕ → ℕ
 last_total order block = number_in order 4 (drop (length block - 4) block)
 
 -- rules 4 to 9: what a whole block states, or the first rule that it breaks
-unfoldable pub content_of : LinkSet → List Interface → Order → Kind → List ℕ → Result Content Flaw
+unfoldable pub content_of : LinkSet → List Interface → Order → BlockKind → List ℕ → Result Content Flaw
 content_of links interfaces order kind block = if last_total order block == length block then stated links interfaces order kind block else Err BadLength

@@ -10,8 +10,8 @@ use Rattle.cf_pcapng.specs.declared.fault.Flaw.{Flaw}
 use Rattle.cf_pcapng.specs.declared.fault.Flaw.TheVariants.{BadMagic, BadVersion, BadLink, FrameTooLong, BadLength, NoInterface}
 use Rattle.cf_pcapng.specs.declared.fault.NgFault.{NgFault}
 use Rattle.cf_pcapng.specs.declared.fault.NgFault.TheVariants as faults
-use Rattle.cf_pcapng.specs.declared.head.Head.{Head}
-use Rattle.cf_pcapng.specs.declared.head.Head.TheVariants.{Short, Flawed, Stands}
+use Rattle.cf_pcapng.specs.declared.head.BlockHead.{BlockHead}
+use Rattle.cf_pcapng.specs.declared.head.BlockHead.TheVariants.{Short, Flawed, Stands}
 use Rattle.cf_pcapng.specs.declared.interfaces.Interface.{Interface}
 use Rattle.cf_pcapng.specs.declared.content.Content.{Content}
 use Rattle.cf_pcapng.specs.declared.content.Content.TheVariants.{NewSection, NewInterface, Captures, Nothing}
@@ -60,7 +60,7 @@ block_found limit s block (Ok content) = Takes (length block) (frames_of s.count
 block_found limit s block (Err flaw) = Bad (fault_of s.count flaw)
 
 -- what the bytes at the front show, by their head
-abbrev pub found_at : Scope → State → List ℕ → Head → Found State FrameValue NgFault
+abbrev pub found_at : Scope → State → List ℕ → BlockHead → Found State FrameValue NgFault
 found_at scope s bytes Short = Wants
 found_at scope s bytes (Flawed flaw) = Bad (fault_of s.count flaw)
 found_at scope s bytes (Stands order kind total) =

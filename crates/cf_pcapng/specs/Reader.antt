@@ -18,7 +18,7 @@ use Rattle.cf_pcapng.specs.declared.position.Reached.{Reached}
 use Rattle.cf_pcapng.specs.declared.reader.Called.{Called}
 use Rattle.cf_pcapng.specs.File.{State, fault_of, pcapng}
 use Rattle.cf_pcapng.specs.Position.{listed}
-use Rattle.cf_pcapng.specs.Reading.{WasPassed, AreReadOn, HasRoom, FitsIn}
+use Rattle.cf_pcapng.specs.Reading.{WasPassed, AreReadOn, KeepsLastField, FitsIn}
 
 -- a reader as contracts see it: the scope that it reads, how far it is, how many bytes it has had, and what it has of the block at hand
 pub record PcapNgValue : Type 0 where
@@ -56,7 +56,7 @@ IsEnded scope stream answer = streams.IsEnded (pcapng scope) stream answer
 abbrev pub IsSoundAt : Stage NgFault → PcapNgValue → Type 0
 IsSoundAt stage reader = stages.IsSoundAt Memory reader.held stage
     (IsShort reader.scope.length reader.total
-    × FitsIn reader.scope.length (reader.state.count + length reader.held) reader.total × (length reader.held < 2 ^ 20) × HasRoom reader.passed)
+    × FitsIn reader.scope.length (reader.state.count + length reader.held) reader.total × (length reader.held < 2 ^ 20) × KeepsLastField reader.passed)
 
 -- what holds of every reader, whatever its stage
 abbrev pub IsSound : PcapNgValue → Type 0

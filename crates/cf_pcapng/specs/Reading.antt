@@ -4,14 +4,14 @@ use Rattle.cf_pcap.specs.declared.links.LinkSet.{LinkSet}
 use Rattle.cf_pcap.specs.declared.scope.Scope.{Scope}
 use Rattle.cf_stream.specs.declared.limit.Length.{Length}
 use Rattle.cf_stream.specs.declared.limit.Length.TheVariants.{Limited, Any}
-use Rattle.cf_stream.specs.Limits.{HasRoom as MayCome, first_of, others_of}
+use Rattle.cf_stream.specs.Limits.{HasRoom, first_of, others_of}
 use Rattle.cf_pcap.specs.declared.form.Order.{Order}
 use Rattle.cf_pcap.specs.Capture.{FrameValue, number_in}
 use Rattle.cf_stream.specs.Format.{Wants, Bad, ReadsTo}
 use Rattle.cf_pcapng.specs.declared.fault.Flaw.{Flaw}
-use Rattle.cf_pcapng.specs.declared.head.Kind.TheVariants.{SectionHeader, InterfaceDescription, EnhancedPacket, SimplePacket, Other}
-use Rattle.cf_pcapng.specs.declared.head.Head.{Head}
-use Rattle.cf_pcapng.specs.declared.head.Head.TheVariants.{Short, Flawed, Stands}
+use Rattle.cf_pcapng.specs.declared.head.BlockKind.TheVariants.{SectionHeader, InterfaceDescription, EnhancedPacket, SimplePacket, Other}
+use Rattle.cf_pcapng.specs.declared.head.BlockHead.{BlockHead}
+use Rattle.cf_pcapng.specs.declared.head.BlockHead.TheVariants.{Short, Flawed, Stands}
 use Rattle.cf_pcapng.specs.declared.interfaces.Interface.{Interface}
 use Rattle.cf_pcapng.specs.declared.content.Content.{Content}
 use Rattle.cf_pcapng.specs.declared.content.Content.TheVariants.{NewSection, NewInterface, Captures, Nothing}
@@ -20,8 +20,8 @@ use Rattle.cf_pcapng.specs.declared.blocks.Next.TheVariants as next
 use Rattle.cf_pcapng.specs.declared.passed.Passed.{Passed}
 use Rattle.cf_pcapng.specs.declared.passed.Resumed.{Resumed}
 use Rattle.cf_pcapng.specs.declared.passed.Resumed.TheVariants as resumed
-use Rattle.cf_pcapng.specs.declared.blocks.Read.{Read}
-use Rattle.cf_pcapng.specs.declared.passed.Given.{Given}
+use Rattle.cf_pcapng.specs.declared.blocks.BlocksRead.{BlocksRead}
+use Rattle.cf_pcapng.specs.declared.passed.StreamRead.{StreamRead}
 use Rattle.cf_pcapng.specs.Position.{state_of}
 use Rattle.cf_pcapng.specs.Blocks.{head_of, content_of}
 use Rattle.cf_pcapng.specs.File.{State, fault_of, pcapng}
@@ -39,7 +39,7 @@ block_next total (Ok content) = next.Block total content
 block_next total (Err flaw) = next.Flawed flaw
 
 -- what stands at the front, by its head, in a section with these interfaces: no whole block yet, a flaw or a block
-abbrev pub next_at : LinkSet → List Interface → List ℕ → Head → Next
+abbrev pub next_at : LinkSet → List Interface → List ℕ → BlockHead → Next
 next_at links interfaces bytes Short = next.Wants
 next_at links interfaces bytes (Flawed flaw) = next.Flawed flaw
 next_at links interfaces bytes (Stands order kind total) =
@@ -129,9 +129,9 @@ IsResumed block bytes (resumed.Over left) =
     (block.gone + left ≡ block.total) × (left ≤ length bytes) × (number_in block.order 4 (drop (left - 4) bytes) ≡ block.total)
 
 -- of a block that is passed over the last field isn't let go
-abbrev pub HasRoom : Option Passed → Type 0
-HasRoom None = Unit {0}
-HasRoom (Some block) = block.gone + 4 ≤ block.total
+abbrev pub KeepsLastField : Option Passed → Type 0
+KeepsLastField None = Unit {0}
+KeepsLastField (Some block) = block.gone + 4 ≤ block.total
 
 -- what a reader has is no more than so much. Where any number of bytes may come, it is not counted.
 abbrev pub FitsIn : Length → ℕ → ℕ → Type 0
@@ -139,17 +139,17 @@ FitsIn Limited n most = n ≤ most
 FitsIn Any n most = Unit {0}
 
 -- the bytes of a piece that come early enough for a frame, where so many came before
-abbrev pub early_of : Length → ℕ → List ℕ → List ℕ
-early_of length total piece = first_of length (2 ^ 32 - 1 - total) piece
+abbrev pub early_bytes : Length → ℕ → List ℕ → List ℕ
+early_bytes length total piece = first_of length (2 ^ 32 - 1 - total) piece
 
 -- and the others
-abbrev pub late_of : Length → ℕ → List ℕ → List ℕ
-late_of length total piece = others_of length (2 ^ 32 - 1 - total) piece
+abbrev pub late_bytes : Length → ℕ → List ℕ → List ℕ
+late_bytes length total piece = others_of length (2 ^ 32 - 1 - total) piece
 
 -- what a reader has after `size` more bytes is no more than it had before and these
 pub record IsSoundOn (l : Length) (s : State) (size : ℕ) (t : State) (passed : Option Passed) (held : List ℕ) : Type 0 where
   pub fits : FitsIn l (t.count + length held) (s.count + size)
-  pub room : HasRoom passed
+  pub room : KeepsLastField passed
   pub few : length held < 2 ^ 20
 
 -- after `size` more bytes with no flaw (None) a reader has no more than it had and these; after a flaw nothing is said
@@ -159,11 +159,11 @@ IsGoneOn l s size t passed held (Some flaw) = Unit {0}
 
 -- so many more bytes may be read on, after a reader came so far
 abbrev pub MayReadOn : Length → State → Option Passed → List ℕ → Option Flaw → ℕ → Type 0
-MayReadOn l t passed held None size = HasRoom passed × (length held < 2 ^ 20) × MayCome l (t.count + (length held + size))
+MayReadOn l t passed held None size = KeepsLastField passed × (length held < 2 ^ 20) × HasRoom l (t.count + (length held + size))
 MayReadOn l t passed held (Some flaw) size = Unit {0}
 
 -- how long a block is, as far as its head shows: 12 bytes at least. One that is passed over is let go as soon as its head stands.
-abbrev pub size_by : Head → ℕ
+abbrev pub size_by : BlockHead → ℕ
 size_by Short = 12
 size_by (Flawed flaw) = 12
 size_by (Stands order SectionHeader total) = total
@@ -181,24 +181,24 @@ missing_of section None (byte ∷ held) more = size_by (head_of section (take 12
 
 -- one more byte may come
 abbrev pub MayGoOn : Length → State → Option Passed → List ℕ → Option Flaw → Type 0
-MayGoOn l t passed held None = HasRoom passed × MayCome l (t.count + length held + 1)
+MayGoOn l t passed held None = KeepsLastField passed × HasRoom l (t.count + length held + 1)
 MayGoOn l t passed held (Some flaw) = Unit {0}
 
 -- of these bytes, from a state, that was read
-abbrev pub Gave : Scope → State → List ℕ → Given → Type 0
+abbrev pub Gave : Scope → State → List ℕ → StreamRead → Type 0
 Gave scope s bytes given = AreReadOn scope s bytes given.frames.items (state_of given.position) given.passed given.held.items given.flaw
 
 -- of the bytes after those of a block at hand that were let go that was read, after these frames
-abbrev pub GaveAfter : Scope → State → Option Passed → List ℕ → List FrameValue → Given → Type 0
+abbrev pub GaveAfter : Scope → State → Option Passed → List ℕ → List FrameValue → StreamRead → Type 0
 GaveAfter scope s passed bytes before given =
     AreReadOnAfter scope s passed bytes before given.frames.items (state_of given.position) given.passed given.held.items given.flaw
 
 -- what a reader has then is no more than it had in a state and `size` bytes
-abbrev pub IsFew : Length → State → ℕ → Given → Type 0
+abbrev pub IsFew : Length → State → ℕ → StreamRead → Type 0
 IsFew l s size given = IsGoneOn l s size (state_of given.position) given.passed given.held.items given.flaw
 
 -- what was read gives the same frames, where a block that is only passed over is let go up to its last field
-abbrev pub LetsGo : Read → Given → Type 0
+abbrev pub LetsGo : BlocksRead → StreamRead → Type 0
 LetsGo read given = (given.frames.items ≡ read.frames.items)
     × ((scope : Scope) (s : State) (bytes : List ℕ) (frames : List FrameValue)
     → AreRead scope s bytes frames (state_of read.position) read.rest.now read.flaw

@@ -13,8 +13,8 @@ use Rattle.cf_pcapng.specs.declared.fault.Flaw.{Flaw}
 use Rattle.cf_pcapng.specs.declared.fault.Flaw.TheVariants.{BadMagic, BadVersion, BadLink, FrameTooLong, BadLength, NoInterface}
 use Rattle.cf_pcapng.specs.declared.fault.NgFault.{NgFault}
 use Rattle.cf_pcapng.specs.declared.fault.NgFault.TheVariants as faults
-use Rattle.cf_pcapng.specs.declared.head.Kind.{Kind}
-use Rattle.cf_pcapng.specs.declared.head.Kind.TheVariants.{SectionHeader, InterfaceDescription, EnhancedPacket, SimplePacket, Other}
+use Rattle.cf_pcapng.specs.declared.head.BlockKind.{BlockKind}
+use Rattle.cf_pcapng.specs.declared.head.BlockKind.TheVariants.{SectionHeader, InterfaceDescription, EnhancedPacket, SimplePacket, Other}
 use Rattle.cf_pcapng.specs.declared.interfaces.Interface.{Interface}
 use Rattle.cf_pcapng.specs.declared.content.Packet.{Packet}
 use Rattle.cf_pcapng.specs.declared.content.Content.{Content}
@@ -27,7 +27,7 @@ abbrev pub IsSectionType : List ℕ → Type 0
 IsSectionType bytes = little_number 4 bytes ≡ 0x0a0d0d0a
 
 -- the types of other blocks
-abbrev pub IsType : Kind → ℕ → Type 0
+abbrev pub IsType : BlockKind → ℕ → Type 0
 IsType SectionHeader n = ⊥
 IsType InterfaceDescription n = n ≡ 1
 IsType EnhancedPacket n = n ≡ 6
@@ -41,24 +41,24 @@ pub record BeginsSection (bytes : List ℕ) (order : Order) : Type 0 where
   pub magic : order_at bytes ≡ Some order
 
 -- another block begins here, in a section of this byte order
-pub record BeginsBlock (section : Option Order) (bytes : List ℕ) (order : Order) (kind : Kind) : Type 0 where
+pub record BeginsBlock (section : Option Order) (bytes : List ℕ) (order : Order) (kind : BlockKind) : Type 0 where
   pub size : 8 ≤ length bytes
   pub other : IsSectionType bytes → ⊥
   pub within : section ≡ Some order
   pub type_is : IsType kind (number_in order 4 bytes)
 
 -- a block of this byte order and kind begins here, of which enough is there to know its total length
-abbrev pub BeginsAs : Option Order → List ℕ → Order → Kind → Type 0
+abbrev pub BeginsAs : Option Order → List ℕ → Order → BlockKind → Type 0
 BeginsAs section bytes order kind = ((kind ≡ SectionHeader) × BeginsSection bytes order) ⊎ BeginsBlock section bytes order kind
 
 -- a multiple of 4, no less than the kind's fields take, and no more than 2^20 in a block that is read
-pub record IsLawfulTotal (kind : Kind) (n : ℕ) : Type 0 where
+pub record IsLawfulTotal (kind : BlockKind) (n : ℕ) : Type 0 where
   pub fours : n % 4 ≡ 0
   pub enough : least kind ≤ n
   pub most : (kind ≡ Other → ⊥) → n ≤ 2 ^ 20
 
 -- a block of this byte order, kind and lawful total length begins here
-pub record HasHead (section : Option Order) (bytes : List ℕ) (order : Order) (kind : Kind) (total : ℕ) : Type 0 where
+pub record HasHead (section : Option Order) (bytes : List ℕ) (order : Order) (kind : BlockKind) (total : ℕ) : Type 0 where
   pub begins : BeginsAs section bytes order kind
   pub total_is : total ≡ total_at order bytes
   pub lawful : IsLawfulTotal kind total
@@ -78,7 +78,7 @@ pub record BreaksRule2 (bytes : List ℕ) : Type 0 where
 -- rule 3: the total length is unlawful
 pub record BreaksRule3 (section : Option Order) (bytes : List ℕ) : Type 0 where
   pub order : Order
-  pub kind : Kind
+  pub kind : BlockKind
   pub begins : BeginsAs section bytes order kind
   pub total : IsLawfulTotal kind (total_at order bytes) → ⊥
 
@@ -121,7 +121,7 @@ PacketOfStates links None room packet content = ⊥
 PacketOfStates links (Some interface) room packet content = IsLawfulPacket links room (packet interface) × (content ≡ Captures (packet interface))
 
 -- rules 5 to 9, of a whole block in a section with these interfaces
-abbrev pub BlockBreaks : LinkSet → List Interface → Order → Kind → List ℕ → Flaw → Type 0
+abbrev pub BlockBreaks : LinkSet → List Interface → Order → BlockKind → List ℕ → Flaw → Type 0
 BlockBreaks links interfaces order SectionHeader block flaw = (flaw ≡ BadVersion) × (number_in order 2 (drop 12 block) ≡ 1 → ⊥)
 BlockBreaks links interfaces order InterfaceDescription block flaw = ⊥
 BlockBreaks links interfaces order EnhancedPacket block flaw =
@@ -131,7 +131,7 @@ BlockBreaks links interfaces order SimplePacket block flaw =
 BlockBreaks links interfaces order Other block flaw = ⊥
 
 -- what a whole block states that breaks no rule
-abbrev pub BlockStates : LinkSet → List Interface → Order → Kind → List ℕ → Content → Type 0
+abbrev pub BlockStates : LinkSet → List Interface → Order → BlockKind → List ℕ → Content → Type 0
 BlockStates links interfaces order SectionHeader block content = (number_in order 2 (drop 12 block) ≡ 1) × (content ≡ NewSection order)
 BlockStates links interfaces order InterfaceDescription block content = content ≡ NewInterface (interface_at order block)
 BlockStates links interfaces order EnhancedPacket block content =
@@ -141,14 +141,14 @@ BlockStates links interfaces order SimplePacket block content =
 BlockStates links interfaces order Other block content = content ≡ Nothing
 
 -- a block stands whole at the front: so many bytes
-pub record HasBlock (section : Option Order) (bytes : List ℕ) (order : Order) (kind : Kind) (total : ℕ) : Type 0 where
+pub record HasBlock (section : Option Order) (bytes : List ℕ) (order : Order) (kind : BlockKind) (total : ℕ) : Type 0 where
   pub head : HasHead section bytes order kind total
   pub whole : total ≤ length bytes
 
 -- rule 4: the second total length differs
 pub record BreaksRule4 (section : Option Order) (bytes : List ℕ) : Type 0 where
   pub order : Order
-  pub kind : Kind
+  pub kind : BlockKind
   pub total : ℕ
   pub block : HasBlock section bytes order kind total
   pub last : last_total order (take total bytes) ≡ total → ⊥
@@ -156,7 +156,7 @@ pub record BreaksRule4 (section : Option Order) (bytes : List ℕ) : Type 0 wher
 -- rules 5 to 9: the block at the front is whole, its two total lengths agree, and what it states has this flaw
 pub record BreaksRules5To9 (links : LinkSet) (section : Option Order) (interfaces : List Interface) (bytes : List ℕ) (flaw : Flaw) : Type 0 where
   pub order : Order
-  pub kind : Kind
+  pub kind : BlockKind
   pub total : ℕ
   pub block : HasBlock section bytes order kind total
   pub last : last_total order (take total bytes) ≡ total
@@ -170,7 +170,7 @@ HasFlaw links s bytes flaw = HeadBreaks s.order bytes flaw
 -- a block of n bytes at the front breaks none, and gives these frames and this state
 pub record IsBlock (scope : Scope) (s : State) (bytes : List ℕ) (n : ℕ) (frames : List FrameValue) (t : State) : Type 0 where
   pub order : Order
-  pub kind : Kind
+  pub kind : BlockKind
   pub content : Content
   pub block : HasBlock s.order bytes order kind n
   pub last : last_total order (take n bytes) ≡ n

@@ -6,7 +6,7 @@ ghost use Rattle.cf_pcapng.specs.Reading.{next_of as next_block, IsNextIn, AreRe
 
 use crate::content::{Content, content_of};
 use crate::fault::Flaw;
-use crate::head::{Head, head_of};
+use crate::head::{BlockHead, head_of};
 use crate::position::Position;
 use cf_pcap::{Frame, LinkSet, Scope};
 use std::alloc::{AllocError, Global};
@@ -23,7 +23,7 @@ pub(crate) enum Next {
 
 /// What was read of some bytes: the frames, with those before them, the bytes after the blocks, and the flaw that stands there.
 #[derive(Drop)]
-pub(crate) struct Read<'a, 'b> {
+pub(crate) struct BlocksRead<'a, 'b> {
     pub position: Position<'a>,
     pub frames: Vec<Frame>,
     pub rest: &'b [u8],
@@ -36,9 +36,9 @@ fn next_of(links: LinkSet, position: &Position<'_>, bytes: &[u8]) -> Next
     ensures within { IsNextIn (length bytes.now) result }
 {
     match head_of(position.order(), bytes) {
-        Head::Short => Next::Wants,
-        Head::Flawed(flaw) => Next::Flawed(flaw),
-        Head::Stands(order, kind, total) => {
+        BlockHead::Short => Next::Wants,
+        BlockHead::Flawed(flaw) => Next::Flawed(flaw),
+        BlockHead::Stands(order, kind, total) => {
             if bytes.len() < total as usize {
                 return Next::Wants;
             }
@@ -57,13 +57,13 @@ fn finish_read<'a, 'b>(
     frames: Vec<Frame>,
     rest: &'b [u8],
     flaw: Option<Flaw>,
-) -> Read<'a, 'b>
+) -> BlocksRead<'a, 'b>
     ensures position { result.position ≡ position.entry }
     ensures frames { result.frames.items ≡ frames.items }
     ensures rest { result.rest.now ≡ rest.now }
     ensures flaw { result.flaw ≡ flaw }
 {
-    Read {
+    BlocksRead {
         position,
         frames,
         rest,
@@ -78,7 +78,7 @@ pub(crate) fn read_blocks<'a, 'b>(
     mut position: Position<'a>,
     mut frames: Vec<Frame>,
     bytes: &'b [u8],
-) -> Result<Read<'a, 'b>, AllocError>
+) -> Result<BlocksRead<'a, 'b>, AllocError>
     requires { HasRoom scope.length (position.count + length bytes.now) }
     ensures read { IfOk result (λ read. AreReadAfter scope (state_of position.entry) bytes.now frames.items read.frames.items (state_of read.position) read.rest.now read.flaw) }
     ensures had { IfOk result (λ read. read.position.listed.had ≡ position.entry.listed.had) }

@@ -7,7 +7,7 @@ ghost use Rattle.cf_pcapng.specs.Position.{interfaces_of};
 ghost use Rattle.cf_pcapng.specs.Reading.{LiesIn};
 
 use crate::fault::Flaw;
-use crate::head::Kind;
+use crate::head::BlockKind;
 use crate::interfaces::{Interface, Interfaces};
 use crate::options::resolution_of;
 use crate::times::nanoseconds_of;
@@ -142,7 +142,7 @@ fn content_of_kind(
     links: LinkSet,
     interfaces: &Interfaces<'_>,
     order: Order,
-    kind: Kind,
+    kind: BlockKind,
     block: &[u8],
 ) -> Result<Content, Flaw>
     requires least { least kind ≤ length block.now }
@@ -151,16 +151,16 @@ fn content_of_kind(
     ensures fits { IfOk result (LiesIn (length block.now)) }
 {
     match kind {
-        Kind::SectionHeader => {
+        BlockKind::SectionHeader => {
             if order.read_u16(&block[12..]) != 1 {
                 return Err(Flaw::BadVersion);
             }
             Ok(Content::NewSection(order))
         }
-        Kind::InterfaceDescription => Ok(Content::NewInterface(interface_of(order, block))),
-        Kind::EnhancedPacket => enhanced_packet(links, interfaces, order, block),
-        Kind::SimplePacket => simple_packet(links, interfaces, order, block),
-        Kind::Other => Ok(Content::Nothing),
+        BlockKind::InterfaceDescription => Ok(Content::NewInterface(interface_of(order, block))),
+        BlockKind::EnhancedPacket => enhanced_packet(links, interfaces, order, block),
+        BlockKind::SimplePacket => simple_packet(links, interfaces, order, block),
+        BlockKind::Other => Ok(Content::Nothing),
     }
 }
 
@@ -170,7 +170,7 @@ pub(crate) fn content_of(
     links: LinkSet,
     interfaces: &Interfaces<'_>,
     order: Order,
-    kind: Kind,
+    kind: BlockKind,
     block: &[u8],
 ) -> Result<Content, Flaw>
     requires least { least kind ≤ length block.now }

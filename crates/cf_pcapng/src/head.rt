@@ -17,7 +17,7 @@ const LARGEST: u32 = 1 << 20;
 
 /// What a block is.
 #[derive(Clone, Copy, Debug, PartialEq, Eq)]
-pub(crate) enum Kind {
+pub(crate) enum BlockKind {
     SectionHeader,
     InterfaceDescription,
     EnhancedPacket,
@@ -28,24 +28,24 @@ pub(crate) enum Kind {
 
 /// What the bytes at the front show of a block.
 #[derive(Clone, Copy, Debug, PartialEq, Eq)]
-pub(crate) enum Head {
+pub(crate) enum BlockHead {
     /// Too few bytes.
     Short,
     /// A block that can't be lawful.
     Flawed(Flaw),
     /// A block of this byte order, kind and total length.
-    Stands(Order, Kind, u32),
+    Stands(Order, BlockKind, u32),
 }
 
 // The kind of a block of this type, other than a section header.
-fn kind_of(number: u32) -> Kind
+fn kind_of(number: u32) -> BlockKind
     ensures { result ≡ kind_of_type number }
 {
     match number {
-        1 => Kind::InterfaceDescription,
-        6 => Kind::EnhancedPacket,
-        3 => Kind::SimplePacket,
-        _ => Kind::Other,
+        1 => BlockKind::InterfaceDescription,
+        6 => BlockKind::EnhancedPacket,
+        3 => BlockKind::SimplePacket,
+        _ => BlockKind::Other,
     }
 }
 
@@ -64,65 +64,65 @@ fn order_of(bytes: &[u8]) -> Option<Order>
 }
 
 // Whether a block of this kind may have so many bytes.
-fn may_have(kind: Kind, total: u32) -> bool
+fn may_have(kind: BlockKind, total: u32) -> bool
     ensures { result ≡ is_total kind total }
 {
     if total % 4 != 0 {
         return false;
     }
     match kind {
-        Kind::SectionHeader => total >= 28 && total <= LARGEST,
-        Kind::InterfaceDescription => total >= 20 && total <= LARGEST,
-        Kind::EnhancedPacket => total >= 32 && total <= LARGEST,
-        Kind::SimplePacket => total >= 16 && total <= LARGEST,
-        Kind::Other => total >= 12,
+        BlockKind::SectionHeader => total >= 28 && total <= LARGEST,
+        BlockKind::InterfaceDescription => total >= 20 && total <= LARGEST,
+        BlockKind::EnhancedPacket => total >= 32 && total <= LARGEST,
+        BlockKind::SimplePacket => total >= 16 && total <= LARGEST,
+        BlockKind::Other => total >= 12,
     }
 }
 
 // The head of a block of this byte order and kind, by its total length.
 #[tactic(auto, unfolding(crate::specs::Blocks::sized))]
-fn head_of_kind(order: Order, kind: Kind, bytes: &[u8]) -> Head
+fn head_of_kind(order: Order, kind: BlockKind, bytes: &[u8]) -> BlockHead
     requires { 8 ≤ length bytes.now }
     ensures { result ≡ sized_head order kind bytes.now }
 {
     let total = order.read_u32(&bytes[4..]);
     if may_have(kind, total) {
-        Head::Stands(order, kind, total)
+        BlockHead::Stands(order, kind, total)
     } else {
-        Head::Flawed(Flaw::BadLength)
+        BlockHead::Flawed(Flaw::BadLength)
     }
 }
 
 // The head of a section header.
 #[tactic(auto, unfolding(crate::specs::Blocks::section_head))]
-fn section_head(bytes: &[u8]) -> Head
+fn section_head(bytes: &[u8]) -> BlockHead
     ensures { result ≡ section_head_of bytes.now }
 {
     if bytes.len() < 12 {
-        return Head::Short;
+        return BlockHead::Short;
     }
     match order_of(bytes) {
-        None => Head::Flawed(Flaw::BadMagic),
-        Some(order) => head_of_kind(order, Kind::SectionHeader, bytes),
+        None => BlockHead::Flawed(Flaw::BadMagic),
+        Some(order) => head_of_kind(order, BlockKind::SectionHeader, bytes),
     }
 }
 
 // What the bytes at the front show of a block in a section of this byte order, or outside of any.
 #[tactic(auto, unfolding(crate::specs::Blocks::head_of))]
-pub(crate) fn head_of(section: Option<Order>, bytes: &[u8]) -> Head
+pub(crate) fn head_of(section: Option<Order>, bytes: &[u8]) -> BlockHead
     ensures { result ≡ head_at section bytes.now }
 {
     if bytes.len() < 4 {
-        return Head::Short;
+        return BlockHead::Short;
     }
     if LittleEndian::read_u32(bytes) == SECTION {
         return section_head(bytes);
     }
     let Some(order) = section else {
-        return Head::Flawed(Flaw::BadMagic);
+        return BlockHead::Flawed(Flaw::BadMagic);
     };
     if bytes.len() < 8 {
-        return Head::Short;
+        return BlockHead::Short;
     }
     head_of_kind(order, kind_of(order.read_u32(bytes)), bytes)
 }

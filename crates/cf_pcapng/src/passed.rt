@@ -1,16 +1,16 @@
 // Blocks that are passed over.
 ghost use Rattle.std.specs.Prelude.{◌≡◌, ℕ, List, ◌++◌, ◌+◌, ◌<◌, ◌≤◌, length, IfOk};
-ghost use Rattle.cf_stream.specs.Limits.{HasRoom as MayCome};
+ghost use Rattle.cf_stream.specs.Limits.{HasRoom};
 ghost use Rattle.cf_pcap.specs.declared.scope.Scope.{Scope};
 ghost use Rattle.cf_pcapng.specs.File.{State};
 ghost use Rattle.cf_pcapng.specs.Position.{state_of};
 ghost use Rattle.cf_pcapng.specs.Blocks.{head_of as head_at};
 ghost use Rattle.cf_pcap.specs.Capture.{FrameValue};
-ghost use Rattle.cf_pcapng.specs.Reading.{WasPassed, IsResumed, IsLetGo, IsPassedAt, HasRoom, MayReadOn, Gave, GaveAfter, IsFew, LetsGo, size_by, missing_of};
+ghost use Rattle.cf_pcapng.specs.Reading.{WasPassed, IsResumed, IsLetGo, IsPassedAt, KeepsLastField, MayReadOn, Gave, GaveAfter, IsFew, LetsGo, size_by, missing_of};
 
-use crate::blocks::{Read, read_blocks};
+use crate::blocks::{BlocksRead, read_blocks};
 use crate::fault::Flaw;
-use crate::head::{Head, Kind, head_of};
+use crate::head::{BlockHead, BlockKind, head_of};
 use crate::position::Position;
 use cf_pcap::{Frame, Order, Scope};
 use cf_stream::cut_at;
@@ -44,7 +44,7 @@ pub(crate) enum Resumed {
 
 /// What was read of the bytes of a stream, and what a reader has of the block at hand.
 #[derive(Drop)]
-pub(crate) struct Given<'a> {
+pub(crate) struct StreamRead<'a> {
     pub position: Position<'a>,
     pub frames: Vec<Frame>,
     pub passed: Option<Passed>,
@@ -90,11 +90,13 @@ fn passed_at(section: Option<Order>, rest: &[u8]) -> Option<Passed>
     ensures { IsPassedAt section rest.now result }
 {
     match head_of(section, rest) {
-        Head::Stands(order, Kind::Other, total) if rest.len() < total as usize => Some(Passed {
-            order,
-            total,
-            gone: 0,
-        }),
+        BlockHead::Stands(order, BlockKind::Other, total) if rest.len() < total as usize => Some(
+            Passed {
+                order,
+                total,
+                gone: 0,
+            },
+        ),
         _ => None,
     }
 }
@@ -113,8 +115,8 @@ fn size_of(section: Option<Order>, bytes: &[u8]) -> usize
     ensures { result ≡ size_by (head_at section bytes.now) }
 {
     match head_of(section, bytes) {
-        Head::Stands(_, Kind::Other, _) => HEAD,
-        Head::Stands(_, _, total) => total as usize,
+        BlockHead::Stands(_, BlockKind::Other, _) => HEAD,
+        BlockHead::Stands(_, _, total) => total as usize,
         _ => HEAD,
     }
 }
@@ -141,18 +143,21 @@ fn missing(
 }
 
 // Drops the bytes of a block that is only passed over, up to its last field, if one begins where the reading ended.
-fn drop_passed_block<'a>(alloc: Global, read: Read<'a, '_>) -> Result<Given<'a>, AllocError>
+fn drop_passed_block<'a>(
+    alloc: Global,
+    read: BlocksRead<'a, '_>,
+) -> Result<StreamRead<'a>, AllocError>
     ensures read { IfOk result (LetsGo read.entry) }
     ensures had { IfOk result (λ given. given.position.listed.had ≡ read.entry.position.listed.had) }
 {
-    let Read {
+    let BlocksRead {
         position,
         frames,
         rest,
         flaw,
     } = read;
     if flaw.is_some() {
-        return Ok(Given {
+        return Ok(StreamRead {
             position,
             frames,
             passed: None,
@@ -163,7 +168,7 @@ fn drop_passed_block<'a>(alloc: Global, read: Read<'a, '_>) -> Result<Given<'a>,
     match passed_at(position.order(), rest) {
         None => {
             let held = rest.to_vec(alloc)?;
-            Ok(Given {
+            Ok(StreamRead {
                 position,
                 frames,
                 passed: None,
@@ -174,7 +179,7 @@ fn drop_passed_block<'a>(alloc: Global, read: Read<'a, '_>) -> Result<Given<'a>,
         Some(block) => {
             let (passed, some) = block.within(rest);
             let held = rest.split_at(some).1.to_vec(alloc)?;
-            Ok(Given {
+            Ok(StreamRead {
                 position,
                 frames,
                 passed: Some(passed),
@@ -193,9 +198,9 @@ fn resume_passed_block<'a>(
     frames: Vec<Frame>,
     block: Passed,
     bytes: &[u8],
-) -> Result<Given<'a>, AllocError>
+) -> Result<StreamRead<'a>, AllocError>
     requires block { block.gone + 4 ≤ block.total }
-    requires room { MayCome scope.length (position.count + length bytes.now) }
+    requires room { HasRoom scope.length (position.count + length bytes.now) }
     ensures sound { IfOk result (IsFew scope.length (state_of position.entry) (length bytes.now)) }
     ensures read { IfOk result (GaveAfter scope (state_of position.entry) (Some block) bytes.now frames.items) }
     ensures had { IfOk result (λ given. given.position.listed.had ≡ position.entry.listed.had) }
@@ -207,7 +212,7 @@ fn resume_passed_block<'a>(
         }
         Resumed::Within(passed, some) => {
             let held = bytes.split_at(some).1.to_vec(alloc)?;
-            Ok(Given {
+            Ok(StreamRead {
                 position,
                 frames,
                 passed: Some(passed),
@@ -215,7 +220,7 @@ fn resume_passed_block<'a>(
                 flaw: None,
             })
         }
-        Resumed::Flawed => Ok(Given {
+        Resumed::Flawed => Ok(StreamRead {
             position,
             frames,
             passed: None,
@@ -233,9 +238,9 @@ fn read_next<'a>(
     frames: Vec<Frame>,
     passed: Option<Passed>,
     bytes: &[u8],
-) -> Result<Given<'a>, AllocError>
-    requires block { HasRoom passed }
-    requires room { MayCome scope.length (position.count + length bytes.now) }
+) -> Result<StreamRead<'a>, AllocError>
+    requires block { KeepsLastField passed }
+    requires room { HasRoom scope.length (position.count + length bytes.now) }
     ensures sound { IfOk result (IsFew scope.length (state_of position.entry) (length bytes.now)) }
     ensures read { IfOk result (GaveAfter scope (state_of position.entry) passed bytes.now frames.items) }
     ensures had { IfOk result (λ given. given.position.listed.had ≡ position.entry.listed.had) }
@@ -253,9 +258,9 @@ fn read_next<'a>(
 fn read_on<'a>(
     alloc: Global,
     scope: Scope,
-    given: Given<'a>,
+    given: StreamRead<'a>,
     more: &[u8],
-) -> Result<Given<'a>, AllocError>
+) -> Result<StreamRead<'a>, AllocError>
     requires { MayReadOn scope.length (state_of given.position) given.passed given.held.items given.flaw (length more.now) }
     ensures sound { IfOk result (λ after. (s : State) (size : ℕ) → IsFew scope.length s size given.entry → IsFew scope.length s (size + length more.now) after) }
     ensures read { IfOk result (λ after. (s : State) (bytes : List ℕ) → Gave scope s bytes given.entry → Gave scope s (bytes ++ more.now) after) }
@@ -264,7 +269,7 @@ fn read_on<'a>(
     if given.flaw.is_some() || more.is_empty() {
         return Ok(given);
     }
-    let Given {
+    let StreamRead {
         position,
         frames,
         passed,
@@ -286,9 +291,9 @@ pub(crate) fn read_piece<'a>(
     passed: Option<Passed>,
     held: &[u8],
     more: &[u8],
-) -> Result<Given<'a>, AllocError>
-    requires block { HasRoom passed }
-    requires room { MayCome scope.length (position.count + length (held.now ++ more.now)) }
+) -> Result<StreamRead<'a>, AllocError>
+    requires block { KeepsLastField passed }
+    requires room { HasRoom scope.length (position.count + length (held.now ++ more.now)) }
     ensures sound { IfOk result (IsFew scope.length (state_of position.entry) (length (held.now ++ more.now))) }
     ensures read { IfOk result (λ given. (gone : List ℕ) → WasPassed position.entry.order passed gone
         → Gave scope (state_of position.entry) (gone ++ (held.now ++ more.now)) given) }

@@ -3,19 +3,19 @@ ghost use Rattle.std.specs.Prelude.{◌≡◌, ◌≢◌, ℕ, List, [], ◌++�
 ghost use Rattle.cf_pcap.specs.Capture.{FrameValue};
 ghost use Rattle.cf_pcap.specs.declared.links.LinkSet.TheVariants.{Basic};
 ghost use Rattle.cf_pcap.specs.Links.{limited};
-ghost use Rattle.cf_stream.specs.Limits.{HasRoom as MayCome};
+ghost use Rattle.cf_stream.specs.Limits.{HasRoom};
 ghost use Rattle.cf_stream.specs.Stream.{AreGiven};
 ghost use Rattle.cf_stream.specs.declared.stage.Stage.TheVariants.{Running};
 ghost use Rattle.cf_pcapng.specs.File.{pcapng};
 ghost use Rattle.cf_pcapng.specs.Position.{listed, state_of};
-ghost use Rattle.cf_pcapng.specs.Reading.{HasRoom, MayGoOn, early_of, late_of};
+ghost use Rattle.cf_pcapng.specs.Reading.{KeepsLastField, MayGoOn, early_bytes, late_bytes};
 ghost use Rattle.cf_pcapng.specs.Reader.{IsStateOf, IsFed, IsEnded, AnswersFound, IsStageAtLimit, IsStageAfter, IsCalled, reader_after};
 ghost use Rattle.cf_stream.specs.Stages.{found_at, kept_at};
 ghost use Rattle.cf_pcapng.specs.Truncated.{Says, Breaks};
 
 use crate::fault::NgFault;
 use crate::interfaces::Interface;
-use crate::passed::{Given, Passed, read_piece};
+use crate::passed::{Passed, StreamRead, read_piece};
 use crate::position::{Position, Reached};
 use cf_pcap::{Frame, LinkSet, Order, Scope};
 use cf_stream::{LIMIT, Length, Stage};
@@ -84,12 +84,12 @@ struct Called {
 fn stage_at_limit(
     alloc: Global,
     scope: Scope,
-    given: &Given<'_>,
+    given: &StreamRead<'_>,
     byte: &[u8],
 ) -> Result<Stage<NgFault>, AllocError>
     requires one { length byte.now ≡ 1 }
-    requires block { HasRoom given.now.passed }
-    requires room { MayCome scope.length (given.now.position.count + length given.now.held.items + 1) }
+    requires block { KeepsLastField given.now.passed }
+    requires room { HasRoom scope.length (given.now.position.count + length given.now.held.items + 1) }
     ensures { IfOk result (IsStageAtLimit scope (state_of given.now.position) given.now.passed given.now.held.items byte.now) }
 {
     let position = given.position.copy(alloc)?;
@@ -104,7 +104,7 @@ fn stage_at_limit(
 fn stage_after(
     alloc: Global,
     scope: Scope,
-    given: &Given<'_>,
+    given: &StreamRead<'_>,
     late: &[u8],
 ) -> Result<Stage<NgFault>, AllocError>
     requires { MayGoOn scope.length (state_of given.now.position) given.now.passed given.now.held.items given.now.flaw }
@@ -121,8 +121,8 @@ fn stage_after(
 
 // Splits a piece, after so many bytes: those that come early enough for a frame, and the others.
 fn split_late(limit: Length, total: usize, piece: &[u8]) -> (&[u8], &[u8])
-    ensures early { result.0.now ≡ early_of limit total piece.now }
-    ensures late { result.1.now ≡ late_of limit total piece.now }
+    ensures early { result.0.now ≡ early_bytes limit total piece.now }
+    ensures late { result.1.now ≡ late_bytes limit total piece.now }
 {
     limit.cut(piece, LAST.saturating_sub(total))
 }

@@ -9,7 +9,7 @@ use Rattle.cf_report.specs.Meaning.{alerts_on}
 use Rattle.cf_setup.specs.Setups.{SetupValue}
 use Rattle.cf_shape.specs.Lanes.{ShapeValue}
 use Rattle.cf_watch.specs.New.{has_bucket_of, newly}
-use Rattle.cf_rounds.specs.Lines.{Said, View, fresh_line, fresh_lines, fresh_lines_at, is_due, live_line, round_text, with_view}
+use Rattle.cf_rounds.specs.Lines.{Said, WindowView, fresh_line, fresh_lines, fresh_lines_at, is_due, live_line, round_text, with_view}
 
 -- each mark has a bucket of theirs
 any_here : (before after : List Fired) (mark : Fired) → has_bucket_of (before ++ mark ∷ after) mark ≡ true
@@ -52,7 +52,7 @@ not_again every asked to = elim (cases_Bool (is_due every asked to)) [
     none_now : (every to : ℕ) → is_due every to to ≡ false
     none_now every to = grind (arith, nat_tests)
 
-module _ (shape : ShapeValue) (setup : SetupValue) (every : ℕ) (said : Said) (view : View) where
+module _ (shape : ShapeValue) (setup : SetupValue) (every : ℕ) (said : Said) (view : WindowView) where
   abbrev once : Said
   once = with_view shape setup every said view
 

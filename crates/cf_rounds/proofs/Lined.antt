@@ -16,7 +16,7 @@ use Rattle.cf_report.proofs.Answering.{body_within}
 use Rattle.cf_setup.specs.Setups.{SetupValue}
 use Rattle.cf_shape.specs.Lanes.{ShapeValue}
 use Rattle.cf_rounds.specs.Held.{AreNumbered}
-use Rattle.cf_rounds.specs.Lines.{View, live_head, live_line}
+use Rattle.cf_rounds.specs.Lines.{WindowView, live_head, live_line}
 use Rattle.cf_rounds.proofs.Numbers.{final_shown, live_shown}
 
 -- what was written piece by piece
@@ -25,7 +25,7 @@ behind t₀ t₁ t₂ t₃ head body e₁ e₂ e₃ =
     e₃ ∙ (ap (λ (t : List ℕ). t ++ 10 ∷ []) (e₂ ∙ ap (λ (t : List ℕ). t ++ body) e₁)
     ∙ (ap (λ (t : List ℕ). t ++ 10 ∷ []) (append_assoc t₀ head body) ∙ append_assoc t₀ (head ++ body) (10 ∷ [])))
 
-module _ (shape : ShapeValue) (setup : SetupValue) (view : View) (place : ℕ) (name word : List ℕ) (from to : ℕ) (ask : Ask) (body : Body)
+module _ (shape : ShapeValue) (setup : SetupValue) (view : WindowView) (place : ℕ) (name word : List ℕ) (from to : ℕ) (ask : Ask) (body : Body)
     (t₀ t₁ t₂ t₃ : List ℕ) (name_is : name ≡ ask_name setup place) (word_is : word ≡ word_of ask) (ask_is : ask ≡ ask_at setup place)
     (from_is : from ≡ view.from) (body_is : body ≡ eval_rows shape ask view.rows) (numbered : AreNumbered view.from view.rows) where
   abbrev meant : Body

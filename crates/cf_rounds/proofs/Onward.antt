@@ -16,7 +16,7 @@ use Rattle.cf_window.specs.Windows.{after_row, drops, rows_in_all}
 use Rattle.cf_window.proofs.Courses.{course_came, course_round, course_start, from_is, held_now, long}
 use Rattle.cf_window.proofs.Rows.{count_first, rows_dropped, rows_first, rows_kept}
 use Rattle.cf_rounds.specs.Held.{AreNumbered, HasEnded, HasRound, HasTaken, IsAt, RoundsValue, after_round, said_in, text_in, view_in}
-use Rattle.cf_rounds.specs.Lines.{Said, View, end_text, nothing_said, with_view}
+use Rattle.cf_rounds.specs.Lines.{Said, WindowView, end_text, nothing_said, with_view}
 use Rattle.cf_rounds.specs.Texts.{said_on, view_of, with_span}
 use Rattle.cf_rounds.proofs.Numbers.{numbered_behind, numbered_more}
 
@@ -39,9 +39,9 @@ module _ (shape : ShapeValue) (setup : SetupValue) (every : ℕ) (rows more : Li
       (All-weaker (IsMoment shape most rows) (λ (span : Span). span.to ≤ length rows)
       (λ (span : Span) (is : IsMoment shape most rows span). is.come) spans moments))
 
-view_same : (a b : View) → a.from ≡ b.from → a.to ≡ b.to → a.rows ≡ b.rows → a ≡ b
+view_same : (a b : WindowView) → a.from ≡ b.from → a.to ≡ b.to → a.rows ≡ b.rows → a ≡ b
 view_same a b from to rows =
-    ap₂ (λ (f : ℕ) (v : View). record v { from = f }) from (ap₂ (λ (t : ℕ) (rs : List RowValue). record { from = b.from; to = t; rows = rs }) to rows)
+    ap₂ (λ (f : ℕ) (v : WindowView). record v { from = f }) from (ap₂ (λ (t : ℕ) (rs : List RowValue). record { from = b.from; to = t; rows = rs }) to rows)
 
 module _ (rounds : RoundsValue) (rows : List RowValue) (course : Course) (text : List ℕ) (is : IsAt rounds rows course text) where
   abbrev shape : ShapeValue
@@ -61,7 +61,7 @@ module _ (rounds : RoundsValue) (rows : List RowValue) (course : Course) (text :
   pub said_round : said_on shape rounds.setup rounds.every rows (with_round course).rounds ≡ said_in (after_round rounds) (text ++ text_in rounds)
   said_round =
       fold_push (with_span shape rounds.setup rounds.every rows) nothing_said course.rounds (span_of course)
-      ∙ ap₂ (λ (said : Said) (view : View). with_view shape rounds.setup rounds.every said view) is.said view_is
+      ∙ ap₂ (λ (said : Said) (view : WindowView). with_view shape rounds.setup rounds.every said view) is.said view_is
 
   pub at_round : IsAt (after_round rounds) rows (with_round course) (text ++ text_in rounds)
   at_round = record {
@@ -73,7 +73,7 @@ module _ (rounds : RoundsValue) (rows : List RowValue) (course : Course) (text :
 
   pub ends : (said_on shape rounds.setup rounds.every rows (with_round course).rounds).text ++ end_text shape rounds.setup (view_of rows (span_of course))
       ≡ (text ++ text_in rounds) ++ end_text shape rounds.setup (view_in rounds.window)
-  ends = ap₂ (λ (said : Said) (view : View). said.text ++ end_text shape rounds.setup view) said_round view_is
+  ends = ap₂ (λ (said : Said) (view : WindowView). said.text ++ end_text shape rounds.setup view) said_round view_is
 
   -- a record comes, and the window is as it has to be then
   pub at_came : (row : RowValue) (before : Course) (window : WindowValue) → window.shape ≡ shape → window.most ≡ most → IsCourse shape most rows before

@@ -13,7 +13,7 @@ use Rattle.cf_window.specs.declared.window.Pushed.{Pushed}
 use Rattle.cf_window.specs.declared.window.Pushed.TheVariants.{Gone, NeedsDrop}
 use Rattle.cf_window.proofs.Dropping.{out_of}
 use Rattle.cf_window.proofs.Rows.{rows_first}
-use Rattle.cf_rounds.specs.Held.{AreNumbered, HasAnswered, HasAsked, HasEnded, HasRound, HasTaken, IsAt, IsRounds, RoundsValue, after_round, text_in, view_in}
+use Rattle.cf_rounds.specs.Held.{AreNumbered, HasAnswered, HasAskedLives, HasEnded, HasRound, HasTaken, IsAt, IsRounds, RoundsValue, after_round, text_in, view_in}
 use Rattle.cf_rounds.specs.Lines.{end_text, fresh_lines, is_due, live_line}
 use Rattle.cf_rounds.specs.Texts.{said_on, view_of}
 use Rattle.cf_rounds.specs.declared.rounds.Taken.TheVariants as taken
@@ -34,7 +34,7 @@ has_round old new before after is text rows course written at =
 -- the marks were told, and then the live questions asked
 pub round_made : (old mid new : RoundsValue) (t₀ t₁ t₂ : List ℕ) → mid ≡ record old { marks = alerts_on (old.window).shape old.setup (view_in old.window).rows }
     → t₁ ≡ t₀ ++ fresh_lines old.setup (view_in old.window).to old.marks (alerts_on (old.window).shape old.setup (view_in old.window).rows)
-    → HasAsked mid t₁ new t₂
+    → HasAskedLives mid t₁ new t₂
     → (new ≡ after_round old) × (t₂ ≡ t₀ ++ text_in old)
 round_made old mid new t₀ t₁ t₂ is text asked = (
   asked.0 ∙ ap (λ (m : RoundsValue). record m { asked = if is_due m.every m.asked (view_in m.window).to then (view_in m.window).to else m.asked }) is,

@@ -11,7 +11,7 @@ use Rattle.cf_window.specs.Courses.{IsCourse}
 use Rattle.cf_window.specs.Held.{WindowValue, count_of}
 use Rattle.cf_window.specs.Rounds.{Course, came, span_of, with_round}
 use Rattle.cf_window.specs.Windows.{is_refused, rows_in_all}
-use Rattle.cf_rounds.specs.Lines.{Said, View, end_text, is_due, live_line, round_text}
+use Rattle.cf_rounds.specs.Lines.{Said, WindowView, end_text, is_due, live_line, round_text}
 use Rattle.cf_rounds.specs.Texts.{said_on, view_of}
 use Rattle.cf_rounds.specs.declared.rounds.Taken.{Taken}
 use Rattle.cf_rounds.specs.declared.rounds.Taken.TheVariants.{Full, Gone, NoNodes}
@@ -27,7 +27,7 @@ pub record RoundsValue : Type 0 where
   pub asked : ℕ
 
 -- the records of the window
-abbrev pub view_in : WindowValue → View
+abbrev pub view_in : WindowValue → WindowView
 view_in window = record { from = window.from; to = count_of window; rows = rows_in_all window.segments }
 
 -- the rows are numbered one by one from this number on
@@ -69,8 +69,8 @@ abbrev pub text_in : RoundsValue → List ℕ
 text_in old = round_text (old.window).shape old.setup old.every (said_in old []) (view_in old.window)
 
 -- the live questions were asked if they were due
-abbrev pub HasAsked : RoundsValue → List ℕ → RoundsValue → List ℕ → Type 0
-HasAsked old before new after =
+abbrev pub HasAskedLives : RoundsValue → List ℕ → RoundsValue → List ℕ → Type 0
+HasAskedLives old before new after =
     let due = is_due old.every old.asked (view_in old.window).to in
     (new ≡ record old { asked = if due then (view_in old.window).to else old.asked })
     × (after ≡ before ++ (if due then flat_map (live_line (old.window).shape old.setup (view_in old.window)) (old.setup).lives else []))

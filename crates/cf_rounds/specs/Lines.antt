@@ -13,7 +13,7 @@ use Rattle.cf_shape.specs.Lanes.{ShapeValue}
 use Rattle.cf_watch.specs.New.{newly}
 
 -- the records of a window: the number of the first, the number behind the last, and their rows
-pub record View : Type 0 where
+pub record WindowView : Type 0 where
   pub from : ℕ
   pub to : ℕ
   pub rows : List RowValue
@@ -36,7 +36,7 @@ abbrev pub live_head : List ℕ → ℕ → ℕ → List ℕ → List ℕ
 live_head name from to word = codes "live " ++ name ++ codes " @" ++ decimal from ++ codes ".." ++ decimal to ++ codes " " ++ word
 
 -- `live NAME @F..T BODY`: what the question at a place means on the window's records, which are told by their numbers
-abbrev pub live_line : ShapeValue → SetupValue → View → ℕ → List ℕ
+abbrev pub live_line : ShapeValue → SetupValue → WindowView → ℕ → List ℕ
 live_line shape setup view place =
     line (live_head (ask_name setup place) view.from view.to (word_of (ask_at setup place)) ++ shown (nums_at view.rows)
     (eval_rows shape (ask_at setup place) view.rows))
@@ -57,13 +57,13 @@ abbrev pub is_due : ℕ → ℕ → ℕ → Bool
 is_due every asked to = nat_lt 0 every && nat_le (asked + every) to
 
 -- what a round on a window writes
-abbrev pub round_text : ShapeValue → SetupValue → ℕ → Said → View → List ℕ
+abbrev pub round_text : ShapeValue → SetupValue → ℕ → Said → WindowView → List ℕ
 round_text shape setup every said view =
     fresh_lines setup view.to said.marks (alerts_on shape setup view.rows) ++
     (if is_due every said.asked view.to then flat_map (live_line shape setup view) setup.lives else [])
 
 -- a round on a window
-abbrev pub with_view : ShapeValue → SetupValue → ℕ → Said → View → Said
+abbrev pub with_view : ShapeValue → SetupValue → ℕ → Said → WindowView → Said
 with_view shape setup every said view = record {
   marks = alerts_on shape setup view.rows;
   asked = if is_due every said.asked view.to then view.to else said.asked;
@@ -71,7 +71,7 @@ with_view shape setup every said view = record {
 }
 
 -- what is written at the end, after the last round
-abbrev pub end_text : ShapeValue → SetupValue → View → List ℕ
+abbrev pub end_text : ShapeValue → SetupValue → WindowView → List ℕ
 end_text shape setup view =
     line (codes "records " ++ decimal view.to)
     ++ line (codes "window " ++ decimal view.from)

@@ -5,10 +5,10 @@ use Rattle.cf_setup.specs.Setups.{SetupValue}
 use Rattle.cf_shape.specs.Lanes.{ShapeValue}
 use Rattle.cf_window.specs.Rounds.{Course, Span, after_reads, span_of, with_round, within}
 use Rattle.cf_window.specs.Windows.{rows_in_all}
-use Rattle.cf_rounds.specs.Lines.{Said, View, end_text, nothing_said, with_view}
+use Rattle.cf_rounds.specs.Lines.{Said, WindowView, end_text, nothing_said, with_view}
 
 -- the stream's records of a span
-abbrev pub view_of : List RowValue → Span → View
+abbrev pub view_of : List RowValue → Span → WindowView
 view_of rows span = record { from = span.from; to = span.to; rows = within rows span }
 
 -- a round on a span

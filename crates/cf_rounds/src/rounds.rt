@@ -4,7 +4,7 @@ ghost use Rattle.cf_row.specs.Row.{Fits};
 ghost use Rattle.cf_setup.specs.Setups.{shaped};
 ghost use Rattle.cf_window.specs.Held.{count_of};
 ghost use Rattle.cf_window.specs.Rounds.{start};
-ghost use Rattle.cf_rounds.specs.Held.{HasAnswered, HasAsked, HasEnded, HasRound, IsAt, IsSetAs, after_round, text_in};
+ghost use Rattle.cf_rounds.specs.Held.{HasAnswered, HasAskedLives, HasEnded, HasRound, IsAt, IsSetAs, after_round, text_in};
 ghost use Rattle.cf_rounds.specs.Lines.{is_due as is_due_of};
 
 use crate::asks::push_end;
@@ -129,7 +129,7 @@ impl Rounds {
     fn ask_due(&mut self, alloc: Global, text: &mut String) -> Result<(), Memory>
         ensures set { IsSetAs self.old self.new }
         ensures window { self.new.window ≡ self.old.window }
-        ensures asked { OnOk result (HasAsked self.old (string_bytes text.old) self.new (string_bytes text.new)) }
+        ensures asked { OnOk result (HasAskedLives self.old (string_bytes text.old) self.new (string_bytes text.new)) }
     {
         let to = self.window.count();
         if is_due(self.every, self.asked, to) {

@@ -29,8 +29,8 @@ use Rattle.cf_intake.specs.Refusals.{line_of}
 use Rattle.cf_run.specs.Refusals.{status_of, stop_status}
 use Rattle.cf_run.specs.Parts.{reply_status, reply_seals}
 use Rattle.cf_run.specs.Work.{draws, drawn_rows, rows_told, ends_told}
-use Rattle.cf_run.specs.declared.reply.Reply.{Reply}
-use Rattle.cf_run.specs.declared.reply.Reply.TheVariants as replies
+use Rattle.cf_run.specs.declared.reply.WorkReply.{WorkReply}
+use Rattle.cf_run.specs.declared.reply.WorkReply.TheVariants as replies
 use Rattle.cf_load.specs.Planned.{tails_of}
 use Rattle.cf_run.proofs.Counted.{seals_within}
 use Rattle.cf_run.proofs.Deciding.{one_due, lawful_done}
@@ -319,14 +319,14 @@ refusal_yields (refusals.Capture at code) yields = none_of (λ e. cc e) (λ e. c
 refusal_yields (refusals.Full capacity) yields = none_of (λ e. cc e) (λ e. cc e) (λ e. cc e) yields
 refusal_yields (refusals.Nodes nodes) yields = none_of (λ e. cc e) (λ e. cc e) (λ e. cc e) yields
 
-reply_yields : (reply : Reply) → Yields (reply_status reply) → ⊥
+reply_yields : (reply : WorkReply) → Yields (reply_status reply) → ⊥
 reply_yields (replies.Done text seals) yields = none_of (λ e. cc e) (λ e. cc e) (λ e. cc e) yields
 reply_yields (replies.Refused why text) yields = refusal_yields why yields
 
-pub never_yields : (reply : Reply) (status : Status) → status ≡ reply_status reply → Yields status → ⊥
+pub never_yields : (reply : WorkReply) (status : Status) → status ≡ reply_status reply → Yields status → ⊥
 never_yields reply status is yields = reply_yields reply (subst Yields is yields)
 
-pub reply_unsealed : (reply : Reply) (status : Status) (seals : List SealValue) → status ≡ reply_status reply → seals ≡ reply_seals reply
+pub reply_unsealed : (reply : WorkReply) (status : Status) (seals : List SealValue) → status ≡ reply_status reply → seals ≡ reply_seals reply
     → (status ≡ Done → ⊥) → seals ≡ []
 reply_unsealed (replies.Done text seals) status sealed is also undone = absurd (undone is)
 reply_unsealed (replies.Refused why text) status sealed is also undone = also

@@ -13,7 +13,7 @@ use Rattle.cf_follow.specs.Followed.{truncated_line}
 use Rattle.cf_report.specs.Dump.{dump_text}
 use Rattle.cf_setup.specs.Setups.{SetupValue}
 use Rattle.cf_table.specs.Moves.{SealValue}
-use Rattle.cf_run.specs.Due.{Work, CallsBy, CallsByAll, CallsFor, RunAfter, SynthAfter, SnapshotAfter, WatchFrom, WatchAfter, ComesTo, Exceeds, GivesLog, HostsExceed, HasRoom, IsSnapshotOf, GivesCut, IsReportOf, AreAnswersOf, IsDue, StopsAt, drawn_work}
+use Rattle.cf_run.specs.Due.{Work, CallsBy, CallsByAll, CallsFor, RunAfter, SynthAfter, SnapshotAfter, WatchFrom, WatchAfter, ComesTo, Exceeds, GivesLog, HostsExceed, LogHasRoom, IsSnapshotOf, GivesCut, IsReportOf, AreAnswersOf, IsDue, StopsAt, drawn_work}
 use Rattle.cf_run.specs.Due.Work.{report, answers, listing, at_cut, refused}
 use Rattle.cf_run.specs.Due.CallsBy.{halted, whole}
 use Rattle.cf_run.specs.Due.CallsByAll.{one_halted, all_whole}
@@ -25,7 +25,7 @@ use Rattle.cf_run.specs.Parts.{EndsWith, IsPrepared, reply_status, reply_text, r
 use Rattle.cf_intake.specs.Parts.{captured, captured_each, rows_each}
 use Rattle.cf_intake.specs.Rows.{CaptureValue}
 use Rattle.cf_intake.specs.declared.rows.Captured.{Captured}
-use Rattle.cf_run.specs.Logs.{HasNodes, IsUnmade, halt_of}
+use Rattle.cf_run.specs.Logs.{NodesSuffice, IsUnmade, halt_of}
 use Rattle.cf_intake.specs.Refusals.{line_of}
 use Rattle.cf_run.specs.Refusals.{status_of}
 use Rattle.cf_run.specs.Seals.{IsSealedReport}
@@ -37,7 +37,7 @@ use Rattle.cf_shape.specs.Nodes.{distinct}
 use Rattle.cf_run.proofs.Drawing.{drawn_many}
 use Rattle.cf_intake.proofs.Several.{all_taken, halts_after, refused_stopped}
 use Rattle.cf_intake.proofs.Taking.{left_same}
-use Rattle.cf_run.specs.declared.reply.Reply.{Reply}
+use Rattle.cf_run.specs.declared.reply.WorkReply.{WorkReply}
 use Rattle.cf_run.specs.declared.log.Unmade.{Unmade}
 use Rattle.cf_run.specs.declared.log.Unmade.TheVariants as unmade
 use Rattle.cf_intake.specs.declared.refusal.Halt.{Halt}
@@ -112,7 +112,8 @@ module _ (told : Option (List File)) (call : RunCall) (before now : Option (List
 
       pub run_sealed : (body text : List ℕ) (seals : List SealValue) → text ≡ body ++ truncated_line what.cut
           → length what.rows ≤ call.sizes.capacity * call.sizes.segments
-          → IsSealedReport setup call.sizes.capacity call.sizes.writers call.sizes.nodes call.rounds what.rows body seals × HasNodes setup call.sizes what.rows
+          → IsSealedReport setup call.sizes.capacity call.sizes.writers call.sizes.nodes call.rounds what.rows body seals
+          × NodesSuffice setup call.sizes what.rows
           → IsDue told (Some (run call)) before now Done text seals
       run_sealed body text seals is few made = run_gives Done text seals (tells few made.1 refl (record { body = body; sealed = made.0; text_is = is }))
 
@@ -156,7 +157,7 @@ module _ (told : Option (List File)) (call : SynthCall) (before now : Option (Li
       synth_unmade unmade.Memory few many = synth_stopped
 
       pub synth_sealed : (text : List ℕ) (seals : List SealValue) → length (drawn_rows call) ≤ call.sizes.capacity * call.sizes.segments
-          → AreAnswersOf call setup text seals × HasNodes setup call.sizes (drawn_rows call) → IsDue told (Some (synth call)) before now Done text seals
+          → AreAnswersOf call setup text seals × NodesSuffice setup call.sizes (drawn_rows call) → IsDue told (Some (synth call)) before now Done text seals
       synth_sealed text seals few made = synth_gives Done text seals (tells few made.1 refl made.0)
 
 module _ (told : Option (List File)) (call : DumpCall) (before now : Option (List ℕ)) where
@@ -211,7 +212,7 @@ module _ (told : Option (List File)) (call : SnapshotCall) (before now : Option 
       snapshot_unmade unmade.Nodes few many = snapshot_exceeds (refusals.Nodes call.sizes.nodes) (some_short few (many refl) refl)
       snapshot_unmade unmade.Memory few many = snapshot_stopped
 
-      pub snapshot_told : (text : List ℕ) (seals : List SealValue) → All (HasRoom call.sizes setup) (rows_each hosts)
+      pub snapshot_told : (text : List ℕ) (seals : List SealValue) → All (LogHasRoom call.sizes setup) (rows_each hosts)
           → IsSnapshotOf call setup (rows_each hosts) (ends_each hosts) text → seals ≡ []
           → IsDue told (Some (snapshot call)) before now Done text seals
       snapshot_told text seals room is none = snapshot_gives Done text seals (tells_hosts room refl is none)
@@ -287,7 +288,7 @@ comes_stopped told (Some (watch call)) before now work comes =
     called_left setups told call.setup before now (WatchAfter told call now) work (StopsAt told (Some (watch call)) stops.Memory before now)
     (λ stop. inl stop) (λ setup said next. watch_left told call before now setup work said setup.source refl next) comes
 
-pub refused_prepared : (told : Option (List File)) (call : Option Call) (before now : Option (List ℕ)) (why : Refusal) (result : Result Reply Stop)
+pub refused_prepared : (told : Option (List File)) (call : Option Call) (before now : Option (List ℕ)) (why : Refusal) (result : Result WorkReply Stop)
     → EndsWith told call before now (Err (Refused why))
     → MatchResult result (λ reply. (reply_text reply ≡ line_of why) × (reply_status reply ≡ status_of why) × (reply_seals reply ≡ []))
     (λ stop. stop ≡ stops.Memory) → IsPrepared told call before now result

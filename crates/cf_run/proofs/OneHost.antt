@@ -28,7 +28,7 @@ use Rattle.cf_shape.specs.Nodes.{Node, same_node, add_node, nodes_for, nodes_of,
 use Rattle.cf_command.specs.declared.words.LogSizes.{LogSizes}
 use Rattle.cf_follow.specs.Followed.{truncated_line}
 use Rattle.cf_snapshot.specs.Plans.{cut_by, in_cut}
-use Rattle.cf_run.specs.Due.{HasRoom}
+use Rattle.cf_run.specs.Due.{LogHasRoom}
 use Rattle.cf_run.specs.Logs.{IsUnmade, IsUnmadeAlone}
 use Rattle.cf_intake.specs.Parts.{rows_each}
 use Rattle.cf_intake.specs.declared.rows.Captured.{Captured}
@@ -158,13 +158,13 @@ never_short shape rows front n why is of few bad =
 
 -- The numbers of a cut.
 
-pub counts_few : (sizes : LogSizes) (setup : SetupValue) (hosts : List (List RowValue)) (most : ℕ) → sizes.capacity ≤ most → All (HasRoom sizes setup) hosts
+pub counts_few : (sizes : LogSizes) (setup : SetupValue) (hosts : List (List RowValue)) (most : ℕ) → sizes.capacity ≤ most → All (LogHasRoom sizes setup) hosts
     → All (λ n. n ≤ most) (map (λ rows. length rows) hosts)
 counts_few sizes setup hosts most cap room =
     All-map (λ n. n ≤ most) (λ (rows : List RowValue). length rows) hosts (λ k d lt. let few = (room k d lt).0 in omega (arith, few, cap))
 
 pub room_of : (sizes : LogSizes) (setup : SetupValue) (hosts : List (List RowValue)) → sizes.writers ≡ 1 → All (λ rows. length rows ≤ sizes.capacity) hosts
-    → All (λ rows. distinct (shape_for setup sizes) rows ≤ sizes.writers * sizes.nodes) hosts → All (HasRoom sizes setup) hosts
+    → All (λ rows. distinct (shape_for setup sizes) rows ≤ sizes.writers * sizes.nodes) hosts → All (LogHasRoom sizes setup) hosts
 room_of sizes setup hosts one few nodes k d lt =
     let n : distinct (shape_for setup sizes) (get_or hosts k d) ≤ 1 * sizes.nodes =
     subst (λ (w : ℕ). distinct (shape_for setup sizes) (get_or hosts k d) ≤ w * sizes.nodes) one (nodes k d lt) in

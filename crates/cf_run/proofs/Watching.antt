@@ -33,7 +33,7 @@ use Rattle.cf_run.specs.Answers.RunAnswers.{wrote, cut, stopped, watched}
 use Rattle.cf_run.specs.Due.{IsDue, IsLawful, StopsAt, WatchFrom}
 use Rattle.cf_run.specs.Due.Work.{refused}
 use Rattle.cf_run.specs.Due.CallsBy.{halted, whole}
-use Rattle.cf_run.specs.Parts.{Begins, IsBegun, IsUnopened, Refuses, packets_from}
+use Rattle.cf_run.specs.Parts.{WatchBegins, IsBegun, IsUnopened, Refuses, packets_from}
 use Rattle.cf_run.specs.Refusals.{ending_status, status_of}
 use Rattle.cf_run.specs.Watched.{IsOpened, begun_for}
 use Rattle.cf_run.specs.declared.status.Status.{Status}
@@ -77,27 +77,27 @@ left_on None mid now left p q = tt
 left_on (Some files) mid now left p q = q ∙ p
 
 module _ (told : Option (List File)) (call : WatchCall) (before : Option (List ℕ)) where
-  pub watch_unset : (now : Option (List ℕ)) (halt : Halt) → Halts setups told call.setup before now halt → Begins told call before now (Err halt)
+  pub watch_unset : (now : Option (List ℕ)) (halt : Halt) → Halts setups told call.setup before now halt → WatchBegins told call before now (Err halt)
   watch_unset now (Refused why) halts = record { work = refused why; comes = halted why halts refl; gives = (refl, refl, refl) }
   watch_unset now (Stopped stop) halts = inl halts
 
   module _ (setup : SetupValue) (mid : Option (List ℕ)) (set : IsReadAs setups told call.setup mid setup) where
     -- the setup calls for a refusal
     refused_so : (now : Option (List ℕ)) (why : Refusal) → WatchFrom told call now setup setup.source (refused why)
-        → Begins told call before now (Err (Refused why))
+        → WatchBegins told call before now (Err (Refused why))
     refused_so now why next = record { work = refused why; comes = whole setup set.0 next; gives = (refl, refl, refl) }
 
     other_from : (source : Source) → setup.source ≡ source → (halt : Halt)
-        → ◌≡◌ {A = Result PacketSchema Halt} (Err halt) (packets_from source setup.schema_line) → Begins told call before mid (Err halt)
+        → ◌≡◌ {A = Result PacketSchema Halt} (Err halt) (packets_from source setup.schema_line) → WatchBegins told call before mid (Err halt)
     other_from Records kind halt is =
         let same : Refused (refusals.Setup setup.schema_line 4) ≡ halt = cc is in
-        subst (λ (h : Halt). Begins told call before mid (Err h)) same
+        subst (λ (h : Halt). WatchBegins told call before mid (Err h)) same
         (refused_so mid (refusals.Setup setup.schema_line 4)
         (subst (λ (source : Source). WatchFrom told call mid setup source (refused (refusals.Setup setup.schema_line 4))) (sym kind) (refl, set.1)))
     other_from (Packets schema) kind halt is = absurd (cc is)
 
     pub watch_other : (halt : Halt) → ◌≡◌ {A = Result PacketSchema Halt} (Err halt) (packets_from setup.source setup.schema_line)
-        → Begins told call before mid (Err halt)
+        → WatchBegins told call before mid (Err halt)
     watch_other halt is = other_from setup.source refl halt is
 
     schema_from : (source : Source) (schema : PacketSchema) → ◌≡◌ {A = Result PacketSchema Halt} (Ok schema) (packets_from source setup.schema_line)
@@ -110,9 +110,9 @@ module _ (told : Option (List File)) (call : WatchCall) (before : Option (List �
     watch_kind schema is = schema_from setup.source schema is
 
     module _ (schema : PacketSchema) (kind : setup.source ≡ Packets schema) where
-      pub watch_unopened : (now : Option (List ℕ)) (halt : Halt) → IsUnopened told call.capture mid now halt → Begins told call before now (Err halt)
+      pub watch_unopened : (now : Option (List ℕ)) (halt : Halt) → IsUnopened told call.capture mid now halt → WatchBegins told call before now (Err halt)
       watch_unopened now (Refused why) unopened =
-          subst (λ (w : Refusal). Begins told call before now (Err (Refused w))) (sym unopened.2)
+          subst (λ (w : Refusal). WatchBegins told call before now (Err (Refused w))) (sym unopened.2)
           (refused_so now refusals.NoFile
           (subst (λ (source : Source). WatchFrom told call now setup source (refused refusals.NoFile)) (sym kind)
           (inl (unopened.0, (refl, left_on told mid now (Some []) set.1 unopened.1)))))

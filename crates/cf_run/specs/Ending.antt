@@ -14,7 +14,7 @@ use Rattle.cf_run.specs.declared.status.Status.TheVariants.{Done, Words, WriteFa
 
 -- The number is that of a status to which a run of this call came, with some seals: what `run` says of the status and the seals of its
 -- outcome holds of them.
-pub record HasEnded (told : Option (List File)) (call : Option Call) (held now before after : Option (List ℕ)) (number : ℕ) : Type 0 where
+pub record HasExited (told : Option (List File)) (call : Option Call) (held now before after : Option (List ℕ)) (number : ℕ) : Type 0 where
   pub status : Status
   pub seals : List SealValue
   pub number_is : number ≡ number_of status

@@ -58,8 +58,8 @@ pub record IsTagged (setup : SetupValue) (capacity writers nodes rounds : ℕ) (
   pub closed : IsClosed setup capacity writers nodes rounds rows entries seals answered
 
 -- the paths of the rows of each segment need no more different nodes than all writers have in it
-abbrev pub HasNodes : SetupValue → LogSizes → List RowValue → Type 0
-HasNodes setup sizes rows = NeedsAtMost (shape_for setup sizes) (sizes.writers * sizes.nodes) rows
+abbrev pub NodesSuffice : SetupValue → LogSizes → List RowValue → Type 0
+NodesSuffice setup sizes rows = NeedsAtMost (shape_for setup sizes) (sizes.writers * sizes.nodes) rows
 
 -- why a log of rows wasn't made: the paths of those in some segment need more different nodes than a writer has in it, or memory ran out
 abbrev pub IsUnmade : ShapeValue → List RowValue → Unmade → Type 0

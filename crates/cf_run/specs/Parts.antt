@@ -21,8 +21,8 @@ use Rattle.cf_intake.specs.Refusals.{line_of}
 use Rattle.cf_intake.specs.declared.refusal.Refusal.{Refusal}
 use Rattle.cf_intake.specs.declared.refusal.Refusal.TheVariants as refusals
 use Rattle.cf_run.specs.Refusals.{status_of}
-use Rattle.cf_run.specs.declared.reply.Reply.{Reply}
-use Rattle.cf_run.specs.declared.reply.Reply.TheVariants as replies
+use Rattle.cf_run.specs.declared.reply.WorkReply.{WorkReply}
+use Rattle.cf_run.specs.declared.reply.WorkReply.TheVariants as replies
 use Rattle.cf_run.specs.declared.reply.Product.{Product}
 use Rattle.cf_intake.specs.declared.rows.Captured.{Captured}
 use Rattle.cf_intake.specs.declared.refusal.Halt.{Halt}
@@ -46,22 +46,22 @@ EndsWith told call before now (Err (Refused why)) = IsDue told call before now (
 EndsWith told call before now (Err (Stopped stop)) = StopsAt told call stop before now
 
 -- the status that a reply ends with
-abbrev pub reply_status : Reply → Status
+abbrev pub reply_status : WorkReply → Status
 reply_status (replies.Done text seals) = Done
 reply_status (replies.Refused why text) = status_of why
 
 -- the text that it writes
-abbrev pub reply_text : Reply → List ℕ
+abbrev pub reply_text : WorkReply → List ℕ
 reply_text (replies.Done text seals) = text.items
 reply_text (replies.Refused why text) = text.items
 
 -- the seals of what it tells
-abbrev pub reply_seals : Reply → List SealValue
+abbrev pub reply_seals : WorkReply → List SealValue
 reply_seals (replies.Done text seals) = seals.items
 reply_seals (replies.Refused why text) = []
 
 -- a reply is due, or the work was stopped
-abbrev pub IsPrepared : Option (List File) → Option Call → Option (List ℕ) → Option (List ℕ) → Result Reply Stop → Type 0
+abbrev pub IsPrepared : Option (List File) → Option Call → Option (List ℕ) → Option (List ℕ) → Result WorkReply Stop → Type 0
 IsPrepared told call before now (Ok reply) = IsDue told call before now (reply_status reply) (reply_text reply) (reply_seals reply)
 IsPrepared told call before now (Err stop) = StopsAt told call stop before now
 
@@ -87,10 +87,10 @@ pub record IsBegun (told : Option (List File)) (call : WatchCall) (now : Option 
   pub packets : ((watching.rounds).window).shape.schema ≡ attrs_by watching.reads.schema
 
 -- a watch has begun, or the line of its refusal is due, or it was stopped
-abbrev pub Begins : Option (List File) → WatchCall → Option (List ℕ) → Option (List ℕ) → Result Watch Halt → Type 0
-Begins told call before now (Ok watching) = IsBegun told call now watching
-Begins told call before now (Err (Refused why)) = IsDue told (Some (watch call)) before now (status_of why) (line_of why) []
-Begins told call before now (Err (Stopped stop)) = StopsAt told (Some (watch call)) stop before now
+abbrev pub WatchBegins : Option (List File) → WatchCall → Option (List ℕ) → Option (List ℕ) → Result Watch Halt → Type 0
+WatchBegins told call before now (Ok watching) = IsBegun told call now watching
+WatchBegins told call before now (Err (Refused why)) = IsDue told (Some (watch call)) before now (status_of why) (line_of why) []
+WatchBegins told call before now (Err (Stopped stop)) = StopsAt told (Some (watch call)) stop before now
 
 -- The line of a refusal was written, and the status is its own. Or the sink failed within it, or memory ran out.
 abbrev pub Refuses : Refusal → (held now : Option (List ℕ)) → Status → Type 0

@@ -6,7 +6,7 @@ ghost use Rattle.cf_segments.specs.Segments.{room_of};
 ghost use Rattle.cf_command.specs.Call.{AreSizes};
 ghost use Rattle.cf_command.specs.declared.words.LogSizes.{LogSizes};
 ghost use Rattle.cf_run.specs.Filling.{IsFilledFor, IsFilling, IsFillingFor};
-ghost use Rattle.cf_run.specs.Logs.{HasNodes, IsTagged, IsUnmade, halt_of};
+ghost use Rattle.cf_run.specs.Logs.{NodesSuffice, IsTagged, IsUnmade, halt_of};
 ghost use Rattle.cf_run.specs.Seals.{IsSealedReport, IsSealedFinal, IsSealedIn};
 ghost use Rattle.cf_run.specs.declared.log.Unmade.TheVariants as unmade;
 
@@ -105,7 +105,7 @@ fn report_in<R: Threads + Sync, G: Gate>(
     requires few { filling.count ≤ room_of filling.segments }
     ensures { (sizes : LogSizes) (rounds : ℕ) (rows : List RowValue) → AreSizes sizes → IsFilledFor setup.now sizes rounds filling rows
         → MatchResult result
-        (λ made. IsSealedIn form setup.now sizes.capacity sizes.writers sizes.nodes rounds rows made.text.items made.seals.items × HasNodes setup.now sizes rows)
+        (λ made. IsSealedIn form setup.now sizes.capacity sizes.writers sizes.nodes rounds rows made.text.items made.seals.items × NodesSuffice setup.now sizes rows)
         (IsUnmade (shaped setup.now sizes.capacity sizes.writers sizes.nodes) rows) }
 {
     let (tags, seals, answers) = closed_log(rt, filling, gate)?;
@@ -126,7 +126,7 @@ pub(crate) fn report_of<R: Threads + Sync, G: Gate>(
     requires few { filling.count ≤ room_of filling.segments }
     ensures { (sizes : LogSizes) (rounds : ℕ) (rows : List RowValue) → AreSizes sizes → IsFilledFor setup.now sizes rounds filling rows
         → MatchResult result
-        (λ made. IsSealedReport setup.now sizes.capacity sizes.writers sizes.nodes rounds rows made.text.items made.seals.items × HasNodes setup.now sizes rows)
+        (λ made. IsSealedReport setup.now sizes.capacity sizes.writers sizes.nodes rounds rows made.text.items made.seals.items × NodesSuffice setup.now sizes rows)
         (IsUnmade (shaped setup.now sizes.capacity sizes.writers sizes.nodes) rows) }
 {
     report_in(rt, alloc, setup, filling, gate, Form::Whole)
@@ -145,7 +145,7 @@ pub(crate) fn final_of<R: Threads + Sync, G: Gate>(
     requires few { filling.count ≤ room_of filling.segments }
     ensures { (sizes : LogSizes) (rows : List RowValue) → AreSizes sizes → IsFilledFor setup.now sizes 0 filling rows
         → MatchResult result
-        (λ made. IsSealedFinal setup.now sizes.capacity sizes.writers sizes.nodes rows made.text.items made.seals.items × HasNodes setup.now sizes rows)
+        (λ made. IsSealedFinal setup.now sizes.capacity sizes.writers sizes.nodes rows made.text.items made.seals.items × NodesSuffice setup.now sizes rows)
         (IsUnmade (shaped setup.now sizes.capacity sizes.writers sizes.nodes) rows) }
 {
     report_in(rt, alloc, setup, filling, gate, Form::Final)

@@ -10,7 +10,7 @@ ghost use Rattle.cf_run.specs.Work.{draws as draws_from};
 use crate::drawn::fill_drawn;
 use crate::fill::fill_rows;
 use crate::log::{final_of, opened, report_of};
-use crate::reply::{Product, Reply, refused};
+use crate::reply::{Product, WorkReply, refused};
 use crate::snapshot::{cut_text, is_some_full, load_hosts};
 use crate::truncated::with_truncated;
 use cf_command::{Command, DumpCommand, LogSizes, RunCommand, SnapshotCommand, SynthCommand};
@@ -189,7 +189,7 @@ pub(crate) fn prepare<R: Threads + Sync, F: Shelf, G: Gate>(
     command: Option<Command>,
     shelf: &mut F,
     gate: &G,
-) -> Result<Reply, Stop>
+) -> Result<WorkReply, Stop>
     requires range { IfSome command IsInRange }
     requires whole { IsNoWatch (option_map call_by command) }
     ensures files { F.files shelf.new ≡ F.files shelf.old }
@@ -198,7 +198,7 @@ pub(crate) fn prepare<R: Threads + Sync, F: Shelf, G: Gate>(
     ensures no_words { option_map call_by command.entry ≡ None → shelf.new ≡ shelf.old }
 {
     match product_of(rt, alloc, command, shelf, gate) {
-        Ok(Product { text, seals }) => Ok(Reply::Done { text, seals }),
+        Ok(Product { text, seals }) => Ok(WorkReply::Done { text, seals }),
         Err(Halt::Refused(refusal)) => refused(alloc, refusal),
         Err(Halt::Stopped(stop)) => Err(stop),
     }

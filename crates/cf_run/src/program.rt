@@ -2,9 +2,9 @@
 ghost use Rattle.std.specs.Prelude.{◌≡◌, ◌⊎◌, ◌≤◌, ℕ, List, [], None, IfOk, MatchResult, drop, map, string_bytes};
 ghost use Rattle.std.specs.Process.{exit_status};
 ghost use Rattle.std.specs.Vec.Iter.{into_iter_items};
-ghost use Rattle.cf_command.specs.Call.{call_of, texts as texts_of};
+ghost use Rattle.cf_command.specs.Call.{call_said, texts as texts_of};
 ghost use Rattle.cf_outside.specs.Causes.{Rose};
-ghost use Rattle.cf_run.specs.Ending.{EndsBy, HasEnded};
+ghost use Rattle.cf_run.specs.Ending.{EndsBy, HasExited};
 ghost use Rattle.cf_run.specs.Watched.{IsNoWatch};
 
 use crate::{Status, run};
@@ -28,15 +28,15 @@ fn run_to_code<R: Threads + Sync, F: Shelf, K: Sink, G: Gate>(
     sink: &mut K,
     gate: &G,
 ) -> ExitCode
-    ensures ended { HasEnded (F.files shelf.old) (call_of (texts_of words.now))
+    ensures ended { HasExited (F.files shelf.old) (call_said (texts_of words.now))
         (K.held sink.old) (K.held sink.new) (F.rest shelf.old) (F.rest shelf.new) (exit_status result) }
 
-    ensures no_words_no_file { call_of (texts_of words.now) ≡ None → shelf.new ≡ shelf.old }
+    ensures no_words_no_file { call_said (texts_of words.now) ≡ None → shelf.new ≡ shelf.old }
     ensures files { F.files shelf.new ≡ F.files shelf.old }
 
     // 8 is the number of `Memory`, 4 of `ReadFault` and 5 of `WriteFault`.
-    ensures no_memory_no_write { IsNoWatch (call_of (texts_of words.now)) → exit_status result ≡ 8 → sink.new ≡ sink.old }
-    ensures no_read_no_write { IsNoWatch (call_of (texts_of words.now)) → exit_status result ≡ 4 → sink.new ≡ sink.old }
+    ensures no_memory_no_write { IsNoWatch (call_said (texts_of words.now)) → exit_status result ≡ 8 → sink.new ≡ sink.old }
+    ensures no_read_no_write { IsNoWatch (call_said (texts_of words.now)) → exit_status result ≡ 4 → sink.new ≡ sink.old }
     ensures read_fault { exit_status result ≡ 4 → Rose (F.faults shelf.old) (F.faults shelf.new) }
     ensures write_fault { exit_status result ≡ 5 → Rose (K.faults sink.old) (K.faults sink.new) }
     ensures shelf_count { F.faults shelf.old ≤ F.faults shelf.new }
@@ -48,9 +48,9 @@ fn run_to_code<R: Threads + Sync, F: Shelf, K: Sink, G: Gate>(
 
 // Runs over the files of the system and standard output.
 fn run_words<R: Files + Print + Threads + Sync>(rt: &R, alloc: Global, words: &[&str]) -> ExitCode
-    ensures by_command { EndsBy (call_of (texts_of words.now)) (exit_status result) }
-    ensures words { exit_status result ≡ 1 → call_of (texts_of words.now) ≡ None }
-    ensures no_words { call_of (texts_of words.now) ≡ None
+    ensures by_command { EndsBy (call_said (texts_of words.now)) (exit_status result) }
+    ensures words { exit_status result ≡ 1 → call_said (texts_of words.now) ≡ None }
+    ensures no_words { call_said (texts_of words.now) ≡ None
         → (exit_status result ≡ 1) ⊎ (exit_status result ≡ 8) ⊎ (exit_status result ≡ 5) }
 {
     let mut shelf = FileShelf::new(rt);
@@ -97,7 +97,7 @@ fn words_unread(alloc: Global, kind: ErrorKind) -> Result<Vec<String>, Memory>
 fn run_args<R: Files + Print + Env + Threads + Sync + AllocGlobal>(
     rt: &R,
 ) -> Result<ExitCode, Memory>
-    ensures { IfOk result (λ code. (words : List (List ℕ)) × EndsBy (call_of words) (exit_status code)) }
+    ensures { IfOk result (λ code. (words : List (List ℕ)) × EndsBy (call_said words) (exit_status code)) }
 {
     let owned = match env::args(rt) {
         Ok(args) => words_after(rt.alloc(), args)?,
@@ -110,7 +110,7 @@ fn run_args<R: Files + Print + Env + Threads + Sync + AllocGlobal>(
 /// Does the work of the program, and gives the code with which it ends: that of a status to which its words can come, or that
 /// of `Status::Memory` if there is no memory for the words.
 pub fn start<R: Files + Print + Env + Threads + Sync + AllocGlobal>(rt: &R) -> ExitCode
-    ensures { ((words : List (List ℕ)) × EndsBy (call_of words) (exit_status result)) ⊎ (exit_status result ≡ 8) }
+    ensures { ((words : List (List ℕ)) × EndsBy (call_said words) (exit_status result)) ⊎ (exit_status result ≡ 8) }
 {
     match run_args(rt) {
         Ok(code) => code,

@@ -19,18 +19,18 @@ pub(crate) struct Product {
 
 /// What is written: a text, with the seals of the log that it is about, or the line of a refusal.
 #[derive(Drop)]
-pub(crate) enum Reply {
+pub(crate) enum WorkReply {
     Done { text: Vec<u8>, seals: Vec<Seal> },
     Refused { refusal: Refusal, text: Vec<u8> },
 }
 
-impl Reply {
+impl WorkReply {
     pub(crate) fn text(&self) -> &[u8]
         ensures { result.now ≡ reply_text self.now }
     {
         match self {
-            Reply::Done { text, .. } => text,
-            Reply::Refused { text, .. } => text,
+            WorkReply::Done { text, .. } => text,
+            WorkReply::Refused { text, .. } => text,
         }
     }
 
@@ -38,8 +38,8 @@ impl Reply {
         ensures { result ≡ reply_status self.now }
     {
         match self {
-            Reply::Done { .. } => Status::Done,
-            Reply::Refused { refusal, .. } => Status::from(*refusal),
+            WorkReply::Done { .. } => Status::Done,
+            WorkReply::Refused { refusal, .. } => Status::from(*refusal),
         }
     }
 
@@ -47,18 +47,18 @@ impl Reply {
         ensures { result.items ≡ reply_seals self }
     {
         match self {
-            Reply::Done { seals, .. } => seals,
-            Reply::Refused { .. } => Vec::new(alloc),
+            WorkReply::Done { seals, .. } => seals,
+            WorkReply::Refused { .. } => Vec::new(alloc),
         }
     }
 }
 
 /// The line of a refusal.
-pub(crate) fn refused(alloc: Global, refusal: Refusal) -> Result<Reply, Stop>
+pub(crate) fn refused(alloc: Global, refusal: Refusal) -> Result<WorkReply, Stop>
     ensures { MatchResult result
         (λ reply. (reply_text reply ≡ line_of refusal) × (reply_status reply ≡ status_of refusal) × (reply_seals reply ≡ []))
         (λ stop. stop ≡ stops.Memory) }
 {
     let text = refusal.line(alloc)?.into_bytes();
-    Ok(Reply::Refused { refusal, text })
+    Ok(WorkReply::Refused { refusal, text })
 }

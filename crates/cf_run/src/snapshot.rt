@@ -26,7 +26,7 @@ ghost use Rattle.cf_report.specs.Snapshot.{host_text};
 ghost use Rattle.cf_row.specs.Row.{Fits};
 ghost use Rattle.cf_setup.specs.Setups.{IsSetup};
 ghost use Rattle.cf_shape.specs.Nodes.{distinct};
-ghost use Rattle.cf_run.specs.Due.{HasRoom, IsSnapshotOf};
+ghost use Rattle.cf_run.specs.Due.{LogHasRoom, IsSnapshotOf};
 ghost use Rattle.cf_run.specs.Logs.{IsUnmadeAlone};
 ghost use Rattle.cf_intake.specs.Parts.{rows_each};
 ghost use Rattle.cf_run.specs.Parts.{AreWithin, ends_each};
@@ -134,7 +134,7 @@ fn counts_of(alloc: Global, hosts: &[Captured]) -> Result<Vec<u32>, Memory>
 }
 
 // How many rows are in a cut.
-fn total_of(cut: &[u32]) -> u32
+fn count_in_cut(cut: &[u32]) -> u32
     requires few { All (λ count. count ≤ 65536) cut.now }
     requires hosts { length cut.now ≤ 16 }
     ensures { result ≡ sum cut.now }
@@ -198,7 +198,7 @@ fn push_hosts<R: Threads + Sync, G: Gate>(
 ) -> Result<(), Memory>
     requires lawful { IsSetup log.now.setup.now }
     requires fit { All (All (Fits log.now.setup.now.schema)) (rows_each hosts.now) }
-    requires room { All (HasRoom log.now.sizes log.now.setup.now) (rows_each hosts.now) }
+    requires room { All (LogHasRoom log.now.sizes log.now.setup.now) (rows_each hosts.now) }
     requires sizes { AreSizes log.now.sizes }
     requires one { log.now.sizes.writers ≡ 1 }
     requires undivided { log.now.sizes.segments ≡ 1 }
@@ -233,7 +233,7 @@ pub(crate) fn cut_text<R: Threads + Sync, G: Gate>(
 ) -> Result<Vec<u8>, Memory>
     requires lawful { IsSetup setup.now }
     requires fit { All (All (Fits setup.now.schema)) (rows_each hosts.now) }
-    requires room { All (HasRoom command.now.sizes setup.now) (rows_each hosts.now) }
+    requires room { All (LogHasRoom command.now.sizes setup.now) (rows_each hosts.now) }
     requires command { IsSnapshotInRange command.now }
     requires size { length hosts.now ≡ length command.now.captures.items }
     ensures { IfOk result (λ text. IsSnapshotOf (snapshot_by command.now) setup.now (rows_each hosts.now) (ends_each hosts.now) text.items) }
@@ -241,7 +241,7 @@ pub(crate) fn cut_text<R: Threads + Sync, G: Gate>(
     let counts = counts_of(alloc, hosts)?;
     let cut = cut_of_turns(alloc, &counts, command.turns, command.turn)?;
     let mut text = String::new(alloc);
-    push_cut(&mut text, total_of(&cut))?;
+    push_cut(&mut text, count_in_cut(&cut))?;
     let sizes = command.sizes;
     let log = HostLog {
         alloc,

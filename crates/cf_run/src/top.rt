@@ -1,7 +1,7 @@
 // The top call.
 ghost use Rattle.std.specs.Prelude.{◌≡◌, ◌⊎◌, ◌≤◌, ℕ, List, [], Some, None, IfSome, option_map};
 ghost use Rattle.std.specs.Io.KnownBytes.{Appends};
-ghost use Rattle.cf_command.specs.Call.{IsInRange, call_by, call_of, texts};
+ghost use Rattle.cf_command.specs.Call.{IsInRange, call_by, call_said, texts};
 ghost use Rattle.cf_outside.specs.Causes.{Rose};
 ghost use Rattle.cf_run.specs.Answers.{RunAnswers, Yields, IsDecided, IsByCall};
 ghost use Rattle.cf_intake.specs.Devices.{WritesFront};
@@ -90,32 +90,32 @@ pub fn run<R: Threads + Sync, F: Shelf, K: Sink, G: Gate>(
     // What was written is what the words and the files call for, with the seals of the log that it tells of; or a front of it, after
     // all was read; or nothing, where the work was stopped; or, of a capture that was followed, what its rounds say. Where the shelf
     // tells its files, they are its files, and else there are some such files.
-    ensures written { RunAnswers (F.files shelf.old) (call_of (texts words.now)) result.status result.seals.items
+    ensures written { RunAnswers (F.files shelf.old) (call_said (texts words.now)) result.status result.seals.items
         (K.held sink.old) (K.held sink.new) (F.rest shelf.old) (F.rest shelf.new) }
 
     // Which statuses a run, a synth, a dump, a snapshot and a watch can come to, and how many seals they have, whatever the shelf tells.
-    ensures by_command { IsByCall (call_of (texts words.now)) result.status result.seals.items }
+    ensures by_command { IsByCall (call_said (texts words.now)) result.status result.seals.items }
 
     // Only work that was done has seals.
     ensures no_seals { (result.status ≡ Status.Done → ⊥) → result.seals.items ≡ [] }
 
     // What they call for comes, unless memory ran out or a device failed.
-    ensures decided { IfSome (F.files shelf.old) (λ files. IsDecided files (call_of (texts words.now)) result.status) }
-    ensures complete { IfSome (F.files shelf.old) (λ files. IsLawful (Some files) (call_of (texts words.now))
+    ensures decided { IfSome (F.files shelf.old) (λ files. IsDecided files (call_said (texts words.now)) result.status) }
+    ensures complete { IfSome (F.files shelf.old) (λ files. IsLawful (Some files) (call_said (texts words.now))
         → (result.status ≡ Status.Done) ⊎ Yields result.status) }
 
     // Words that are no command, whatever the shelf tells: no file is opened, and their line is written, or a front of it.
-    ensures words { result.status ≡ Status.Words → (call_of (texts words.now) ≡ None) × Appends (K.held sink.old) (K.held sink.new) (line_of refusals.Words) }
-    ensures no_words_front { call_of (texts words.now) ≡ None → result.status ≡ Status.WriteFault
+    ensures words { result.status ≡ Status.Words → (call_said (texts words.now) ≡ None) × Appends (K.held sink.old) (K.held sink.new) (line_of refusals.Words) }
+    ensures no_words_front { call_said (texts words.now) ≡ None → result.status ≡ Status.WriteFault
         → WritesFront (K.held sink.old) (K.held sink.new) (line_of refusals.Words) }
-    ensures no_words_no_file { call_of (texts words.now) ≡ None → shelf.new ≡ shelf.old }
+    ensures no_words_no_file { call_said (texts words.now) ≡ None → shelf.new ≡ shelf.old }
 
     // No call changes the files.
     ensures files { F.files shelf.new ≡ F.files shelf.old }
 
     // All text is made before the first write, but of a watch.
-    ensures no_memory_no_write { IsNoWatch (call_of (texts words.now)) → result.status ≡ Status.Memory → sink.new ≡ sink.old }
-    ensures no_read_no_write { IsNoWatch (call_of (texts words.now)) → result.status ≡ Status.ReadFault → sink.new ≡ sink.old }
+    ensures no_memory_no_write { IsNoWatch (call_said (texts words.now)) → result.status ≡ Status.Memory → sink.new ≡ sink.old }
+    ensures no_read_no_write { IsNoWatch (call_said (texts words.now)) → result.status ≡ Status.ReadFault → sink.new ≡ sink.old }
 
     // A device's fault comes only where its count rose, and no count falls.
     ensures read_fault { result.status ≡ Status.ReadFault → Rose (F.faults shelf.old) (F.faults shelf.new) }
@@ -142,13 +142,13 @@ pub fn run_steadily<R: Threads + Sync, G: Gate>(
     sink: &mut SteadySink,
     gate: &G,
 ) -> Outcome
-    ensures written { RunAnswers (Some shelf.old.files) (call_of (texts words.now))
+    ensures written { RunAnswers (Some shelf.old.files) (call_said (texts words.now))
         result.status result.seals.items None None (Some shelf.old.rest) (Some shelf.new.rest) }
-    ensures by_command { IsByCall (call_of (texts words.now)) result.status result.seals.items }
-    ensures words { result.status ≡ Status.Words → call_of (texts words.now) ≡ None }
+    ensures by_command { IsByCall (call_said (texts words.now)) result.status result.seals.items }
+    ensures words { result.status ≡ Status.Words → call_said (texts words.now) ≡ None }
     ensures no_seals { (result.status ≡ Status.Done → ⊥) → result.seals.items ≡ [] }
-    ensures decided { IsDecided shelf.old.files (call_of (texts words.now)) result.status }
-    ensures complete { IsLawful (Some shelf.old.files) (call_of (texts words.now)) → (result.status ≡ Status.Done) ⊎ (result.status ≡ Status.Memory) }
+    ensures decided { IsDecided shelf.old.files (call_said (texts words.now)) result.status }
+    ensures complete { IsLawful (Some shelf.old.files) (call_said (texts words.now)) → (result.status ≡ Status.Done) ⊎ (result.status ≡ Status.Memory) }
     ensures files { Some shelf.new.files ≡ Some shelf.old.files }
     ensures no_read_fault { result.status ≡ Status.ReadFault → ⊥ }
     ensures no_write_fault { result.status ≡ Status.WriteFault → ⊥ }

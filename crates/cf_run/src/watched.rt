@@ -7,7 +7,7 @@ ghost use Rattle.cf_outside.specs.Causes.{Rose};
 ghost use Rattle.cf_intake.specs.Causes.{HasHaltCause};
 ghost use Rattle.cf_run.specs.Answers.{IsByCall, IsDecided, RunAnswers, Yields};
 ghost use Rattle.cf_run.specs.Due.{IsLawful};
-ghost use Rattle.cf_run.specs.Parts.{Begins, IsUnopened, Refuses, packets_from};
+ghost use Rattle.cf_run.specs.Parts.{WatchBegins, IsUnopened, Refuses, packets_from};
 ghost use Rattle.cf_run.specs.Watched.{IsOpened};
 
 use crate::Status;
@@ -51,7 +51,7 @@ fn open_capture<F: Shelf>(shelf: &mut F, name: &str) -> Result<(), Halt>
 fn begin<F: Shelf>(alloc: Global, command: &WatchCommand, shelf: &mut F) -> Result<Watch, Halt>
     requires { AreWindowSizes command.now.sizes }
     ensures files { F.files shelf.new ≡ F.files shelf.old }
-    ensures begins { Begins (F.files shelf.old) (watch_by command.now) (F.rest shelf.old) (F.rest shelf.new) result }
+    ensures begins { WatchBegins (F.files shelf.old) (watch_by command.now) (F.rest shelf.old) (F.rest shelf.new) result }
     ensures cause { HasHaltCause (F.faults shelf.old) (F.faults shelf.new) result }
 {
     let setup = read_setup(alloc, shelf, command.setup)?;

@@ -16,7 +16,7 @@ use Rattle.cf_table.specs.Values.{PassValue, LogValue, IsOf}
 use Rattle.cf_table.specs.Moves.{SealValue}
 use Rattle.cf_segments.specs.Blocks.{block}
 use Rattle.cf_segments.specs.Loaded.{IsLogFrom, HasLoaded}
-use Rattle.cf_segments.specs.Segments.{SegmentsValue, segments_of, all_of, seen_of, entries_of, base_of, told_from, told_of, AllowsSegments, IsSegment, IsOpened, IsSegments, HoldsRows, HasTurned, HasLooked, HaveLooked, sealed}
+use Rattle.cf_segments.specs.Segments.{SegmentsValue, segments_of, all_of, seen_of, entries_of, base_of, told_from, told_of, AllowsSegments, IsSegment, IsOpened, IsSegments, HoldsRows, HasTurnedOver, HasLooked, HaveLooked, sealed}
 use Rattle.cf_segments.specs.declared.segments.Segment.{Segment}
 use Rattle.cf_segments.proofs.Alls.{all_append}
 use Rattle.cf_segments.proofs.Loaded.{opened, settled_still}
@@ -286,9 +286,9 @@ module _ (most : ℕ) (closed : List Segment) (current next : Segment) (new : Is
         | inr other ↦ holds.each k g (sym (get_push_other before next k other) ∙ at)
       ]
 
-  pub has_turned : HasTurned (segments_of most closed current) (segments_of most (closed ++ current ∷ []) next)
+  pub has_turned : HasTurnedOver (segments_of most closed current) (segments_of most (closed ++ current ∷ []) next)
   has_turned = subst
-      (λ (h : ShapeValue). HasTurned (segments_of most closed current) (record { shape = h; most = most; closed = closed ++ current ∷ []; current = next }))
+      (λ (h : ShapeValue). HasTurnedOver (segments_of most closed current) (record { shape = h; most = most; closed = closed ++ current ∷ []; current = next }))
       (sym new.is.shape_is) (record {
         same = refl;
         empty = opened_seen shape next new;

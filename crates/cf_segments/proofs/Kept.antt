@@ -8,7 +8,7 @@ use Rattle.cf_shape.specs.Lanes.{ShapeValue}
 use Rattle.cf_table.specs.Values.{PassValue, LogValue, IsOf}
 use Rattle.cf_segments.specs.Blocks.{block}
 use Rattle.cf_segments.specs.Loaded.{HasLoaded}
-use Rattle.cf_segments.specs.Segments.{SegmentsValue, segments_of, all_of, seen_of, entries_of, base_of, told_from, told_of, AllowsSegments, IsSegment, IsSegments, HoldsRows, HasTurned, IsSameSegment, AreFirst, SegmentsGoOn, KeepsSegment, KeepsAll}
+use Rattle.cf_segments.specs.Segments.{SegmentsValue, segments_of, all_of, seen_of, entries_of, base_of, told_from, told_of, AllowsSegments, IsSegment, IsSegments, HoldsRows, HasTurnedOver, IsSameSegment, AreFirst, SegmentsGoOn, KeepsSegment, KeepsAll}
 use Rattle.cf_segments.specs.declared.segments.Segment.{Segment}
 use Rattle.cf_segments.proofs.Zips.{zip_back, zip_long, zip_append}
 use Rattle.cf_query.specs.Asking.{HasAsked}
@@ -148,7 +148,7 @@ pub goes_then : (s t u : SegmentsValue) → SegmentsGoOn s t → SegmentsGoOn t 
 goes_then s t u a b = record { shape = b.shape ∙ a.shape; most = b.most ∙ a.most; first = first_then (all_of s) (all_of t) (all_of u) a.first b.first }
 
 -- a segment came behind
-pub goes_turned : (s t : SegmentsValue) → HasTurned s t → SegmentsGoOn s t
+pub goes_turned : (s t : SegmentsValue) → HasTurnedOver s t → SegmentsGoOn s t
 goes_turned s t turned = record {
   shape = ap (λ (u : SegmentsValue). u.shape) turned.same;
   most = ap (λ (u : SegmentsValue). u.most) turned.same;

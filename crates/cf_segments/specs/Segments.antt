@@ -91,7 +91,7 @@ pub record HoldsRows (s : SegmentsValue) (rows : List RowValue) : Type 0 where
   pub room : length rows ≤ base_of s + (s.shape).capacity
 
 -- The current segment is closed, and an empty one has come behind it.
-pub record HasTurned (before after : SegmentsValue) : Type 0 where
+pub record HasTurnedOver (before after : SegmentsValue) : Type 0 where
   pub same : after ≡ record before { closed = before.closed ++ before.current ∷ []; current = after.current }
   pub empty : seen_of after.current ≡ []
   pub entries : entries_of after ≡ entries_of before

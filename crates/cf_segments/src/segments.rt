@@ -4,7 +4,7 @@ ghost use Rattle.std.specs.List.{AllZip, flat_map};
 ghost use Rattle.cf_history.specs.Order.{order_of};
 ghost use Rattle.cf_shape.specs.Lanes.{ShapeValue, IsShape};
 ghost use Rattle.cf_table.specs.Values.{IsOf};
-ghost use Rattle.cf_segments.specs.Segments.{AllowsSegments, IsSegment, IsOpened, HoldsRows, HasTurned, HasLooked, HaveLooked, all_of, base_of, entries_of, room_of, seen_of, sealed, told_of};
+ghost use Rattle.cf_segments.specs.Segments.{AllowsSegments, IsSegment, IsOpened, HoldsRows, HasTurnedOver, HasLooked, HaveLooked, all_of, base_of, entries_of, room_of, seen_of, sealed, told_of};
 ghost use Rattle.cf_segments.specs.Tags.{nums_of};
 ghost use Rattle.cf_segments.specs.declared.segments.TurnFault.TheVariants.{Memory as NoMemory, Spent};
 
@@ -272,7 +272,7 @@ impl Segments {
     pub fn turn(&mut self, alloc: Global) -> Result<(), TurnFault>
         ensures spent { (result ≡ Err Spent) ↔ (length self.old.closed + 1 ≡ self.old.most) }
         ensures stays { OnErr result (self.new ≡ self.old) }
-        ensures turned { OnOk result (HasTurned self.old self.new) }
+        ensures turned { OnOk result (HasTurnedOver self.old self.new) }
     {
         if self.closed.len() + 1 == self.most as usize {
             return Err(TurnFault::Spent);
@@ -294,7 +294,7 @@ impl Segments {
     pub fn turn_to(&mut self, next: Segment)
         requires next { IsOpened self.old.shape next }
         requires room { length self.old.closed + 1 < self.old.most }
-        ensures { HasTurned self.old self.new }
+        ensures { HasTurnedOver self.old self.new }
     {
         let last = mem::replace(&mut self.current, next);
         self.closed.push_reserved(last);

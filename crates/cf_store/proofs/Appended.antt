@@ -9,7 +9,7 @@ use Rattle.cf_store.specs.declared.held.Shared.{Shared}
 use Rattle.cf_store.specs.declared.held.Writer.{Writer}
 use Rattle.cf_store.specs.declared.shown.Capture.{Capture}
 use Rattle.cf_store.specs.declared.shown.Framed.{Framed}
-use Rattle.cf_store.specs.declared.shown.PlainValue.{PlainValue}
+use Rattle.cf_store.specs.declared.shown.ShownValue.{ShownValue}
 use Rattle.cf_calls.specs.declared.refusals.AppendRefusal.{AppendRefusal}
 use Rattle.cf_calls.specs.declared.refusals.AppendRefusal.TheVariants.{Full, Nodes, Unfit, Frame, Memory}
 use Rattle.cf_store.specs.Appends.{AppendsFrame, AppendsPlain, AppendsRow, AppendsValues, IsFrame, frame_of, frame_row, numbers_row}
@@ -47,7 +47,7 @@ pub values_appended : (number : ℕ) (values : List ℕ) (m n : Writer) (row : R
     → AppendsValues number values m n r
 values_appended number values m n row r is did = of_values number values m n r (subst (λ (x : RowValue). AppendsRow x m n r) is did)
 
-of_plain : (number : ℕ) (values : List PlainValue) (m n : Writer) (r : Result ℕ AppendRefusal) → list_all is_value values ≡ true
+of_plain : (number : ℕ) (values : List ShownValue) (m n : Writer) (r : Result ℕ AppendRefusal) → list_all is_value values ≡ true
     → AppendsRow (plain_row number values) m n r → AppendsPlain number values m n r
 of_plain number values m n (Ok o) all did = (all, did)
 of_plain number values m n (Err Full) all did = (all, did)
@@ -56,7 +56,7 @@ of_plain number values m n (Err Unfit) all did = (did.0, λ also. did.1)
 of_plain number values m n (Err Frame) all did = did
 of_plain number values m n (Err Memory) all did = absurd did
 
-pub plain_appended : (number : ℕ) (values : List PlainValue) (m n : Writer) (row : RowValue) (r : Result ℕ AppendRefusal)
+pub plain_appended : (number : ℕ) (values : List ShownValue) (m n : Writer) (row : RowValue) (r : Result ℕ AppendRefusal)
     → list_all is_value values ≡ true → row ≡ plain_row number values → AppendsRow row m n r → AppendsPlain number values m n r
 plain_appended number values m n row r all is did = of_plain number values m n r all (subst (λ (x : RowValue). AppendsRow x m n r) is did)
 

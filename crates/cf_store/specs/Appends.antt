@@ -14,7 +14,7 @@ use Rattle.cf_setup.specs.Setups.{SetupValue}
 use Rattle.cf_setup.specs.declared.source.Source.{Source}
 use Rattle.cf_setup.specs.declared.source.Source.TheVariants.{Packets, Records}
 use Rattle.cf_table.specs.Values.{book_of}
-use Rattle.cf_log.specs.Chains.{GoesOn}
+use Rattle.cf_log.specs.Chains.{AreDoneUpTo}
 use Rattle.cf_log.specs.Appended.{HasAppended}
 use Rattle.cf_append.specs.declared.appends.AppendFault.{AppendFault}
 use Rattle.cf_append.specs.declared.appends.AppendFault.TheVariants as faults
@@ -22,7 +22,7 @@ use Rattle.cf_store.specs.Values.{is_value, plain_row}
 use Rattle.cf_store.specs.declared.held.Writer.{Writer}
 use Rattle.cf_store.specs.declared.shown.Capture.{Capture}
 use Rattle.cf_store.specs.declared.shown.Framed.{Framed}
-use Rattle.cf_store.specs.declared.shown.PlainValue.{PlainValue}
+use Rattle.cf_store.specs.declared.shown.ShownValue.{ShownValue}
 use Rattle.cf_store.specs.declared.shown.Room.{Room}
 use Rattle.cf_calls.specs.declared.refusals.AppendRefusal.{AppendRefusal}
 use Rattle.cf_calls.specs.declared.refusals.AppendRefusal.TheVariants.{Full, Nodes, Unfit, Frame, Memory}
@@ -106,10 +106,10 @@ AppendsFramed buffer f m n (Ok o) = StandsIn buffer f × AppendsFrame f.capture 
 
 -- The rows of the frames were appended in order, up to one that was refused, and their offsets stand at the front of the list.
 abbrev pub AppendsFrames : List ℕ → List Framed → Writer → Writer → List ℕ → List ℕ → ℕ → Option AppendRefusal → Type 0
-AppendsFrames buffer = GoesOn (λ f m n o. AppendsFramed buffer f m n (Ok o)) (λ f m n e. AppendsFramed buffer f m n (Err e))
+AppendsFrames buffer = AreDoneUpTo (λ f m n o. AppendsFramed buffer f m n (Ok o)) (λ f m n e. AppendsFramed buffer f m n (Err e))
 
 -- What appending a row of such values answers. It does not fit either if one of them states none. Before that there may be no memory for it.
-abbrev pub AppendsPlain : ℕ → List PlainValue → Writer → Writer → Result ℕ AppendRefusal → Type 0
+abbrev pub AppendsPlain : ℕ → List ShownValue → Writer → Writer → Result ℕ AppendRefusal → Type 0
 AppendsPlain number values m n (Err Memory) = n ≡ m
 AppendsPlain number values m n (Err Frame) = ⊥
 AppendsPlain number values m n (Err Full) = (list_all is_value values ≡ true) × AppendsRow (plain_row number values) m n (Err Full)
@@ -128,7 +128,7 @@ AppendsValues number values m n (Err Unfit) = AppendsRow (numbers_row number val
 AppendsValues number values m n (Ok o) = AppendsRow (numbers_row number values) m n (Ok o)
 
 -- the places of the writer's log, how many of its records the writer has seen, and how many nodes it has left
-pub record HasRoom (writer : Writer) (room : Room) : Type 0 where
+pub record IsRoomOf (writer : Writer) (room : Room) : Type 0 where
   pub capacity : room.capacity ≡ (arc_value writer.of).log.shape.capacity
   pub covered : room.covered ≡ length (writer.pass.view).seen
   pub nodes : room.nodes_left + length (book_of writer.pass.view).used ≡ (arc_value writer.of).log.shape.nodes

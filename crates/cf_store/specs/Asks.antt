@@ -23,7 +23,7 @@ use Rattle.cf_store.specs.declared.held.Shared.{Shared}
 use Rattle.cf_store.specs.declared.held.Reader.{Reader}
 use Rattle.cf_store.specs.Values.{ShowsRow}
 use Rattle.cf_store.specs.declared.shown.Head.{Head}
-use Rattle.cf_store.specs.declared.shown.PlainValue.{PlainValue}
+use Rattle.cf_store.specs.declared.shown.ShownValue.{ShownValue}
 use Rattle.cf_store.specs.declared.shown.Shown.{Shown}
 use Rattle.cf_calls.specs.declared.refusals.AskRefusal.{AskRefusal}
 use Rattle.cf_calls.specs.declared.refusals.AskRefusal.TheVariants.{NoQuestion, Memory}
@@ -62,10 +62,10 @@ pub record IsAnswer (shared : Shared) (question : ℕ) (m n : PassValue) (answer
 
 -- What asking a question of the setup by a pass of the log answers. If there is no such question, nothing is asked. If there is no memory,
 -- the pass has asked all the same.
-abbrev pub Answers : Shared → ℕ → PassValue → PassValue → Result Answer AskRefusal → Type 0
-Answers shared question m n (Ok answer) = IsAnswer shared question m n answer
-Answers shared question m n (Err NoQuestion) = (n ≡ m) × (slice_get shared.setup.asks question ≡ None)
-Answers shared question m n (Err Memory) = HasAsked shared.log.shape m n
+abbrev pub AnswersQuestion : Shared → ℕ → PassValue → PassValue → Result Answer AskRefusal → Type 0
+AnswersQuestion shared question m n (Ok answer) = IsAnswer shared question m n answer
+AnswersQuestion shared question m n (Err NoQuestion) = (n ≡ m) × (slice_get shared.setup.asks question ≡ None)
+AnswersQuestion shared question m n (Err Memory) = HasAsked shared.log.shape m n
 
 -- the text with one line more
 abbrev pub with_line : List ℕ → List ℕ → List ℕ
@@ -136,7 +136,7 @@ Keeps Asked m n (Err refusal) = (n.of ≡ m.of) × (n.words.items ≡ m.words.it
 
 -- a question of the setup, at the tail
 abbrev pub AsksAt : ℕ → Reader → Reader → Result Head AskRefusal → Type 0
-AsksAt question m n r = Keeps (Answers (arc_value m.of) question) m n r
+AsksAt question m n r = Keeps (AnswersQuestion (arc_value m.of) question) m n r
 
 -- the question that a line says, at the tail
 abbrev pub AsksLine : List ℕ → Reader → Reader → Result Head LineRefusal → Type 0
@@ -196,7 +196,7 @@ ReadsRow offset m n (Err rows.NoRow) = (n ≡ m) × (length (m.pass.view).seen �
 ReadsRow offset m n (Err rows.Memory) = (n.of ≡ m.of) × (n.words.items ≡ m.words.items) × OnlyLooked m.pass n.pass
 
 -- What showing the row at an offset answers. Refused, nothing is shown.
-abbrev pub ShowsRowAt : ℕ → Reader → Reader → List PlainValue → List PlainValue → Result Shown RowRefusal → Type 0
+abbrev pub ShowsRowAt : ℕ → Reader → Reader → List ShownValue → List ShownValue → Result Shown RowRefusal → Type 0
 ShowsRowAt offset m n before after (Ok shown) =
     (row : RowValue) × ReadsRow offset m n (Ok row) × (shown.number ≡ row.num) × ShowsRow row before after shown.count
 ShowsRowAt offset m n before after (Err refusal) = ReadsRow offset m n (Err refusal) × (after ≡ before)

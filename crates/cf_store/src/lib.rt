@@ -18,4 +18,4 @@ pub use cf_calls::{
 pub use held::{Log, Reader, Writer};
 pub use log::measure;
 pub use merges::merge;
-pub use shown::{Capture, Fault, Framed, Head, PlainValue, Room, Shown, Sizes};
+pub use shown::{Capture, Fault, Framed, Head, Room, Shown, ShownValue, Sizes};

@@ -150,20 +150,20 @@ impl Log {
     }
 
     // Takes the writer of a place whose pass is at home. Without memory the pass stays at home.
-    fn take_at(&mut self, alloc: Global, k: usize) -> Option<Box<Writer>>
-        requires { IsHomeAt self.old.places.items k }
-        ensures { TakesAt k self.old self.new (option_map box_value result) }
+    fn take_at(&mut self, alloc: Global, place: usize) -> Option<Box<Writer>>
+        requires { IsHomeAt self.old.places.items place }
+        ensures { TakesAt place self.old self.new (option_map box_value result) }
     {
         let Ok(of) = Arc::try_clone(&self.of) else {
             return None;
         };
-        let Some((pass, way)) = self.places[k].take(alloc) else {
+        let Some((pass, way)) = self.places[place].take(alloc) else {
             return None;
         };
         match Box::new(alloc, Writer { of, pass, way }) {
             Ok(writer) => Some(writer),
             Err(refused) => {
-                self.places[k].put(refused.value.into_pass());
+                self.places[place].put(refused.value.into_pass());
                 None
             }
         }

@@ -25,13 +25,13 @@ fn is_quad(count: u64, sum: u64, least: u64, greatest: u64) -> bool
         && greatest <= 0xffff_ffff
 }
 
-// The group that the five words at place k are, if they are one.
-fn group_at(words: &[u64], k: usize) -> Option<Group>
-    requires { 5 * k + 5 ≤ length words.now }
-    ensures some { IfSome result (λ group. IsToldQuad (quad_at words.now k) × (pair_of group ≡ group_at_of words.now k)) }
-    ensures none { IfNone result (IsToldQuad (quad_at words.now k) → ⊥) }
+// The group that the five words at a place are, if they are one.
+fn group_at(words: &[u64], place: usize) -> Option<Group>
+    requires { 5 * place + 5 ≤ length words.now }
+    ensures some { IfSome result (λ group. IsToldQuad (quad_at words.now place) × (pair_of group ≡ group_at_of words.now place)) }
+    ensures none { IfNone result (IsToldQuad (quad_at words.now place) → ⊥) }
 {
-    let at = 5 * k;
+    let at = 5 * place;
     let (count, sum) = (words[at + 1], words[at + 2]);
     let (least, greatest) = (words[at + 3], words[at + 4]);
     if !is_quad(count, sum, least, greatest) {

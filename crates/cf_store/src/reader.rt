@@ -5,11 +5,11 @@ ghost use Rattle.std.specs.Arc.{arc_value};
 ghost use Rattle.cf_plain.specs.Groups.{pair_of};
 ghost use Rattle.cf_table.specs.Moves.{IsReading};
 ghost use Rattle.cf_calls.specs.declared.refusals.AskRefusal.TheVariants.{Memory};
-ghost use Rattle.cf_store.specs.Asks.{Answers, AnswersSeen, AsksAt, AsksSeen, AsksTail, FindsGroups, IsMeasured, IsTold, ReadsRow, ShowsRowAt, TellsGroups, groups_words, mark_words as mark_words_of, body_words as body_words_of, body_kind as body_kind_of};
+ghost use Rattle.cf_store.specs.Asks.{AnswersQuestion, AnswersSeen, AsksAt, AsksSeen, AsksTail, FindsGroups, IsMeasured, IsTold, ReadsRow, ShowsRowAt, TellsGroups, groups_words, mark_words as mark_words_of, body_words as body_words_of, body_kind as body_kind_of};
 ghost use Rattle.cf_store.specs.Reports.{Reports};
 
 use crate::held::{Reader, Shared};
-use crate::shown::{Head, PlainValue, Shown};
+use crate::shown::{Head, Shown, ShownValue};
 use crate::values::show_row;
 use cf_calls::{AskRefusal, LaneRefusal, RowRefusal};
 use cf_fold::Quad;
@@ -93,7 +93,7 @@ fn ask_of(
     number: u32,
 ) -> Result<Answer, AskRefusal>
     requires { IsReading shared.now.log pass.old }
-    ensures answers { Answers shared.now number pass.old pass.new result }
+    ensures answers { AnswersQuestion shared.now number pass.old pass.new result }
     ensures aware { IsReading shared.now.log pass.new }
 {
     let Some(question) = shared.setup.asks().get(number as usize) else {
@@ -229,7 +229,7 @@ impl Reader {
         &mut self,
         alloc: Global,
         offset: u32,
-        out: &mut [PlainValue],
+        out: &mut [ShownValue],
     ) -> Result<Shown, RowRefusal>
         ensures { ShowsRowAt offset self.old self.new out.old out.new result }
     {

@@ -71,7 +71,7 @@ pub struct Framed {
 /// The value of an attribute.
 #[repr(C)]
 #[derive(Clone, Copy)]
-pub struct PlainValue {
+pub struct ShownValue {
     /// The number; 0 of a string.
     pub number: u64,
     /// 0 for a number, 1 for a string of bytes.

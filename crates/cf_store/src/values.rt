@@ -4,26 +4,26 @@ ghost use Rattle.std.specs.List.{list_all};
 ghost use Rattle.cf_row.specs.Row.{Fits};
 ghost use Rattle.cf_store.specs.Values.{ShowsRow, plain_row, is_value as is_value_of, plain_of as plain_of_value, value_of as value_of_plain};
 
-use crate::shown::PlainValue;
+use crate::shown::ShownValue;
 use cf_row::{Memory, Row, Schema, Value};
 use std::alloc::Global;
 
 // Whether it states a value.
-fn is_value(value: &PlainValue) -> bool
+fn is_value(value: &ShownValue) -> bool
     ensures { result ≡ is_value_of value.now }
 {
     value.kind == 0 || value.kind == 1 && value.length <= 16
 }
 
 // Whether each of them states a value.
-pub(crate) fn are_values(values: &[PlainValue]) -> bool
+pub(crate) fn are_values(values: &[ShownValue]) -> bool
     ensures { result ≡ list_all is_value_of values.now }
 {
     values.iter().all(|value| is_value(value))
 }
 
 // The value that it states.
-fn value_of(value: &PlainValue) -> Value
+fn value_of(value: &ShownValue) -> Value
     requires { is_value_of value.now ≡ true }
     ensures { result ≡ value_of_plain value.now }
 {
@@ -40,7 +40,7 @@ fn value_of(value: &PlainValue) -> Value
 pub(crate) fn row_of_values(
     alloc: Global,
     number: u32,
-    values: &[PlainValue],
+    values: &[ShownValue],
 ) -> Result<Row, Memory>
     requires { list_all is_value_of values.now ≡ true }
     ensures { IfOk result (λ row. row ≡ plain_row number values.now) }
@@ -53,17 +53,17 @@ pub(crate) fn row_of_values(
 }
 
 // The value, laid out so.
-fn plain_of(value: Value) -> PlainValue
+fn plain_of(value: Value) -> ShownValue
     ensures { result ≡ plain_of_value value }
 {
     match value {
-        Value::Num(number) => PlainValue {
+        Value::Num(number) => ShownValue {
             number,
             kind: 0,
             length: 0,
             bytes: [0; 16],
         },
-        Value::Raw { len, bytes } => PlainValue {
+        Value::Raw { len, bytes } => ShownValue {
             number: 0,
             kind: 1,
             length: u32::from(len),
@@ -73,7 +73,7 @@ fn plain_of(value: Value) -> PlainValue
 }
 
 // Shows the values of the row, as far as there is room. Answers how many it has.
-pub(crate) fn show_row(schema: &Schema, row: &Row, out: &mut [PlainValue]) -> usize
+pub(crate) fn show_row(schema: &Schema, row: &Row, out: &mut [ShownValue]) -> usize
     requires { Fits schema.now row.now }
     ensures { ShowsRow row.now out.old out.new result }
 {

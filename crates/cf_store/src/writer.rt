@@ -5,10 +5,10 @@ ghost use Rattle.cf_row.specs.Row.{Fits};
 ghost use Rattle.cf_table.specs.Values.{book_of};
 ghost use Rattle.cf_append.specs.Paths.{Remembers};
 ghost use Rattle.cf_log.specs.Appended.{HasAppended};
-ghost use Rattle.cf_store.specs.Appends.{AppendsFrame, AppendsFramed, AppendsFrames, AppendsPlain, AppendsRow, AppendsValues, HasRoom, IsFrame, StandsIn, numbers_row, frame_of, frame_row, reads_link, bytes_in as bytes_in_of};
+ghost use Rattle.cf_store.specs.Appends.{AppendsFrame, AppendsFramed, AppendsFrames, AppendsPlain, AppendsRow, AppendsValues, IsRoomOf, IsFrame, StandsIn, numbers_row, frame_of, frame_row, reads_link, bytes_in as bytes_in_of};
 
 use crate::held::Writer;
-use crate::shown::{Capture, Framed, PlainValue, Room};
+use crate::shown::{Capture, Framed, Room, ShownValue};
 use crate::values::{are_values, row_of_values};
 use cf_calls::AppendRefusal;
 use cf_headers::{packet_row, packet6_row};
@@ -235,7 +235,7 @@ impl Writer {
         &mut self,
         alloc: Global,
         number: u32,
-        values: &[PlainValue],
+        values: &[ShownValue],
     ) -> Result<u32, AppendRefusal>
         ensures { AppendsPlain number values.now self.old self.new result }
     {
@@ -265,7 +265,7 @@ impl Writer {
 
     /// What the log has room for, how much of it the writer has seen, and how many nodes the writer has left.
     pub fn room(&self) -> Room
-        ensures { HasRoom self.now result }
+        ensures { IsRoomOf self.now result }
     {
         let shape = self.of.log.shape();
         let nodes_left = match self.pass.free_node() {

@@ -10,7 +10,7 @@ use Rattle.cf_shape.specs.Lanes.{ShapeValue, IsShape, selected_by, key_of}
 use Rattle.cf_shape.specs.Nodes.{Node, levels_of, path_of, nodes_in, nodes_for, add_node, distinct}
 use Rattle.cf_segments.proofs.Nodes.{fold_apart, fold_from, nothing_apart}
 use Rattle.cf_segments.proofs.Pigeons.{no_more}
-use Rattle.cf_window.specs.Segments.{SegmentValue, with_row}
+use Rattle.cf_window.specs.Segments.{WindowSegmentValue, with_row}
 use Rattle.cf_window.specs.Held.{IsOfShape, IsOpenLast, IsWindow}
 use Rattle.cf_window.specs.Windows.{takes}
 
@@ -73,12 +73,12 @@ counted_out shape row lane is =
     ∙ (let e : counted shape row lane + 0 ≡ counted shape row lane = omega arith in e)))
 
 -- one segment more
-all_one : (P : SegmentValue → Type 0) (x : SegmentValue) → P x → All P (x ∷ [])
+all_one : (P : WindowSegmentValue → Type 0) (x : WindowSegmentValue) → P x → All P (x ∷ [])
 all_one P x is zero d lt = is
 all_one P x is (suc i) d lt = absurd (omega (arith, lt))
 
-pub window_more : (shape : ShapeValue) (most : ℕ) (xs : List SegmentValue) (x : SegmentValue) → IsWindow shape most xs → x.shape ≡ shape → length xs < most
-    → IsWindow shape most (xs ++ x ∷ [])
+pub window_more : (shape : ShapeValue) (most : ℕ) (xs : List WindowSegmentValue) (x : WindowSegmentValue) → IsWindow shape most xs → x.shape ≡ shape
+    → length xs < most → IsWindow shape most (xs ++ x ∷ [])
 window_more shape most xs x is same low = record {
   one = is.one;
   shapes = All-append (IsOfShape shape) xs (x ∷ []) is.shapes (all_one (IsOfShape shape) x same);
@@ -87,16 +87,16 @@ window_more shape most xs x is same low = record {
   some = is.some;
 }
 
-pub open_last : (xs : List SegmentValue) (x : SegmentValue) → x.is_spent ≡ false → IsOpenLast (xs ++ x ∷ [])
+pub open_last : (xs : List WindowSegmentValue) (x : WindowSegmentValue) → x.is_spent ≡ false → IsOpenLast (xs ++ x ∷ [])
 open_last xs x is y at =
     let long = length-append xs (x ∷ []) in
     let last : length (xs ++ x ∷ []) - 1 ≡ length xs = omega (arith, long) in
     let e : Some x ≡ Some y = sym (get_push_same xs x) ∙ (ap (λ (k : ℕ). slice_get (xs ++ x ∷ []) k) (sym last) ∙ at) in
     let same : x ≡ y = cc e in
-    subst (λ (z : SegmentValue). z.is_spent ≡ false) same is
+    subst (λ (z : WindowSegmentValue). z.is_spent ≡ false) same is
 
 -- the last segment was asked to take a row
-pub window_taken : (shape : ShapeValue) (most : ℕ) (xs ys : List SegmentValue) → IsWindow shape most xs
+pub window_taken : (shape : ShapeValue) (most : ℕ) (xs ys : List WindowSegmentValue) → IsWindow shape most xs
     → ((s : ShapeValue) → All (IsOfShape s) xs → All (IsOfShape s) ys) → length ys ≡ length xs → IsWindow shape most ys
 window_taken shape most xs ys is shapes same =
     record { one = is.one; shapes = shapes shape is.shapes; few = (let few = is.few in omega (arith, few, same)); bounded = is.bounded; some = is.some }
@@ -105,21 +105,21 @@ pub taken_from : (b : Bool) → not b ≡ false → b ≡ true
 taken_from true e = refl
 taken_from false e = absurd (cc e)
 
-pub opened_window : (shape : ShapeValue) (most : ℕ) (xs ys : List SegmentValue) (x : SegmentValue) → IsWindow shape most xs → ys ≡ xs ++ x ∷ []
+pub opened_window : (shape : ShapeValue) (most : ℕ) (xs ys : List WindowSegmentValue) (x : WindowSegmentValue) → IsWindow shape most xs → ys ≡ xs ++ x ∷ []
     → x.shape ≡ shape → x.is_spent ≡ false → length xs < most → IsWindow shape most ys × IsOpenLast ys
 opened_window shape most xs ys x is are same fresh low = (
-  subst (λ (zs : List SegmentValue). IsWindow shape most zs) (sym are) (window_more shape most xs x is same low),
-  subst (λ (zs : List SegmentValue). IsOpenLast zs) (sym are) (open_last xs x fresh),
+  subst (λ (zs : List WindowSegmentValue). IsWindow shape most zs) (sym are) (window_more shape most xs x is same low),
+  subst (λ (zs : List WindowSegmentValue). IsOpenLast zs) (sym are) (open_last xs x fresh),
 )
 
-abbrev pub after_take : SegmentValue → RowValue → Bool → SegmentValue
+abbrev pub after_take : WindowSegmentValue → RowValue → Bool → WindowSegmentValue
 after_take x row b = record { shape = x.shape; rows = with_row x.rows row b; is_spent = not b }
 
 -- a new segment took a row that does not need too many nodes
-pub new_takes : (shape : ShapeValue) (row : RowValue) (x y : SegmentValue) (b : Bool) → IsShape shape → length (nodes_for shape row) ≤ shape.nodes
+pub new_takes : (shape : ShapeValue) (row : RowValue) (x y : WindowSegmentValue) (b : Bool) → IsShape shape → length (nodes_for shape row) ≤ shape.nodes
     → x ≡ record { shape = shape; rows = []; is_spent = false } → b ≡ takes x.shape x.rows row
     → y ≡ record { shape = x.shape; rows = with_row x.rows row b; is_spent = not b }
     → y ≡ record { shape = shape; rows = row ∷ []; is_spent = false }
 new_takes shape row x y b is low empty taken after =
-    let sure : b ≡ true = taken ∙ (ap (λ (z : SegmentValue). takes z.shape z.rows row) empty ∙ small_goes shape row is low) in
-    after ∙ ap₂ (λ (z : SegmentValue) (c : Bool). after_take z row c) empty sure
+    let sure : b ≡ true = taken ∙ (ap (λ (z : WindowSegmentValue). takes z.shape z.rows row) empty ∙ small_goes shape row is low) in
+    after ∙ ap₂ (λ (z : WindowSegmentValue) (c : Bool). after_take z row c) empty sure

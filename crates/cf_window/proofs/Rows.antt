@@ -7,7 +7,7 @@ use Rattle.std.proofs.lemmas.List.Concat.{flat_map-append}
 use Rattle.cf_row.specs.Row.{RowValue}
 use Rattle.cf_row.proofs.Bytes.{both}
 use Rattle.cf_shape.specs.Lanes.{ShapeValue}
-use Rattle.cf_window.specs.Segments.{SegmentValue}
+use Rattle.cf_window.specs.Segments.{WindowSegmentValue}
 use Rattle.cf_window.specs.Held.{rows_each, with_taken}
 use Rattle.cf_window.specs.Windows.{after_row, drops, goes_in, last_of, rows_in_all, takes, with_last}
 use Rattle.cf_window.proofs.Dropping.{after_by, out_of}
@@ -101,14 +101,14 @@ few_after shape most xs row some few = elim (cases_Bool (goes_in shape xs row)) 
         omega (arith, all, long, low)
 
 -- The same of a window's segments.
-pub count_in : (shape : ShapeValue) (xs ys : List SegmentValue) (row : RowValue) (b : Bool) → b ≡ true → b ≡ goes_in shape (rows_each xs) row
+pub count_in : (shape : ShapeValue) (xs ys : List WindowSegmentValue) (row : RowValue) (b : Bool) → b ≡ true → b ≡ goes_in shape (rows_each xs) row
     → rows_each ys ≡ with_taken (rows_each xs) row b → length (rows_in_all (rows_each ys)) ≡ length (rows_in_all (rows_each xs)) + 1
 count_in shape xs ys row b is goes are =
     let all = are ∙ ap (λ (c : Bool). with_taken (rows_each xs) row c) is in
     let rows = ap rows_in_all all ∙ rows_with_last (rows_each xs) row (some_in shape (rows_each xs) row (sym goes ∙ is)) in
     ap (λ (rs : List RowValue). length rs) rows ∙ length-append (rows_in_all (rows_each xs)) (row ∷ [])
 
-pub count_out : (xs ys : List SegmentValue) (row : RowValue) (b : Bool) → b ≡ false → rows_each ys ≡ with_taken (rows_each xs) row b
+pub count_out : (xs ys : List WindowSegmentValue) (row : RowValue) (b : Bool) → b ≡ false → rows_each ys ≡ with_taken (rows_each xs) row b
     → length (rows_in_all (rows_each ys)) ≡ length (rows_in_all (rows_each xs))
 count_out xs ys row b is are =
     ap (λ (rs : List (List RowValue)). length (rows_in_all rs)) (are ∙ ap (λ (c : Bool). with_taken (rows_each xs) row c) is)

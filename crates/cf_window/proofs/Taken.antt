@@ -32,7 +32,7 @@ use Rattle.cf_plain.specs.declared.ask.Ask.{Ask}
 use Rattle.cf_plain.specs.declared.finding.Finding.{Finding}
 use Rattle.cf_query.specs.Asking.{HasAsked}
 use Rattle.cf_snapshot.proofs.Hosting.{alone_still, seen_still}
-use Rattle.cf_window.specs.Segments.{SegmentValue, IsSegment, with_row}
+use Rattle.cf_window.specs.Segments.{WindowSegmentValue, IsWindowSegment, with_row}
 use Rattle.cf_window.specs.Windows.{takes}
 
 -- the one book of a pass at rest
@@ -77,7 +77,7 @@ no_right a b e = elim (cases_Bool a) [
   | inr f ↦ ap (λ (x : Bool). x && b) f
 ]
 
-module _ (log : LogValue) (row : RowValue) (m n o : PassValue) (is : IsShape log.shape) (before : IsSegment log m false) (now : IsAlone log o)
+module _ (log : LogValue) (row : RowValue) (m n o : PassValue) (is : IsShape log.shape) (before : IsWindowSegment log m false) (now : IsAlone log o)
     (books : (o.view).books ≡ (n.view).books) (paths : HasPaths log.shape o.view) (bounds : IsBounded (layout log.shape) o.view) where
   abbrev old : List RowValue
   old = rows_in (m.view).seen
@@ -149,7 +149,7 @@ module _ (log : LogValue) (row : RowValue) (m n o : PassValue) (is : IsShape log
 
 -- The segment after it, the answer and the rows.
 pub taken_all : (log : LogValue) (row : RowValue) (before : List Entry) (o : PassValue) (r : Result ℕ AppendFault) → IsAlone log o
-    → HasTaken log.shape row before o.view r → IsSegment log o (not (is_ok r))
+    → HasTaken log.shape row before o.view r → IsWindowSegment log o (not (is_ok r))
 taken_all log row before o (Ok at) alone has = record { alone = alone; nodes = λ e. has.2 }
 taken_all log row before o (Err fault) alone has = record { alone = alone; nodes = λ e. absurd (cc e) }
 
@@ -164,7 +164,7 @@ taken_rows shape row before o (Ok at) has = has.1
 taken_rows shape row before o (Err fault) has = has.1
 
 -- A question was asked.
-pub still : (log : LogValue) (m n : PassValue) (is_spent : Bool) → IsSegment log m is_spent → HasAsked log.shape m n → IsSegment log n is_spent
+pub still : (log : LogValue) (m n : PassValue) (is_spent : Bool) → IsWindowSegment log m is_spent → HasAsked log.shape m n → IsWindowSegment log n is_spent
 still log m n is_spent before asked = record {
   alone = alone_still log m n before.alone asked;
   nodes = λ e. (let has = before.nodes e in let seen : (m.view).seen ≡ (n.view).seen = sym (seen_still log m n before.alone asked) in
@@ -196,7 +196,7 @@ found_by log question m n (Ok a) ok same =
 found_by log question m n (Err e) ok same = tt
 
 -- An empty log was opened.
-pub empty_segment : (log : LogValue) (h : PassValue) → IsAlone log h → (h.view).seen ≡ [] → (book_of h.view).used ≡ [] → IsSegment log h false
+pub empty_segment : (log : LogValue) (h : PassValue) → IsAlone log h → (h.view).seen ≡ [] → (book_of h.view).used ≡ [] → IsWindowSegment log h false
 empty_segment log h alone none unused = record {
   alone = alone;
   nodes = λ e. record {
@@ -208,7 +208,7 @@ empty_segment log h alone none unused = record {
   };
 }
 
-abbrev pub value_of : ShapeValue → List Entry → SegmentValue
+abbrev pub value_of : ShapeValue → List Entry → WindowSegmentValue
 value_of shape entries = record { shape = shape; rows = rows_in entries; is_spent = false }
 
 pub empty_value : (s shape : ShapeValue) (entries : List Entry) → s ≡ shape → entries ≡ []

@@ -2,7 +2,7 @@
 use Rattle.std.specs.Prelude.{◌≡◌, ℕ, ◌+◌, ◌*◌, ◌^◌, ◌<◌, ◌≤◌, ◌-◌, Bool, true, false, List, [], Some, slice_get, slice_index_or, length, drop, map, All}
 use Rattle.cf_row.specs.Row.{RowValue}
 use Rattle.cf_shape.specs.Lanes.{ShapeValue}
-use Rattle.cf_window.specs.Segments.{SegmentValue}
+use Rattle.cf_window.specs.Segments.{WindowSegmentValue}
 use Rattle.cf_window.specs.Windows.{after_row, drops, goes_in, is_refused, is_small, rows_in_all, with_last}
 use Rattle.cf_window.specs.declared.window.Pushed.{Pushed}
 use Rattle.cf_window.specs.declared.window.Pushed.TheVariants.{Full, Gone, NeedsDrop, NoNodes}
@@ -16,19 +16,19 @@ pub record WindowValue : Type 0 where
   pub is_spent : Bool
 
 -- the rows of each segment
-abbrev pub rows_each : List SegmentValue → List (List RowValue)
+abbrev pub rows_each : List WindowSegmentValue → List (List RowValue)
 rows_each segments = map (λ segment. segment.rows) segments
 
 -- how many rows have come, with those that were dropped
 abbrev pub count_of : WindowValue → ℕ
 count_of window = window.from + length (rows_in_all window.segments)
 
-abbrev pub IsOfShape : ShapeValue → SegmentValue → Type 0
+abbrev pub IsOfShape : ShapeValue → WindowSegmentValue → Type 0
 IsOfShape shape segment = segment.shape ≡ shape
 
 -- Each segment has the shape, which has one writer, and there are no more than there may be, which have few rows together. Only of the
 -- last one it matters whether it has refused a row.
-pub record IsWindow (shape : ShapeValue) (most : ℕ) (segments : List SegmentValue) : Type 0 where
+pub record IsWindow (shape : ShapeValue) (most : ℕ) (segments : List WindowSegmentValue) : Type 0 where
   pub one : shape.writers ≡ 1
   pub shapes : All (IsOfShape shape) segments
   pub some : 0 < most
@@ -56,8 +56,8 @@ HasPushed old row new NoNodes =
     × (new ≡ record old { is_spent = true })
 
 -- the last segment, where there is one, has refused no row
-abbrev pub IsOpenLast : List SegmentValue → Type 0
-IsOpenLast segments = (segment : SegmentValue) → slice_get segments (length segments - 1) ≡ Some segment → segment.is_spent ≡ false
+abbrev pub IsOpenLast : List WindowSegmentValue → Type 0
+IsOpenLast segments = (segment : WindowSegmentValue) → slice_get segments (length segments - 1) ≡ Some segment → segment.is_spent ≡ false
 
 -- the row behind those of the last segment, where it was taken
 abbrev pub with_taken : List (List RowValue) → RowValue → Bool → List (List RowValue)

@@ -8,18 +8,18 @@ use Rattle.cf_snapshot.specs.Hosts.{IsAlone}
 use Rattle.cf_table.specs.Values.{PassValue, LogValue}
 
 -- its shape, its rows, and whether it has refused one
-pub record SegmentValue : Type 0 where
+pub record WindowSegmentValue : Type 0 where
   pub shape : ShapeValue
   pub rows : List RowValue
   pub is_spent : Bool
 
 -- The log has one writer, whose pass has seen all that it has finished. While it has refused no row, its used nodes are those that
 -- its rows need.
-pub record IsSegment (log : LogValue) (pass : PassValue) (is_spent : Bool) : Type 0 where
+pub record IsWindowSegment (log : LogValue) (pass : PassValue) (is_spent : Bool) : Type 0 where
   pub alone : IsAlone log pass
   pub nodes : is_spent ≡ false → HasNodes log.shape (rows_in (pass.view).seen) pass.view
 
-abbrev pub segment_value : LogValue → PassValue → Bool → SegmentValue
+abbrev pub segment_value : LogValue → PassValue → Bool → WindowSegmentValue
 segment_value log pass is_spent = record { shape = log.shape; rows = rows_in (pass.view).seen; is_spent = is_spent }
 
 -- rows, and one more where it was taken

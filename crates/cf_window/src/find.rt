@@ -5,7 +5,7 @@ ghost use Rattle.cf_plain.specs.Segments.{finding_in};
 ghost use Rattle.cf_window.specs.Held.{IsOfShape, rows_each};
 ghost use Rattle.cf_window.specs.Windows.{rows_in_all};
 
-use crate::Segment;
+use crate::WindowSegment;
 use cf_plain::{Ask, Finding};
 use cf_row::Memory;
 use cf_shape::Shape;
@@ -15,7 +15,7 @@ use std::alloc::Global;
 pub(crate) fn find_in(
     alloc: Global,
     shape: &Shape,
-    segments: &mut [Segment],
+    segments: &mut [WindowSegment],
     ask: &Ask,
 ) -> Result<Finding, Memory>
     requires shapes { All (IsOfShape shape.now) segments.old }

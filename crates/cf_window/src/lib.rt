@@ -12,5 +12,5 @@ mod window;
 
 pub use laws::{none_goes_unseen, rounds_are_on_windows, windows_are_few, windows_are_of_records};
 pub use needed::nodes_needed;
-pub use segment::Segment;
+pub use segment::WindowSegment;
 pub use window::{Pushed, Window};

@@ -3,7 +3,7 @@ ghost use Rattle.std.specs.Prelude.{◌≡◌, ◌<◌, ◌≤◌, ◌++◌, ◌
 ghost use Rattle.cf_row.specs.Row.{Fits};
 ghost use Rattle.cf_plain.specs.Asks.{Suits, rows_in};
 ghost use Rattle.cf_plain.specs.Segments.{finding_in};
-ghost use Rattle.cf_window.specs.Segments.{IsSegment, with_row};
+ghost use Rattle.cf_window.specs.Segments.{IsWindowSegment, with_row};
 ghost use Rattle.cf_window.specs.Windows.{takes};
 
 use cf_append::{append, settle};
@@ -18,7 +18,7 @@ use std::sync::ledger::{Blank, Ledger};
 
 /// A log of one writer, which takes rows until one has no place in it or lacks a node.
 #[derive(Drop)]
-pub struct Segment {
+pub struct WindowSegment {
     log: MultiLog,
     // its one book is dealt to the pass
     _root: Root,
@@ -26,22 +26,22 @@ pub struct Segment {
     is_spent: bool,
 }
 
-impl Model for Segment {
-    ghost use Rattle.cf_window.specs.Segments.{SegmentValue, IsSegment, segment_value};
+impl Model for WindowSegment {
+    ghost use Rattle.cf_window.specs.Segments.{WindowSegmentValue, IsWindowSegment, segment_value};
 
-    ghost Value = { SegmentValue };
+    ghost Value = { WindowSegmentValue };
 
     ghost view = { λ s. segment_value s.log s.pass s.is_spent };
 
-    ghost invariant = { λ s. IsSegment s.log s.pass s.is_spent };
+    ghost invariant = { λ s. IsWindowSegment s.log s.pass s.is_spent };
 }
 
 // Appends the row, where it has a place and lacks no node, and moves the read tail on.
 fn take_counted<L: Ledger>(log: &MultiLog, pass: &mut WriterPass, row: &Row, blank: Blank) -> bool
-    requires segment { IsSegment log.now pass.old false }
+    requires segment { IsWindowSegment log.now pass.old false }
     requires fits { Fits log.now.shape.schema row.now }
     requires blank { (blank.name ≡ L.name) × (blank.parts ≡ L.parts) × (0 < L.parts) }
-    ensures segment { IsSegment log.now pass.new (not result) }
+    ensures segment { IsWindowSegment log.now pass.new (not result) }
     ensures taken { result ≡ takes log.now.shape (rows_in pass.old.view.seen) row.now }
     ensures rows { rows_in pass.new.view.seen ≡ with_row (rows_in pass.old.view.seen) row.now result }
 {
@@ -62,10 +62,10 @@ fn find_counted<L: Ledger>(
     is_spent: bool,
     blank: Blank,
 ) -> Result<(u32, Finding), Memory>
-    requires segment { IsSegment log.now pass.old is_spent }
+    requires segment { IsWindowSegment log.now pass.old is_spent }
     requires suits { Suits log.now.shape question.now }
     requires blank { (blank.name ≡ L.name) × (blank.parts ≡ L.parts) × (0 < L.parts) }
-    ensures segment { IsSegment log.now pass.new is_spent }
+    ensures segment { IsWindowSegment log.now pass.new is_spent }
     ensures seen { pass.new.view.seen ≡ pass.old.view.seen }
     ensures few { length pass.old.view.seen ≤ log.now.shape.capacity }
     ensures ok { IfOk result (λ found. (found.0 ≡ length pass.old.view.seen) × (found.1 ≡ finding_in log.now.shape question.now (rows_in pass.old.view.seen))) }
@@ -81,9 +81,9 @@ fn count_counted<L: Ledger>(
     is_spent: bool,
     blank: Blank,
 ) -> u32
-    requires segment { IsSegment log.now pass.old is_spent }
+    requires segment { IsWindowSegment log.now pass.old is_spent }
     requires blank { (blank.name ≡ L.name) × (blank.parts ≡ L.parts) × (0 < L.parts) }
-    ensures segment { IsSegment log.now pass.new is_spent }
+    ensures segment { IsWindowSegment log.now pass.new is_spent }
     ensures seen { pass.new.view.seen ≡ pass.old.view.seen }
     ensures count { result ≡ length pass.old.view.seen }
 {
@@ -91,16 +91,16 @@ fn count_counted<L: Ledger>(
     tail(log, pass, &mut steps)
 }
 
-impl Segment {
+impl WindowSegment {
     /// An empty segment of the shape, which has one writer.
-    pub fn open(alloc: Global, shape: Shape) -> Result<Segment, Memory>
+    pub fn open(alloc: Global, shape: Shape) -> Result<WindowSegment, Memory>
         requires one { shape.writers ≡ 1 }
         ensures { IfOk result (λ segment. segment ≡ record { shape = shape; rows = []; is_spent = false }) }
     {
         let (log, mut root) = MultiLog::open(alloc, shape)?;
         let mut passes = log.deal(alloc, &mut root)?;
         let pass = passes.swap_remove(0);
-        Ok(Segment {
+        Ok(WindowSegment {
             log,
             _root: root,
             pass,

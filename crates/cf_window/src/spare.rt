@@ -2,7 +2,7 @@
 ghost use Rattle.std.specs.Prelude.{◌≡◌, [], false, IfOk, IfSome};
 ghost use Rattle.cf_shape.specs.Lanes.{ShapeValue};
 
-use crate::Segment;
+use crate::WindowSegment;
 use cf_row::Memory;
 use cf_shape::{Shape, word_total};
 use std::alloc::Global;
@@ -17,14 +17,14 @@ const FEW_WORDS: u64 = 16_384;
 #[derive(Drop)]
 struct IsEmptyOf(Snapshot<Shape>);
 
-impl Promise<Result<Segment, Memory>> for IsEmptyOf {
+impl Promise<Result<WindowSegment, Memory>> for IsEmptyOf {
     ghost kept_by = { λ p r. IfOk r (λ segment. segment ≡ record { shape = (p.0).value; rows = []; is_spent = false }) };
 }
 
 /// A segment that a thread opens. Contracts see its shape.
 #[derive(Drop)]
 pub(crate) struct Spare {
-    thread: PromisedHandle<Result<Segment, Memory>, IsEmptyOf>,
+    thread: PromisedHandle<Result<WindowSegment, Memory>, IsEmptyOf>,
 }
 
 impl Model for Spare {
@@ -46,12 +46,12 @@ impl Spare {
         }
         let shape = shape.copy(alloc).ok()?;
         let promise = IsEmptyOf(Snapshot::of(&shape));
-        let thread = spawn_with(rt, promise, move || Segment::open(alloc, shape)).ok()?;
+        let thread = spawn_with(rt, promise, move || WindowSegment::open(alloc, shape)).ok()?;
         Some(Spare { thread })
     }
 
     /// The segment, once its thread has opened it.
-    pub(crate) fn join<R: Threads>(self, rt: &R) -> Result<Segment, Memory>
+    pub(crate) fn join<R: Threads>(self, rt: &R) -> Result<WindowSegment, Memory>
         ensures { IfOk result (λ segment. segment ≡ record { shape = self; rows = []; is_spent = false }) }
     {
         let Spare { thread } = self;
@@ -65,7 +65,7 @@ pub(crate) fn next_segment<R: Threads>(
     alloc: Global,
     shape: &Shape,
     spare: Option<Spare>,
-) -> Result<Segment, Memory>
+) -> Result<WindowSegment, Memory>
     requires one { shape.now.writers ≡ 1 }
     requires spare { IfSome spare (λ spare. spare ≡ shape.now) }
     ensures { IfOk result (λ segment. segment ≡ record { shape = shape.now; rows = []; is_spent = false }) }
@@ -75,5 +75,5 @@ pub(crate) fn next_segment<R: Threads>(
             return Ok(segment);
         }
     }
-    Segment::open(alloc, shape.copy(alloc)?)
+    WindowSegment::open(alloc, shape.copy(alloc)?)
 }

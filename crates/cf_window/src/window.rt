@@ -10,7 +10,7 @@ ghost use Rattle.cf_window.specs.Windows.{drops, goes_in, is_small, rows_in_all}
 
 use crate::find::find_in;
 use crate::spare::{Spare, next_segment};
-use crate::{Segment, nodes_needed};
+use crate::{WindowSegment, nodes_needed};
 use cf_fold::Trigger;
 use cf_plain::{Ask, Body, Finding, Marks};
 use cf_row::{Memory, Row};
@@ -41,7 +41,7 @@ pub struct Window {
     // how many rows were dropped, and how many have come
     from: u32,
     count: u32,
-    segments: Vec<Segment>,
+    segments: Vec<WindowSegment>,
     // whether the last segment has refused a row
     is_spent: bool,
     // the next segment, no part of what contracts see
@@ -62,7 +62,7 @@ impl Model for Window {
 }
 
 // The last segment takes the row, where there is one.
-fn take_last(segments: &mut Vec<Segment>, row: &Row) -> bool
+fn take_last(segments: &mut Vec<WindowSegment>, row: &Row) -> bool
     requires shapes { (shape : ShapeValue) × All (IsOfShape shape) segments.old.items × Fits shape.schema row.now }
     requires open { IsOpenLast segments.old.items }
     requires room { length segments.old.items ≤ vec_capacity segments.old }

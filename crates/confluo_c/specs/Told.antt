@@ -17,7 +17,7 @@ use Rattle.cf_store.specs.declared.shown.Capture.{Capture}
 use Rattle.cf_store.specs.declared.shown.Fault.{Fault}
 use Rattle.cf_store.specs.declared.shown.Framed.{Framed}
 use Rattle.cf_store.specs.declared.shown.Head.{Head}
-use Rattle.cf_store.specs.declared.shown.PlainValue.{PlainValue}
+use Rattle.cf_store.specs.declared.shown.ShownValue.{ShownValue}
 use Rattle.cf_store.specs.declared.shown.Shown.{Shown}
 use Rattle.cf_store.specs.declared.shown.Sizes.{Sizes}
 
@@ -59,7 +59,7 @@ BatchTold bytes frames offsets offsets' done held after number =
     (code : Code) × BatchBy bytes frames offsets offsets' done code held after × (number ≡ code_number code)
 
 -- a row was shown: its number, its values as far as there is room, and how many they are
-abbrev pub RowBy : ℕ → List PlainValue → List PlainValue → ℕ → ℕ → ℕ → ℕ → Option Reader → Option Reader → ℕ → Type 0
+abbrev pub RowBy : ℕ → List ShownValue → List ShownValue → ℕ → ℕ → ℕ → ℕ → Option Reader → Option Reader → ℕ → Type 0
 RowBy offset values values' number number' count count' held after answer =
     (r : Result Shown Code) × ByHandle (λ m n. IsCoded row_code (ShowsRowAt offset m n values values')) held after r
     × IfErr r (λ _. values' ≡ values) × (answer ≡ number_of r) × (number' ≡ number_or r number) × (count' ≡ count_or r count)

@@ -16,7 +16,7 @@ ghost use Rattle.confluo_c.specs.Told.{AsksBy, BatchTold, ClosesBy, ForksBy, Fra
 
 use cf_about::About;
 use cf_handles::{LogHandle, ReaderHandle, WriterHandle, ends, names, numbered};
-use cf_store::{Capture, Fault, Framed, Head, PlainValue, Room, Sizes};
+use cf_store::{Capture, Fault, Framed, Head, Room, ShownValue, Sizes};
 use std::alloc::Global;
 
 /// Opens a log of the setup whose text the bytes are, and puts it at the handle. What the handle led to is freed. Refused, it leads to
@@ -103,7 +103,7 @@ pub unsafe extern "C" fn confluo_append_row(
     alloc: Global,
     writer: *mut WriterHandle,
     number: u32,
-    values: &[PlainValue],
+    values: &[ShownValue],
     offset: &mut u32,
 ) -> u32
     ghost held: { Option Writer }
@@ -223,7 +223,7 @@ pub unsafe extern "C" fn confluo_row(
     reader: *mut ReaderHandle,
     offset: u32,
     number: &mut u32,
-    values: &mut [PlainValue],
+    values: &mut [ShownValue],
     count: &mut usize,
 ) -> u32
     ghost held: { Option Reader }

@@ -1,6 +1,6 @@
 use Rattle.std.proofs.Common.{Bool, Ok, refl, subst, arith}
 use Rattle.std.proofs.KnownBytes.{Keeps-refl}
-use Rattle.cf_follow.specs.Followed.{GoesOn}
+use Rattle.cf_follow.specs.Followed.{ReadComesTo}
 use Rattle.cf_follow.proofs.Complete.{complete_told}
 use Rattle.cf_follow.proofs.Going.{begins, going_still, out_still}
 use Rattle.cf_follow.proofs.watch.follow.Goals as goal
@@ -23,7 +23,7 @@ returns-in-Ok-false-clause-followed g c =
     let going = going_still c.args.watch.reads.schema c.args.watch.rounds c.loop.rounds c.prepare.new.self c.loop.reads before (g.F.Shelf.rest c.loop.shelf)
     held (g.K.Sink.held c.loop.sink) c.prepare.ensures c.loop.invariant.going in
     let both = subst
-    (λ (b : Bool). GoesOn c.args.watch.reads.schema c.args.watch.rounds c.step.new.rounds c.step.new.reads before now held (g.K.Sink.held c.step.new.sink)
+    (λ (b : Bool). ReadComesTo c.args.watch.reads.schema c.args.watch.rounds c.step.new.rounds c.step.new.reads before now held (g.K.Sink.held c.step.new.sink)
     (Ok b))
     c.in-Ok-false.field-0-test (c.in-Ok-false.ensures.goes c.args.watch.reads.schema c.args.watch.rounds before held going) in
     let on = going_still c.args.watch.reads.schema c.args.watch.rounds c.step.new.rounds c.release.new.self c.step.new.reads before now held
@@ -38,7 +38,7 @@ returns-in-Ok-false-clause-complete g c =
     let going = going_still c.args.watch.reads.schema c.args.watch.rounds c.loop.rounds c.prepare.new.self c.loop.reads before (g.F.Shelf.rest c.loop.shelf)
     held (g.K.Sink.held c.loop.sink) c.prepare.ensures c.loop.invariant.going in
     let both = subst
-    (λ (b : Bool). GoesOn c.args.watch.reads.schema c.args.watch.rounds c.step.new.rounds c.step.new.reads before now held (g.K.Sink.held c.step.new.sink)
+    (λ (b : Bool). ReadComesTo c.args.watch.reads.schema c.args.watch.rounds c.step.new.rounds c.step.new.reads before now held (g.K.Sink.held c.step.new.sink)
     (Ok b))
     c.in-Ok-false.field-0-test (c.in-Ok-false.ensures.goes c.args.watch.reads.schema c.args.watch.rounds before held going) in
     let on = going_still c.args.watch.reads.schema c.args.watch.rounds c.step.new.rounds c.release.new.self c.step.new.reads before now held
@@ -54,7 +54,7 @@ returns-in-Ok-false-clause-read_fault g c = λ is.
     let going = going_still c.args.watch.reads.schema c.args.watch.rounds c.loop.rounds c.prepare.new.self c.loop.reads before (g.F.Shelf.rest c.loop.shelf)
     held (g.K.Sink.held c.loop.sink) c.prepare.ensures c.loop.invariant.going in
     let both = subst
-    (λ (b : Bool). GoesOn c.args.watch.reads.schema c.args.watch.rounds c.step.new.rounds c.step.new.reads before now held (g.K.Sink.held c.step.new.sink)
+    (λ (b : Bool). ReadComesTo c.args.watch.reads.schema c.args.watch.rounds c.step.new.rounds c.step.new.reads before now held (g.K.Sink.held c.step.new.sink)
     (Ok b))
     c.in-Ok-false.field-0-test (c.in-Ok-false.ensures.goes c.args.watch.reads.schema c.args.watch.rounds before held going) in
     let on = going_still c.args.watch.reads.schema c.args.watch.rounds c.step.new.rounds c.release.new.self c.step.new.reads before now held

@@ -1,6 +1,6 @@
 use Rattle.std.proofs.Common.{◌≡◌, ◌≤◌, take, Option, Result, Ok, Err, ℕ, sym, ap, subst, ◌∙◌, arith}
 use Rattle.cf_pcap.specs.declared.form.Order.{Order}
-use Rattle.cf_pcapng.specs.declared.head.Head.TheVariants.{Short, Flawed, Stands}
+use Rattle.cf_pcapng.specs.declared.head.BlockHead.TheVariants.{Short, Flawed, Stands}
 use Rattle.cf_pcapng.specs.Blocks.{least, head_of, content_of}
 use Rattle.cf_pcapng.specs.Position.{interfaces_of, state_of}
 use Rattle.cf_pcapng.specs.Reading.{LiesIn, block_next}

@@ -1,4 +1,4 @@
-use Rattle.cf_run.specs.Logs.{HasNodes, IsUnmade}
+use Rattle.cf_run.specs.Logs.{NodesSuffice, IsUnmade}
 use Rattle.cf_run.specs.Seals.{IsSealedFinal}
 use Rattle.cf_run.specs.Work.{shape_for}
 use Rattle.cf_run.proofs.Logs.{final_so}
@@ -7,5 +7,5 @@ use Rattle.cf_run.proofs.log.final_of.Goals as goal
 pub returns : goal.returns
 returns g c = λ sizes rows lawful is.
     final_so c.report_in.result (λ made. IsSealedFinal c.args.setup.now sizes.capacity sizes.writers sizes.nodes rows made.text.items made.seals.items)
-    (HasNodes c.args.setup.now sizes rows) (IsUnmade (shape_for c.args.setup.now sizes) rows)
+    (NodesSuffice c.args.setup.now sizes rows) (IsUnmade (shape_for c.args.setup.now sizes) rows)
     (c.report_in.ensures sizes 0 rows lawful is)

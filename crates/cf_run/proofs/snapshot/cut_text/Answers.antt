@@ -11,8 +11,8 @@ cut_of_turns-requires-clause-few g c =
     (counts_few c.args.command.now.sizes c.args.setup.now (rows_each c.args.hosts.now) (2 ^ 20)
     (omega (arith, c.requires.command.sizes.capacity.1)) c.requires.room)
 
-pub total_of-requires-clause-few : goal.total_of-requires-clause-few
-total_of-requires-clause-few g c =
+pub count_in_cut-requires-clause-few : goal.count_in_cut-requires-clause-few
+count_in_cut-requires-clause-few g c =
     let few = counts_few c.args.command.now.sizes c.args.setup.now (rows_each c.args.hosts.now) 65536 c.requires.command.sizes.capacity.1 c.requires.room in
     let counts = c.deref.ensures.value ∙ c.in_ok-counts.ensures in
     subst (All (λ n. n ≤ 65536)) (sym c.deref-2.ensures.value)
@@ -30,8 +30,8 @@ cut_size g c κs within =
 pub push_hosts-requires-clause-size : goal.push_hosts-requires-clause-size
 push_hosts-requires-clause-size g c κs within = cut_size g c κs within
 
-pub total_of-requires-clause-hosts : goal.total_of-requires-clause-hosts
-total_of-requires-clause-hosts g c =
+pub count_in_cut-requires-clause-hosts : goal.count_in_cut-requires-clause-hosts
+count_in_cut-requires-clause-hosts g c =
     let counts = c.deref.ensures.value ∙ c.in_ok-counts.ensures in
     let size = ap (λ (ns : List ℕ). length ns) c.deref-2.ensures.value
     ∙ cut_length c.args.command.now.turn c.deref.result.now c.args.command.now.turns c.in_ok-cut.cut.items c.in_ok-cut.ensures.value

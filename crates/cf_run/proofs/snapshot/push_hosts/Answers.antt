@@ -2,7 +2,7 @@ use Rattle.std.proofs.Common.{◌++◌, List, [], None, take, slice_index_or, st
 use Rattle.cf_lemmas.proofs.Ranges.{step_range}
 use Rattle.cf_report.specs.Snapshot.{host_text}
 use Rattle.cf_row.specs.Row.{RowValue}
-use Rattle.cf_run.specs.Due.{HasRoom}
+use Rattle.cf_run.specs.Due.{LogHasRoom}
 use Rattle.cf_intake.specs.Parts.{rows_each}
 use Rattle.cf_run.specs.Parts.{ends_each}
 use Rattle.cf_run.specs.Work.{host_lines_at, shape_for}
@@ -14,7 +14,7 @@ unreachable-requires g c =
     let rows = c.index-hosts-host.result.rows.items in
     let n = slice_index_or c.args.cut.now c.loop-host.host 0 in
     let room = one_of_all
-    (HasRoom c.args.log.now.sizes c.args.log.now.setup.now) c.args.hosts.now c.loop-host.host c.index-hosts-host.result c.loop-host-test.true
+    (LogHasRoom c.args.log.now.sizes c.args.log.now.setup.now) c.args.hosts.now c.loop-host.host c.index-hosts-host.result c.loop-host-test.true
     c.index-hosts-host.is c.requires.room in
     never_short (shape_for c.args.log.now.setup.now c.args.log.now.sizes) rows (take n c.deref.result.now) n c.in-Err-Nodes.field-0 c.in-Err-Nodes.field-0-is
     (ap (λ (rs : List RowValue). take n rs) c.deref.ensures.value) room.1 c.in-Err-Nodes.ensures.unmade

@@ -3,7 +3,7 @@ use Rattle.cf_command.specs.Call.{watch_by}
 use Rattle.cf_command.specs.Call.Call.{watch}
 use Rattle.cf_intake.specs.declared.refusal.Halt.{Halt}
 use Rattle.cf_run.specs.Answers.RunAnswers.{stopped}
-use Rattle.cf_run.specs.Parts.{Begins}
+use Rattle.cf_run.specs.Parts.{WatchBegins}
 use Rattle.cf_run.proofs.Answering.{by_stop, complete_free, decided_free, keeps_same, stop_yields}
 use Rattle.cf_run.proofs.Watching.{ending_read, ending_unwritten, followed_by, followed_complete, followed_decided, followed_written, refused_by, refused_complete, refused_decided, refused_read, refused_written, rose_since}
 use Rattle.cf_run.proofs.watched.watch.Goals as goal
@@ -52,7 +52,7 @@ pub returns-in-Err-Refused-clause-written : goal.returns-in-Err-Refused-clause-w
 returns-in-Err-Refused-clause-written g c =
     refused_written (g.F.Shelf.files c.args.shelf.now) (watch_by c.args.command.now) (g.F.Shelf.rest c.args.shelf.now) (g.F.Shelf.rest c.begin.new.shelf)
     (g.K.Sink.held c.args.sink.now) (g.K.Sink.held c.refuse.new.sink) c.in-Err-Refused.why c.refuse.result
-    (subst (λ (h : Halt). Begins (g.F.Shelf.files c.args.shelf.now) (watch_by c.args.command.now) (g.F.Shelf.rest c.args.shelf.now)
+    (subst (λ (h : Halt). WatchBegins (g.F.Shelf.files c.args.shelf.now) (watch_by c.args.command.now) (g.F.Shelf.rest c.args.shelf.now)
     (g.F.Shelf.rest c.begin.new.shelf) (Err h)) c.in-Err-Refused.field-0-is
     c.in-Err-Refused.ensures.begins)
     c.refuse.ensures.refuses
@@ -61,7 +61,7 @@ pub returns-in-Err-Refused-clause-by_command : goal.returns-in-Err-Refused-claus
 returns-in-Err-Refused-clause-by_command g c =
     refused_by (g.F.Shelf.files c.args.shelf.now) (watch_by c.args.command.now) (g.F.Shelf.rest c.args.shelf.now) (g.F.Shelf.rest c.begin.new.shelf)
     (g.K.Sink.held c.args.sink.now) (g.K.Sink.held c.refuse.new.sink) c.in-Err-Refused.why c.refuse.result
-    (subst (λ (h : Halt). Begins (g.F.Shelf.files c.args.shelf.now) (watch_by c.args.command.now) (g.F.Shelf.rest c.args.shelf.now)
+    (subst (λ (h : Halt). WatchBegins (g.F.Shelf.files c.args.shelf.now) (watch_by c.args.command.now) (g.F.Shelf.rest c.args.shelf.now)
     (g.F.Shelf.rest c.begin.new.shelf) (Err h)) c.in-Err-Refused.field-0-is
     c.in-Err-Refused.ensures.begins)
     c.requires c.refuse.ensures.refuses
@@ -70,7 +70,7 @@ pub returns-in-Err-Refused-clause-decided : goal.returns-in-Err-Refused-clause-d
 returns-in-Err-Refused-clause-decided g c =
     refused_decided (g.F.Shelf.files c.args.shelf.now) (watch_by c.args.command.now) (g.F.Shelf.rest c.args.shelf.now) (g.F.Shelf.rest c.begin.new.shelf)
     (g.K.Sink.held c.args.sink.now) (g.K.Sink.held c.refuse.new.sink) c.in-Err-Refused.why c.refuse.result
-    (subst (λ (h : Halt). Begins (g.F.Shelf.files c.args.shelf.now) (watch_by c.args.command.now) (g.F.Shelf.rest c.args.shelf.now)
+    (subst (λ (h : Halt). WatchBegins (g.F.Shelf.files c.args.shelf.now) (watch_by c.args.command.now) (g.F.Shelf.rest c.args.shelf.now)
     (g.F.Shelf.rest c.begin.new.shelf) (Err h)) c.in-Err-Refused.field-0-is
     c.in-Err-Refused.ensures.begins)
     c.refuse.ensures.refuses
@@ -79,7 +79,7 @@ pub returns-in-Err-Refused-clause-complete : goal.returns-in-Err-Refused-clause-
 returns-in-Err-Refused-clause-complete g c =
     refused_complete (g.F.Shelf.files c.args.shelf.now) (watch_by c.args.command.now) (g.F.Shelf.rest c.args.shelf.now) (g.F.Shelf.rest c.begin.new.shelf)
     (g.K.Sink.held c.args.sink.now) (g.K.Sink.held c.refuse.new.sink) c.in-Err-Refused.why c.refuse.result
-    (subst (λ (h : Halt). Begins (g.F.Shelf.files c.args.shelf.now) (watch_by c.args.command.now) (g.F.Shelf.rest c.args.shelf.now)
+    (subst (λ (h : Halt). WatchBegins (g.F.Shelf.files c.args.shelf.now) (watch_by c.args.command.now) (g.F.Shelf.rest c.args.shelf.now)
     (g.F.Shelf.rest c.begin.new.shelf) (Err h)) c.in-Err-Refused.field-0-is
     c.in-Err-Refused.ensures.begins)
     c.refuse.ensures.refuses
@@ -88,7 +88,7 @@ pub returns-in-Err-Refused-clause-read_fault : goal.returns-in-Err-Refused-claus
 returns-in-Err-Refused-clause-read_fault g c = λ is.
     absurd (refused_read (g.F.Shelf.files c.args.shelf.now) (watch_by c.args.command.now) (g.F.Shelf.rest c.args.shelf.now) (g.F.Shelf.rest c.begin.new.shelf)
     (g.K.Sink.held c.args.sink.now) (g.K.Sink.held c.refuse.new.sink) c.in-Err-Refused.why c.refuse.result
-    (subst (λ (h : Halt). Begins (g.F.Shelf.files c.args.shelf.now) (watch_by c.args.command.now) (g.F.Shelf.rest c.args.shelf.now)
+    (subst (λ (h : Halt). WatchBegins (g.F.Shelf.files c.args.shelf.now) (watch_by c.args.command.now) (g.F.Shelf.rest c.args.shelf.now)
     (g.F.Shelf.rest c.begin.new.shelf) (Err h)) c.in-Err-Refused.field-0-is
     c.in-Err-Refused.ensures.begins)
     c.refuse.ensures.refuses is)
@@ -96,7 +96,7 @@ returns-in-Err-Refused-clause-read_fault g c = λ is.
 pub returns-in-Err-Stopped-clause-written : goal.returns-in-Err-Stopped-clause-written
 returns-in-Err-Stopped-clause-written g c =
     stopped c.in-Err-Stopped.stop c.from-in-Err-Stopped.ensures refl
-    (subst (λ (h : Halt). Begins (g.F.Shelf.files c.args.shelf.now) (watch_by c.args.command.now) (g.F.Shelf.rest c.args.shelf.now)
+    (subst (λ (h : Halt). WatchBegins (g.F.Shelf.files c.args.shelf.now) (watch_by c.args.command.now) (g.F.Shelf.rest c.args.shelf.now)
     (g.F.Shelf.rest c.begin.new.shelf) (Err h)) c.in-Err-Stopped.field-0-is
     c.in-Err-Stopped.ensures.begins)
     (keeps_same (g.K.Sink.held c.args.sink.now))
@@ -106,7 +106,7 @@ returns-in-Err-Stopped-clause-by_command g c =
     by_stop (g.F.Shelf.files c.args.shelf.now) (Some (watch (watch_by c.args.command.now))) (g.F.Shelf.rest c.args.shelf.now)
     (g.F.Shelf.rest c.begin.new.shelf) c.from-in-Err-Stopped.result [] c.in-Err-Stopped.stop
     c.from-in-Err-Stopped.ensures refl
-    (subst (λ (h : Halt). Begins (g.F.Shelf.files c.args.shelf.now) (watch_by c.args.command.now) (g.F.Shelf.rest c.args.shelf.now)
+    (subst (λ (h : Halt). WatchBegins (g.F.Shelf.files c.args.shelf.now) (watch_by c.args.command.now) (g.F.Shelf.rest c.args.shelf.now)
     (g.F.Shelf.rest c.begin.new.shelf) (Err h)) c.in-Err-Stopped.field-0-is
     c.in-Err-Stopped.ensures.begins)
 

@@ -4,7 +4,7 @@ use Rattle.cf_log.proofs.Chained.{took_more, stored_more, rest_more}
 use Rattle.cf_row.specs.declared.schema.Attr.{Attr}
 use Rattle.cf_row.specs.declared.row.Value.{Value}
 use Rattle.cf_row.specs.declared.row.Value.TheVariants.{Num}
-use Rattle.cf_store.specs.declared.shown.PlainValue.{PlainValue}
+use Rattle.cf_store.specs.declared.shown.ShownValue.{ShownValue}
 use Rattle.cf_store.specs.Values.{plain_of}
 use Rattle.cf_store.proofs.Laid.{fit_long, mapped_at}
 use Rattle.cf_store.proofs.values.show_row.Goals as goal
@@ -21,10 +21,10 @@ loop-k-preserved c =
     let attrs = ap (λ (xs : List Attr). length xs) c.attrs-count.ensures.attrs in
     let fit = fit_long c.args.schema.now values c.requires in
     let at : slice_get (map plain_of values) k ≡ Some x = mapped_at plain_of values k (Num 0) (omega (arith, low, end, attrs, fit))
-    ∙ ap (λ (y : PlainValue). Some y) (ap (λ (y : Value). plain_of y) (sym c.get.ensures) ∙ sym c.plain_of.ensures) in
+    ∙ ap (λ (y : ShownValue). Some y) (ap (λ (y : Value). plain_of y) (sym c.get.ensures) ∙ sym c.plain_of.ensures) in
     record {
       front = stored_more c.loop-k.out k x (omega (arith, low, end, long))
-          ∙ (ap (λ (xs : List PlainValue). xs ++ x ∷ []) v.front ∙ sym (took_more (map plain_of values) k x at));
+          ∙ (ap (λ (xs : List ShownValue). xs ++ x ∷ []) v.front ∙ sym (took_more (map plain_of values) k x at));
       after = rest_more c.loop-k.out c.args.out.now k x v.after;
       long = length-set c.loop-k.out k x ∙ v.long;
     }
@@ -41,5 +41,5 @@ returns c =
     record {
       count_is = ap (λ (xs : List Attr). length xs) c.attrs-count.ensures.attrs ∙ sym (fit_long c.args.schema.now values c.requires);
       after_is = subst (λ (i : ℕ). c.loop-k.out ≡ take i (map plain_of values) ++ drop i c.args.out.now) same
-          (sym (take-append-drop k c.loop-k.out) ∙ ap₂ (λ (xs ys : List PlainValue). xs ++ ys) v.front v.after);
+          (sym (take-append-drop k c.loop-k.out) ∙ ap₂ (λ (xs ys : List ShownValue). xs ++ ys) v.front v.after);
     }

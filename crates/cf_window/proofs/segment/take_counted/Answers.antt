@@ -1,6 +1,6 @@
 use Rattle.std.proofs.Common.{◌∙◌, Bool, not, ap, sym, subst, arith}
 use Rattle.cf_snapshot.proofs.Hosting.{placed, alone_then, covered, used_for}
-use Rattle.cf_window.specs.Segments.{IsSegment, with_row}
+use Rattle.cf_window.specs.Segments.{IsWindowSegment, with_row}
 use Rattle.cf_plain.specs.Asks.{rows_in}
 use Rattle.cf_window.proofs.Taken.{taken, taken_all, taken_answer, taken_rows}
 use Rattle.cf_window.proofs.segment.take_counted.Goals as goal
@@ -31,7 +31,7 @@ returns-clause-segment g c =
     let now = alone_then log row m n o r alone a.goes_on a.rest a.answer s.goes_on s.books s.fit s.alone s.full in
     let has = taken log row m n o c.shape-lawful.ensures.lawful c.requires.segment now s.books (s.paths alone.one now.rest) s.bounds r a.answer
     (covered log row m n o r alone a.goes_on s.goes_on a.answer now s.books) (used_for log.shape row m n o r a.answer s.books) in
-    subst (λ (b : Bool). IsSegment log o (not b)) (sym c.is_ok.ensures.value) (taken_all log row (m.view).seen o r now has)
+    subst (λ (b : Bool). IsWindowSegment log o (not b)) (sym c.is_ok.ensures.value) (taken_all log row (m.view).seen o r now has)
 
 pub returns-clause-taken : goal.returns-clause-taken
 returns-clause-taken g c =

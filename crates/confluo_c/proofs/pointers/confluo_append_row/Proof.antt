@@ -1,6 +1,6 @@
 -- `confluo_append_row` lends what is owned at the pointer to the function of that name in `cf_handles`, and hands it back.
 use Rattle.confluo_c.proofs.Steps.{◌≡◌, ◌∙◌, ℕ, List, [], ◌∷◌, ◌++◌, length, refl, sym, ap, subst, w32, MutBor, proved_at, handle_tells, full_share, id⊢, ent, sep, ex, ftrue, flft, flent, fsep, fact, tables, named, Val, vint, vptr, WpFn, sem, Body, lft_new, lft_end, at_ret, Item, ⋆, some, later, pick, use1, use2, use3, await, rewrite, show, suffices, group, done, ‵, raw, ◌⊛◌, ◌$◌, ◌∵◌, !, qed, by, move, drop, split, join, fsplit, fjoin, fpick, feq_l, of_opd, addr, stop, no_more, and_then, first, blocks, exec, returns, enter, free_all, look_at, get, through, sets, sets_last, lands_as, env, alloc_all, pass_all, yes, u32, Is, shows, lends_ref, ref_back, mem, part_at, uint_Lawful, RattleType, owns, Ptr, RawPtr, block_ptr, in_a_block, lies_at, ptr_val, MutRef, ShrSlice, slice_val, plain, shr_slice_of, nothing, heard, peeks, calls_at, lasts, triple_of, framed, Stays, walk_of, stay_dropped, Goes-dropped, gave_ref, Goes-gave_ref, ends_at, says, Option}
-use Rattle.cf_store.specs.contracts.shown.PlainValue.{the_row as plainvalue_row}
+use Rattle.cf_store.specs.contracts.shown.ShownValue.{the_row as shownvalue_row}
 use Rattle.cf_calls.specs.Codes.{append_code}
 use Rattle.cf_handles.specs.Calls.{IsCoded, Tells}
 use Rattle.cf_store.specs.Appends.{AppendsPlain}
@@ -33,7 +33,7 @@ confluo_append_row_spec 𝓤 𝓛 𝓜 𝓡 wired =
         Goes-dropped 𝓛 2 (plain (λ _. RawPtr)) yes (λ κs x w. refl),
         (
           Goes-dropped 𝓛 2 (plain (λ _. u32)) yes (λ κs x w. refl),
-          (Goes-dropped 𝓛 2 (shr_slice_of (0 ∷ []) tt (plain (λ _. plainvalue_row))) yes (λ κs x w. refl), (Goes-gave_ref 𝓛 2 1 tt (plain (λ _. u32)), tt)),
+          (Goes-dropped 𝓛 2 (shr_slice_of (0 ∷ []) tt (plain (λ _. shownvalue_row))) yes (λ κs x w. refl), (Goes-gave_ref 𝓛 2 1 tt (plain (λ _. u32)), tt)),
         ),
       ),
     )
@@ -41,17 +41,17 @@ confluo_append_row_spec 𝓤 𝓛 𝓜 𝓡 wired =
     (λ z are. let κ = z.0.0.0 in let q = z.0.1.0 in let κ₂ = z.0.0.1.0 in let q₂ = z.0.1.1.0 in let a = z.0.3.0 in let p = z.0.3.1.0 in
     let number = z.0.3.1.1.0 in let values = z.0.3.1.1.1.0 in let offset = z.0.3.1.1.1.1.0 in let x = z.1 in let Post = W.post z in
     qed 𝓛 (((‵ (flft κ q) ⊛ (‵ (flft κ₂ q₂) ⊛ ‵ ftrue)) ⊛ ‵
-    (owns (Heap.the_row ∷ RawPtr ∷ u32 ∷ ShrSlice (named 0) κ plainvalue_row ∷ MutRef (named 1) κ₂ u32 ∷ [])
+    (owns (Heap.the_row ∷ RawPtr ∷ u32 ∷ ShrSlice (named 0) κ shownvalue_row ∷ MutRef (named 1) κ₂ u32 ∷ [])
     (a, (p, (number, (values, (offset, tt))))) z.0.4)) ∷ ‵ (writer_at p x) ∷ []) ∵
     split ! $ move ! (1 ∷ []) $ fsplit ! $ handle_tells E.al ! a z.0.4.0
     (λ hv eh fa. move ! (1 ∷ []) $ fsplit ! $ feq_l ! (λ ep. fsplit ! $ rewrite ! 0 (λ (us : List Val). ‵ (u32.own_val number us)) (are.1.1.0.0) refl $
-    move ! (1 ∷ []) $ fsplit ! $ rewrite ! 0 (λ (us : List Val). ‵ ((ShrSlice (named 0) κ plainvalue_row).own_val values us)) (are.1.1.1.0.0.0) refl $
+    move ! (1 ∷ []) $ fsplit ! $ rewrite ! 0 (λ (us : List Val). ‵ ((ShrSlice (named 0) κ shownvalue_row).own_val values us)) (are.1.1.1.0.0.0) refl $
     move ! (1 ∷ []) $ fsplit ! $ rewrite ! 0 (λ (us : List Val). ‵ ((MutRef (named 1) κ₂ u32).own_val offset us)) (are.1.1.1.1.0.0) refl $
     move ! (6 ∷ []) $ fpick ! (λ h. fsplit ! $ in_a_block ! p (λ r. lies_at Bytes.the_row full_share r h) (id⊢ 𝓤 _) (λ b o e. fjoin ! $
     let Γ : List (Item 𝓤) = ‵ (fsep (part_at Bytes.the_row full_share h b o) (handle_owns HeldWriter.the_row h x))
     ∷ ‵ ((MutRef (named 1) κ₂ u32).own_val offset (vptr offset.ref_ptr.0 offset.ref_ptr.1 ∷ []))
     ∷ ‵ ftrue
-    ∷ ‵ ((ShrSlice (named 0) κ plainvalue_row).own_val values (slice_val values.ref_ptr (length values.now) ∷ []))
+    ∷ ‵ ((ShrSlice (named 0) κ shownvalue_row).own_val values (slice_val values.ref_ptr (length values.now) ∷ []))
     ∷ ‵ (u32.own_val number (vint w32 number ∷ []))
     ∷ ‵ (Heap.the_row.own_val a (hv ∷ []))
     ∷ (‵ (flft κ q) ⊛ (‵ (flft κ₂ q₂) ⊛ ‵ ftrue)) ∷ [] in

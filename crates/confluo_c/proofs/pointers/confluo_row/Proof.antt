@@ -1,6 +1,6 @@
 -- `confluo_row` lends what is owned at the pointer to the function of that name in `cf_handles`, and hands it back.
 use Rattle.confluo_c.proofs.Steps.{◌≡◌, ◌∙◌, ℕ, List, [], ◌∷◌, ◌++◌, length, refl, sym, ap, subst, w32, MutBor, proved_at, handle_tells, full_share, id⊢, ent, sep, ex, ftrue, flft, flent, fsep, fact, tables, named, Val, vint, vptr, WpFn, sem, Body, lft_new, lft_end, at_ret, Item, ⋆, some, later, pick, use1, use2, use3, await, rewrite, show, suffices, group, done, ‵, raw, ◌⊛◌, ◌$◌, ◌∵◌, !, qed, by, move, drop, split, join, fsplit, fjoin, fpick, feq_l, agg, sub, whole, of_opd, addr, stop, from, fld, hop, no_more, and_then, first, blocks, exec, returns, enter, free_all, look_at, look_in_at, get, get_in, through, sets, sets_last, lands_as, env, alloc_all, pass_all, yes, u32, usize, Is, shows, lends_ref, ref_back, mem, part_at, uint_Lawful, RattleType, owns, Ptr, RawPtr, block_ptr, in_a_block, lies_at, ptr_val, MutRef, MutSlice, slice_val, plain, nothing, heard, peeks, calls_at, lasts, triple_of, framed, Stays, walk_of, stay_dropped, Goes-dropped, gave_ref, gave_slice, Goes-gave_ref, Goes-gave_slice, ends_at, says, Option}
-use Rattle.cf_store.specs.contracts.shown.PlainValue.{the_row as plainvalue_row}
+use Rattle.cf_store.specs.contracts.shown.ShownValue.{the_row as shownvalue_row}
 use Rattle.confluo_c.specs.Told.{RowBy}
 use Rattle.cf_store.specs.declared.held.Reader.{Reader}
 use Rattle.std.specs.contracts.alloc.Global as Heap
@@ -23,7 +23,7 @@ stayed = (
     stay_dropped _ yes,
     (
       stay_dropped _ yes,
-      (gave_ref (0 ∷ []) tt (plain (λ _. u32)), (gave_slice (1 ∷ []) tt (plain (λ _. plainvalue_row)), (gave_ref (2 ∷ []) tt (plain (λ _. usize)), tt))),
+      (gave_ref (0 ∷ []) tt (plain (λ _. u32)), (gave_slice (1 ∷ []) tt (plain (λ _. shownvalue_row)), (gave_ref (2 ∷ []) tt (plain (λ _. usize)), tt))),
     ),
   ),
 )
@@ -42,7 +42,7 @@ confluo_row_spec 𝓤 𝓛 𝓜 𝓡 wired =
           Goes-dropped 𝓛 3 (plain (λ _. u32)) yes (λ κs x w. refl),
           (
             Goes-gave_ref 𝓛 3 0 tt (plain (λ _. u32)),
-            (Goes-gave_slice 𝓛 3 1 tt (plain (λ _. plainvalue_row)), (Goes-gave_ref 𝓛 3 2 tt (plain (λ _. usize)), tt)),
+            (Goes-gave_slice 𝓛 3 1 tt (plain (λ _. shownvalue_row)), (Goes-gave_ref 𝓛 3 2 tt (plain (λ _. usize)), tt)),
           ),
         ),
       ),
@@ -52,18 +52,18 @@ confluo_row_spec 𝓤 𝓛 𝓜 𝓡 wired =
     let a = z.0.3.0 in let p = z.0.3.1.0 in let offset = z.0.3.1.1.0 in let number = z.0.3.1.1.1.0 in let values = z.0.3.1.1.1.1.0 in let count =
     z.0.3.1.1.1.1.1.0 in let x = z.1 in let Post = W.post z in
     qed 𝓛 (((‵ (flft κ q) ⊛ (‵ (flft κ₂ q₂) ⊛ (‵ (flft κ₃ q₃) ⊛ ‵ ftrue))) ⊛ ‵
-    (owns (Heap.the_row ∷ RawPtr ∷ u32 ∷ MutRef (named 0) κ u32 ∷ MutSlice (named 1) κ₂ plainvalue_row ∷ MutRef (named 2) κ₃ usize ∷ [])
+    (owns (Heap.the_row ∷ RawPtr ∷ u32 ∷ MutRef (named 0) κ u32 ∷ MutSlice (named 1) κ₂ shownvalue_row ∷ MutRef (named 2) κ₃ usize ∷ [])
     (a, (p, (offset, (number, (values, (count, tt)))))) z.0.4)) ∷ ‵ (reader_at p x) ∷ []) ∵
     split ! $ move ! (1 ∷ []) $ fsplit ! $ handle_tells E.al ! a z.0.4.0
     (λ hv eh fa. move ! (1 ∷ []) $ fsplit ! $ feq_l ! (λ ep. fsplit ! $ rewrite ! 0 (λ (us : List Val). ‵ (u32.own_val offset us)) (are.1.1.0.0) refl $
     move ! (1 ∷ []) $ fsplit ! $ rewrite ! 0 (λ (us : List Val). ‵ ((MutRef (named 0) κ u32).own_val number us)) (are.1.1.1.0.0) refl $
-    move ! (1 ∷ []) $ fsplit ! $ rewrite ! 0 (λ (us : List Val). ‵ ((MutSlice (named 1) κ₂ plainvalue_row).own_val values us)) (are.1.1.1.1.0.0.0) refl $
+    move ! (1 ∷ []) $ fsplit ! $ rewrite ! 0 (λ (us : List Val). ‵ ((MutSlice (named 1) κ₂ shownvalue_row).own_val values us)) (are.1.1.1.1.0.0.0) refl $
     move ! (1 ∷ []) $ fsplit ! $ rewrite ! 0 (λ (us : List Val). ‵ ((MutRef (named 2) κ₃ usize).own_val count us)) (are.1.1.1.1.1.0.0) refl $
     move ! (7 ∷ []) $ fpick ! (λ h. fsplit ! $ in_a_block ! p (λ r. lies_at Bytes.the_row full_share r h) (id⊢ 𝓤 _) (λ b o e. fjoin ! $
     let Γ : List (Item 𝓤) = ‵ (fsep (part_at Bytes.the_row full_share h b o) (handle_owns HeldReader.the_row h x))
     ∷ ‵ ((MutRef (named 2) κ₃ usize).own_val count (vptr count.ref_ptr.0 count.ref_ptr.1 ∷ []))
     ∷ ‵ ftrue
-    ∷ ‵ ((MutSlice (named 1) κ₂ plainvalue_row).own_val values (slice_val values.ref_ptr (length values.now) ∷ []))
+    ∷ ‵ ((MutSlice (named 1) κ₂ shownvalue_row).own_val values (slice_val values.ref_ptr (length values.now) ∷ []))
     ∷ ‵ ((MutRef (named 0) κ u32).own_val number (vptr number.ref_ptr.0 number.ref_ptr.1 ∷ []))
     ∷ ‵ (u32.own_val offset (vint w32 offset ∷ []))
     ∷ ‵ (Heap.the_row.own_val a (hv ∷ []))
@@ -123,7 +123,7 @@ confluo_row_spec 𝓤 𝓛 𝓜 𝓡 wired =
     (and_then ! (get ! refl) (and_then ! (get ! refl) (and_then ! (get ! refl) (and_then ! (get ! refl) (and_then ! (get ! refl) (no_more !))))))) (λ v.
     use1 𝓛 (later
     (some (λ (r : ℕ). ((‵ (flft (α ∷ []) full_share) ⊛ (‵ (flft κ q) ⊛ (‵ (flft κ₂ q₂) ⊛ (‵ (flft κ₃ q₃) ⊛ ‵ ftrue)))) ⊛ ‵ (u32.own_val r (v ∷ []))) ⊛
-    some (λ (ws : Unit {0} × (R.Denot × (Unit {0} × (ℕ × (List plainvalue_row.Denot × (ℕ × Unit {0})))))). ‵ (lasts g.ended y.0.0 y.0.3 ws) ⊛
+    some (λ (ws : Unit {0} × (R.Denot × (Unit {0} × (ℕ × (List shownvalue_row.Denot × (ℕ × Unit {0})))))). ‵ (lasts g.ended y.0.0 y.0.3 ws) ⊛
     raw (fact 𝓤 (RowBy offset values.now ws.1.1.1.1.0 number.now ws.1.1.1.0 count.now ws.1.1.1.1.1.0 k.seat.held ws.1.0.seat.held r)))))) (id⊢ 𝓤 _) $
     await ! tt $ pick !
     (λ r. split ! $ split ! $ split ! $ lft_end ! tt $ move ! (3 ∷ []) $ pick ! (λ ws. split ! $ move ! (1 ∷ []) $ heard ! _ (λ did. let k' = ws.1.0 in

@@ -1,6 +1,6 @@
 use Rattle.std.proofs.Common.{◌<◌, ◌≤◌, ◌+◌, ◌∷◌, ◌++◌, [], length, ap, sym, subst, vec_capacity}
 use Rattle.cf_shape.specs.Lanes.{ShapeValue}
-use Rattle.cf_segments.specs.Segments.{SegmentsValue, segments_of, IsOpened, IsSegments, HasTurned}
+use Rattle.cf_segments.specs.Segments.{SegmentsValue, segments_of, IsOpened, IsSegments, HasTurnedOver}
 use Rattle.cf_segments.proofs.Chains.{has_turned, turn_lawful}
 use Rattle.cf_segments.proofs.segments.Segments.turn_to.Goals as goal
 
@@ -27,8 +27,8 @@ pub returns : goal.returns
 returns c =
     let most = c.self.inside.most in
     let closed = c.self.inside.closed.items in
-    let made : HasTurned (segments_of most closed c.self.inside.current) (segments_of most (closed ++ c.self.inside.current ∷ []) c.args.next) =
+    let made : HasTurnedOver (segments_of most closed c.self.inside.current) (segments_of most (closed ++ c.self.inside.current ∷ []) c.args.next) =
     has_turned most closed c.self.inside.current c.args.next (opened c) (room c) in
-    let now : HasTurned (segments_of most closed c.self.inside.current) (segments_of most c.push_reserved.new.self.items c.replace-last.new.dest) =
+    let now : HasTurnedOver (segments_of most closed c.self.inside.current) (segments_of most c.push_reserved.new.self.items c.replace-last.new.dest) =
     rw (c.push_reserved.ensures.items, c.replace-last.ensures.value, c.replace-last.ensures.after) made in
-    subst (λ (s : SegmentsValue). HasTurned s (segments_of most c.push_reserved.new.self.items c.replace-last.new.dest)) c.self.view_is now
+    subst (λ (s : SegmentsValue). HasTurnedOver s (segments_of most c.push_reserved.new.self.items c.replace-last.new.dest)) c.self.view_is now

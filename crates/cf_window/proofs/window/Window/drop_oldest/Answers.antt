@@ -1,6 +1,6 @@
 use Rattle.std.proofs.Common.{◌≡◌, ◌+◌, drop, sym, ap, arith, rules}
 use Rattle.std.proofs.lemmas.List.{length-map}
-use Rattle.cf_window.specs.Segments.{SegmentValue}
+use Rattle.cf_window.specs.Segments.{WindowSegmentValue}
 use Rattle.cf_window.specs.Held.{WindowValue, rows_each}
 use Rattle.cf_window.proofs.Dropping.{comes_after, refused_after}
 use Rattle.cf_window.proofs.window.Window.drop_oldest.Goals as goal
@@ -16,7 +16,7 @@ pub returns-clause-comes : goal.returns-clause-comes
 returns-clause-comes c row out =
     let inside = c.self.inside in
     let r : rows_each c.remove-oldest.new.self.items ≡ drop 1 (rows_each inside.segments.items) = search rules in
-    let long = length-map inside.segments.items (λ (s : SegmentValue). s.rows) in
+    let long = length-map inside.segments.items (λ (s : WindowSegmentValue). s.rows) in
     let few = c.self.invariant.0.few in
     comes_after c.args.self.now
     (record {

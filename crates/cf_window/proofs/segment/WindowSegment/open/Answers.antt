@@ -4,7 +4,7 @@ use Rattle.cf_shape.specs.Lanes.{ShapeValue}
 use Rattle.cf_table.specs.Values.{PassValue}
 use Rattle.cf_snapshot.proofs.Hosting.{opened, opened_count, opened_seen, opened_used}
 use Rattle.cf_window.proofs.Taken.{empty_segment, empty_value}
-use Rattle.cf_window.proofs.segment.Segment.open.Goals as goal
+use Rattle.cf_window.proofs.segment.WindowSegment.open.Goals as goal
 
 pub swap_remove-pass-requires : goal.swap_remove-pass-requires
 swap_remove-pass-requires c =

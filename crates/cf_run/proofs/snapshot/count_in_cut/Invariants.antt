@@ -1,5 +1,5 @@
 use Rattle.std.proofs.Common.{◌≡◌, ◌≤◌, ◌*◌, sum, take}
-use Rattle.cf_run.proofs.snapshot.total_of.Given as goal
+use Rattle.cf_run.proofs.snapshot.count_in_cut.Given as goal
 
 abbrev pub invariant-loop-count : goal.invariant-loop-count
 invariant-loop-count l = record {

@@ -1,4 +1,4 @@
-use Rattle.cf_window.proofs.segment.Segment.take.Given as goal
+use Rattle.cf_window.proofs.segment.WindowSegment.take.Given as goal
 
 abbrev pub ghosts-take_counted : goal.ghosts-take_counted
 ghosts-take_counted a = record { name = a.blank.name; parts = a.blank.parts }

@@ -1,4 +1,4 @@
-use Rattle.cf_window.proofs.segment.Segment.count.Given as goal
+use Rattle.cf_window.proofs.segment.WindowSegment.count.Given as goal
 
 abbrev pub ghosts-count_counted : goal.ghosts-count_counted
 ghosts-count_counted a = record { name = a.blank.name; parts = a.blank.parts }
