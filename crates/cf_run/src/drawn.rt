@@ -6,6 +6,7 @@ ghost use Rattle.cf_packet6.specs.declared.PacketSchema.TheVariants.{Packet};
 ghost use Rattle.cf_run.specs.Filling.{IsFilled, KeepsLog};
 ghost use Rattle.cf_intake.specs.Rows.{packet_rows};
 
+use crate::context::Context;
 use crate::fill::fill_packets;
 use crate::filling::Filling;
 use cf_intake::{Halt, Stop};
@@ -35,11 +36,10 @@ fn open_drawn(alloc: Global, seed: u64, count: u32) -> Result<SteadyShelf, Memor
 
 /// Fills the log with the rows of the packets that the seed draws. They are loaded while the rest is still to be read.
 pub(crate) fn fill_drawn<R: Threads + Sync, G: Gate>(
-    rt: &R,
+    context: &Context<'_, R, G>,
     seed: u64,
     count: u32,
     filling: &mut Filling,
-    gate: &G,
 ) -> Result<(), Memory>
     requires count { count ≤ 2 ^ 20 }
     requires attrs { filling.old.segments.shape.schema ≡ attrs_by Packet }
@@ -47,8 +47,8 @@ pub(crate) fn fill_drawn<R: Threads + Sync, G: Gate>(
     ensures keeps { KeepsLog filling.old filling.new }
     ensures filled { IfOk result (λ _. IsFilled filling.new (packet_rows Packet (generated_frames seed count))) }
 {
-    let mut shelf = open_drawn(filling.alloc(), seed, count)?;
-    match fill_packets(rt, &mut shelf, PacketSchema::Packet, false, filling, gate) {
+    let mut shelf = open_drawn(context.alloc, seed, count)?;
+    match fill_packets(context, &mut shelf, PacketSchema::Packet, false, filling) {
         Ok(_) => Ok(()),
         Err(Halt::Stopped(Stop::Memory)) => Err(AllocError),
         // What is made is a capture, and no read of it fails.

@@ -8,6 +8,7 @@ ghost use Rattle.cf_intake.specs.Parts.{source_in, attrs_in};
 ghost use Rattle.cf_intake.specs.Reading.{HasMore, IfReadOn, ReadsOn, ReadsRows, StopsOn, TakesPackets, pieces_left};
 ghost use Rattle.cf_run.specs.Filling.{Fills, IsFilled, IsFilling, KeepsLog, most_waiting, rows_waiting};
 
+use crate::context::Context;
 use crate::filling::Filling;
 use cf_intake::{Format, Halt, Manner, Pieces, Stop, open_packets, read_lines};
 use cf_outside::{Gate, Shelf};
@@ -18,10 +19,9 @@ use std::thread::{Threads, join_mut};
 // The rows at hand go into the log, in a thread of its own where one can be made, while this one reads on, until there are as many
 // as end the next batch.
 fn take_beside<R: Threads + Sync, F: Shelf, G: Gate>(
-    rt: &R,
+    context: &Context<'_, R, G>,
     shelf: &mut F,
     filling: &mut Filling,
-    gate: &G,
     rows: &mut Vec<Row>,
     pieces: &mut Pieces,
 ) -> (Result<(), Memory>, Result<Vec<Row>, Stop>)
@@ -43,14 +43,14 @@ fn take_beside<R: Threads + Sync, F: Shelf, G: Gate>(
     ensures stopped { OnErr result.1 (StopsOn pieces.old (F.rest shelf.old) (F.rest shelf.new)) }
     ensures cause { HasStopCause (F.faults shelf.old) (F.faults shelf.new) result.1 }
 {
-    let alloc = filling.alloc();
+    let alloc = context.alloc;
     let wanted = filling.wanted(rows.len());
     let mut take = || -> Result<(), Memory>
         requires { IsSync R.row × IsSync G.row × All (Fits filling.now.segments.shape.schema) rows.now.items × IsFilling filling.now }
         ensures keeps { KeepsLog filling.entry.now filling.exit.now }
         ensures filled { IfOk result (λ _. Fills filling.entry.now filling.exit.now rows.entry.now.items) }
         ensures stops { filling.entry.now.loader.stopped ≡ true → filling.exit.now.loader.stopped ≡ true }
-    { filling.take_rows(rt, gate, rows) };
+    { filling.take_rows(context, rows) };
     let mut read = || -> Result<Vec<Row>, Stop>
         requires { HasMore pieces.now × (0 < wanted) }
         ensures files { F.files shelf.exit.now ≡ F.files shelf.entry.now }
@@ -62,18 +62,17 @@ fn take_beside<R: Threads + Sync, F: Shelf, G: Gate>(
         ensures stopped { OnErr result (StopsOn pieces.entry.now (F.rest shelf.entry.now) (F.rest shelf.exit.now)) }
         ensures cause { HasStopCause (F.faults shelf.entry.now) (F.faults shelf.exit.now) result }
     { pieces.next_rows(alloc, shelf, wanted) };
-    join_mut(rt, &mut take, &mut read)
+    join_mut(context.rt, &mut take, &mut read)
 }
 
 /// Fills the log with the rows of the opened capture by that schema as they come. It is read to its end, or until 2^32 bytes were taken. One that may
 /// be truncated says within which record it ends, if it does.
 pub(crate) fn fill_packets<R: Threads + Sync, F: Shelf, G: Gate>(
-    rt: &R,
+    context: &Context<'_, R, G>,
     shelf: &mut F,
     schema: PacketSchema,
     truncated: bool,
     filling: &mut Filling,
-    gate: &G,
 ) -> Result<Option<u32>, Halt>
     requires attrs { filling.old.segments.shape.schema ≡ attrs_by schema }
     requires none { IsFilled filling.old [] }
@@ -82,25 +81,24 @@ pub(crate) fn fill_packets<R: Threads + Sync, F: Shelf, G: Gate>(
     ensures taken { TakesPackets schema truncated (λ cut what. (what.cut ≡ cut) × IsFilled filling.new what.rows) (F.rest shelf.old) (F.rest shelf.new) result }
     ensures cause { HasHaltCause (F.faults shelf.old) (F.faults shelf.new) result }
 {
-    let (mut pieces, mut rows) = Pieces::begin(filling.alloc(), shelf, schema)?;
+    let (mut pieces, mut rows) = Pieces::begin(context.alloc, shelf, schema)?;
     while pieces.has_more() {
-        let (taken, given) = take_beside(rt, shelf, filling, gate, &mut rows, &mut pieces);
+        let (taken, given) = take_beside(context, shelf, filling, &mut rows, &mut pieces);
         rows = given?;
         taken?;
     }
-    filling.take_rows(rt, gate, &mut rows)?;
+    filling.take_rows(context, &mut rows)?;
     pieces.finish(truncated)
 }
 
 /// Fills the log with the rows of the capture of that name, and says within which record it ends, if it is truncated. Those of packets
 /// are loaded while the rest is still to be read.
 pub(crate) fn fill_rows<R: Threads + Sync, F: Shelf, G: Gate>(
-    rt: &R,
+    context: &Context<'_, R, G>,
     shelf: &mut F,
     name: &str,
     manner: Manner,
     filling: &mut Filling,
-    gate: &G,
 ) -> Result<Option<u32>, Halt>
     requires attrs { filling.old.segments.shape.schema ≡ attrs_in manner.format }
     requires none { IsFilled filling.old [] }
@@ -113,11 +111,11 @@ pub(crate) fn fill_rows<R: Threads + Sync, F: Shelf, G: Gate>(
     match manner.format {
         Format::Packets(schema) => {
             open_packets(shelf, name)?;
-            fill_packets(rt, shelf, schema, manner.truncated, filling, gate)
+            fill_packets(context, shelf, schema, manner.truncated, filling)
         }
         Format::Records(schema) => {
-            let mut rows = read_lines(filling.alloc(), shelf, name, schema)?;
-            filling.take_rows(rt, gate, &mut rows)?;
+            let mut rows = read_lines(context.alloc, shelf, name, schema)?;
+            filling.take_rows(context, &mut rows)?;
             Ok(None)
         }
     }

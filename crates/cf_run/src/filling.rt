@@ -6,6 +6,7 @@ ghost use Rattle.cf_load.specs.Planned.{IsPlan, IsSamePlan};
 ghost use Rattle.cf_run.specs.Filling.{AreLoaded, Fills, HasBatch, HasRows, IsFilled, IsFilling, IsWaiting, KeepsLog, LoadsWaiting, LoadsWhole};
 ghost use Rattle.cf_run.specs.Logs.{IsLogSealed, IsUnmade};
 
+use crate::context::Context;
 use crate::log::Unmade;
 use cf_load::{BATCH, LivePlan, LoadFault, Loader, Sealing, Segments};
 use cf_outside::Gate;
@@ -21,7 +22,6 @@ use std::thread::Threads;
 /// waits once no more is loaded, because there are more than the log may hold or a writer has no node left.
 #[derive(Drop)]
 pub(crate) struct Filling {
-    alloc: Global,
     segments: Segments,
     loader: Loader,
     waiting: Vec<Row>,
@@ -50,12 +50,10 @@ fn put_behind(waiting: &mut Vec<Row>, mut rows: Vec<Row>) -> Result<(), Memory>
 
 // Loads a batch.
 fn load<R: Threads + Sync, G: Gate>(
-    rt: &R,
-    alloc: Global,
+    context: &Context<'_, R, G>,
     segments: &mut Segments,
     loader: &mut Loader,
     rows: &[Row],
-    gate: &G,
 ) -> Result<(), Memory>
     requires { HasBatch segments.old rows.now loader.old }
     ensures shape { segments.new.shape ≡ segments.old.shape }
@@ -63,6 +61,7 @@ fn load<R: Threads + Sync, G: Gate>(
     ensures plan { loader.new.plan ≡ loader.old.plan }
     ensures loaded { IfOk result (λ _. LoadsWaiting rows.now segments.old segments.new loader.old loader.new) }
 {
+    let Context { rt, alloc, gate } = *context;
     match loader.batch(rt, alloc, segments, rows, gate) {
         Ok(()) => Ok(()),
         // This stopped the loader.
@@ -74,12 +73,10 @@ fn load<R: Threads + Sync, G: Gate>(
 
 // Loads the whole batches with which the rows begin, while the loader goes on. The answer is how many rows they have.
 fn load_whole<R: Threads + Sync, G: Gate>(
-    rt: &R,
-    alloc: Global,
+    context: &Context<'_, R, G>,
     segments: &mut Segments,
     loader: &mut Loader,
     rows: &[Row],
-    gate: &G,
 ) -> Result<usize, Memory>
     requires { HasRows segments.old rows.now loader.old }
     ensures shape { segments.new.shape ≡ segments.old.shape }
@@ -92,14 +89,7 @@ fn load_whole<R: Threads + Sync, G: Gate>(
         if loader.stopped() {
             return Ok(count);
         }
-        load(
-            rt,
-            alloc,
-            segments,
-            loader,
-            &rows[count..count + BATCH],
-            gate,
-        )?;
+        load(context, segments, loader, &rows[count..count + BATCH])?;
         count += BATCH;
     }
     Ok(count)
@@ -123,17 +113,11 @@ impl Filling {
         let segments = Segments::open(alloc, shape, most)?;
         let loader = Loader::new(alloc, &segments, plan)?;
         Ok(Filling {
-            alloc,
             segments,
             loader,
             waiting: Vec::new(alloc),
             count: 0,
         })
-    }
-
-    /// Where the log is allocated.
-    pub(crate) fn alloc(&self) -> Global {
-        self.alloc
     }
 
     /// Whether more rows came than the log may hold.
@@ -165,19 +149,15 @@ impl Filling {
     }
 
     // Loads the whole batches that wait. Once no more is loaded, none waits.
-    fn load_batches<R: Threads + Sync, G: Gate>(&mut self, rt: &R, gate: &G) -> Result<(), Memory>
+    fn load_batches<R: Threads + Sync, G: Gate>(
+        &mut self,
+        context: &Context<'_, R, G>,
+    ) -> Result<(), Memory>
         requires waiting { (rows : List RowValue) × IsWaiting self.old rows }
         ensures keeps { KeepsLog self.old self.new }
         ensures filled { IfOk result (λ _. (rows : List RowValue) → IsWaiting self.old rows → IsFilled self.new rows) }
     {
-        let count = load_whole(
-            rt,
-            self.alloc,
-            &mut self.segments,
-            &mut self.loader,
-            &self.waiting,
-            gate,
-        )?;
+        let count = load_whole(context, &mut self.segments, &mut self.loader, &self.waiting)?;
         if self.loader.stopped() {
             self.waiting.clear();
             return Ok(());
@@ -191,8 +171,7 @@ impl Filling {
     /// Takes the next rows out of the list. Each batch that they end is loaded.
     pub(crate) fn take_rows<R: Threads + Sync, G: Gate>(
         &mut self,
-        rt: &R,
-        gate: &G,
+        context: &Context<'_, R, G>,
         rows: &mut Vec<Row>,
     ) -> Result<(), Memory>
         requires fit { All (Fits self.old.segments.shape.schema) rows.old.items }
@@ -202,13 +181,13 @@ impl Filling {
         ensures filled { IfOk result (λ _. Fills self.old self.new rows.old.items) }
         ensures none { rows.new.items ≡ [] }
     {
-        let taken = mem::replace(rows, Vec::new(self.alloc()));
+        let taken = mem::replace(rows, Vec::new(context.alloc));
         if self.counts_alone(taken.len()) {
             self.waiting.clear();
             return Ok(());
         }
         put_behind(&mut self.waiting, taken)?;
-        self.load_batches(rt, gate)
+        self.load_batches(context)
     }
 
     // Whether no rows wait to be loaded, or none can be.
@@ -220,7 +199,10 @@ impl Filling {
     }
 
     // Loads the last rows, which may be fewer than a batch.
-    fn load_last<R: Threads + Sync, G: Gate>(&mut self, rt: &R, gate: &G) -> Result<(), Memory>
+    fn load_last<R: Threads + Sync, G: Gate>(
+        &mut self,
+        context: &Context<'_, R, G>,
+    ) -> Result<(), Memory>
         requires filled { IsFilling self.old }
         requires few { self.old.count ≤ room_of self.old.segments }
         ensures keeps { KeepsLog self.old self.new }
@@ -229,22 +211,14 @@ impl Filling {
         if self.is_done() {
             return Ok(());
         }
-        load(
-            rt,
-            self.alloc,
-            &mut self.segments,
-            &mut self.loader,
-            &self.waiting,
-            gate,
-        )
+        load(context, &mut self.segments, &mut self.loader, &self.waiting)
     }
 
     /// Loads the last rows, asks all questions of the whole log, and closes it: the numbers and writers of its entries are read, and
     /// no other word of them.
     pub(crate) fn finish<R: Threads + Sync, G: Gate>(
         mut self,
-        rt: &R,
-        gate: &G,
+        context: &Context<'_, R, G>,
     ) -> Result<(Sealing, Loaded), Unmade>
         requires filled { IsFilling self }
         requires few { self.count ≤ room_of self.segments }
@@ -252,18 +226,17 @@ impl Filling {
             → MatchResult result (λ made. IsLogSealed self.segments.shape self.loader.plan rows made.0 made.1)
             (IsUnmade self.segments.shape rows) }
     {
-        self.load_last(rt, gate)?;
+        self.load_last(context)?;
         if self.loader.stopped() {
             return Err(Unmade::Nodes);
         }
         let Filling {
-            alloc,
             mut segments,
             loader,
             ..
         } = self;
-        let answers = loader.finish(rt, alloc, &mut segments)?;
-        match segments.seal(alloc) {
+        let answers = loader.finish(context.rt, context.alloc, &mut segments)?;
+        match segments.seal(context.alloc) {
             Ok(sealing) => Ok((sealing, answers)),
             Err(_) => Err(Unmade::Memory),
         }

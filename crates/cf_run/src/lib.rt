@@ -6,6 +6,7 @@
 #![tactic(auto)]
 
 mod asked;
+mod context;
 mod drawn;
 mod fill;
 mod filling;

@@ -11,6 +11,7 @@ ghost use Rattle.cf_run.specs.Seals.{IsSealedReport, IsSealedFinal, IsSealedIn};
 ghost use Rattle.cf_run.specs.declared.log.Unmade.TheVariants as unmade;
 
 use crate::asked::plan_of;
+use crate::context::Context;
 use crate::filling::Filling;
 use crate::reply::Product;
 use cf_command::LogSizes;
@@ -72,9 +73,8 @@ pub(crate) fn opened(
 /// Closes the log of the rows that filled it: the numbers and writers of its entries, a seal of each segment, and the answers to
 /// all that its setup asks.
 pub(crate) fn closed_log<R: Threads + Sync, G: Gate>(
-    rt: &R,
+    context: &Context<'_, R, G>,
     filling: Filling,
-    gate: &G,
 ) -> Result<(Tags, Vec<Seal>, Loaded), Unmade>
     requires filled { IsFilling filling }
     requires few { filling.count ≤ room_of filling.segments }
@@ -82,7 +82,7 @@ pub(crate) fn closed_log<R: Threads + Sync, G: Gate>(
         → MatchResult result (λ made. IsTagged setup sizes.capacity sizes.writers sizes.nodes rounds rows made.0 made.1.items made.2)
         (IsUnmade (shaped setup sizes.capacity sizes.writers sizes.nodes) rows) }
 {
-    let (sealing, answers) = filling.finish(rt, gate)?;
+    let (sealing, answers) = filling.finish(context)?;
     let Sealing {
         nums,
         writers,
@@ -93,11 +93,9 @@ pub(crate) fn closed_log<R: Threads + Sync, G: Gate>(
 
 // The report of a setup in that form, over the rows that filled a log.
 fn report_in<R: Threads + Sync, G: Gate>(
-    rt: &R,
-    alloc: Global,
+    context: &Context<'_, R, G>,
     setup: &Setup,
     filling: Filling,
-    gate: &G,
     form: Form,
 ) -> Result<Product, Unmade>
     requires lawful { IsSetup setup.now }
@@ -108,18 +106,16 @@ fn report_in<R: Threads + Sync, G: Gate>(
         (λ made. IsSealedIn form setup.now sizes.capacity sizes.writers sizes.nodes rounds rows made.text.items made.seals.items × NodesSuffice setup.now sizes rows)
         (IsUnmade (shaped setup.now sizes.capacity sizes.writers sizes.nodes) rows) }
 {
-    let (tags, seals, answers) = closed_log(rt, filling, gate)?;
-    let text = report_by_tags(alloc, setup, &tags, &answers, form)?;
+    let (tags, seals, answers) = closed_log(context, filling)?;
+    let text = report_by_tags(context.alloc, setup, &tags, &answers, form)?;
     Ok(Product { text, seals })
 }
 
 /// The report of a setup over the rows that filled a log, with the live answers and the order of the writers.
 pub(crate) fn report_of<R: Threads + Sync, G: Gate>(
-    rt: &R,
-    alloc: Global,
+    context: &Context<'_, R, G>,
     setup: &Setup,
     filling: Filling,
-    gate: &G,
 ) -> Result<Product, Unmade>
     requires lawful { IsSetup setup.now }
     requires filled { IsFillingFor setup.now filling }
@@ -129,16 +125,14 @@ pub(crate) fn report_of<R: Threads + Sync, G: Gate>(
         (λ made. IsSealedReport setup.now sizes.capacity sizes.writers sizes.nodes rounds rows made.text.items made.seals.items × NodesSuffice setup.now sizes rows)
         (IsUnmade (shaped setup.now sizes.capacity sizes.writers sizes.nodes) rows) }
 {
-    report_in(rt, alloc, setup, filling, gate, Form::Whole)
+    report_in(context, setup, filling, Form::Whole)
 }
 
 /// The final part of the report of a setup over the rows that filled a log to which no live question was asked.
 pub(crate) fn final_of<R: Threads + Sync, G: Gate>(
-    rt: &R,
-    alloc: Global,
+    context: &Context<'_, R, G>,
     setup: &Setup,
     filling: Filling,
-    gate: &G,
 ) -> Result<Product, Unmade>
     requires lawful { IsSetup setup.now }
     requires filled { IsFillingFor setup.now filling }
@@ -148,5 +142,5 @@ pub(crate) fn final_of<R: Threads + Sync, G: Gate>(
         (λ made. IsSealedFinal setup.now sizes.capacity sizes.writers sizes.nodes rows made.text.items made.seals.items × NodesSuffice setup.now sizes rows)
         (IsUnmade (shaped setup.now sizes.capacity sizes.writers sizes.nodes) rows) }
 {
-    report_in(rt, alloc, setup, filling, gate, Form::Final)
+    report_in(context, setup, filling, Form::Final)
 }

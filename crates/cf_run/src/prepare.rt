@@ -7,6 +7,7 @@ ghost use Rattle.cf_run.specs.Parts.{EndsWith, IsPrepared};
 ghost use Rattle.cf_run.specs.Watched.{IsNoWatch};
 ghost use Rattle.cf_run.specs.Work.{draws as draws_from};
 
+use crate::context::Context;
 use crate::drawn::fill_drawn;
 use crate::fill::fill_rows;
 use crate::log::{final_of, opened, report_of};
@@ -26,17 +27,16 @@ use std::thread::Threads;
 
 // The report of a run.
 fn run_report<R: Threads + Sync, F: Shelf, G: Gate>(
-    rt: &R,
-    alloc: Global,
+    context: &Context<'_, R, G>,
     command: &RunCommand,
     shelf: &mut F,
-    gate: &G,
 ) -> Result<Product, Halt>
     requires { AreSizes command.now.sizes }
     ensures files { F.files shelf.new ≡ F.files shelf.old }
     ensures ends { EndsWith (F.files shelf.old) (Some (run (run_by command.now))) (F.rest shelf.old) (F.rest shelf.new) result }
     ensures cause { HasHaltCause (F.faults shelf.old) (F.faults shelf.new) result }
 {
+    let alloc = context.alloc;
     let setup = read_setup(alloc, shelf, command.setup)?;
     let sizes = command.sizes;
     let mut filling = opened(alloc, &setup, sizes, command.rounds)?;
@@ -44,12 +44,12 @@ fn run_report<R: Threads + Sync, F: Shelf, G: Gate>(
         format: format_of(&setup),
         truncated: command.truncated,
     };
-    let cut = fill_rows(rt, shelf, command.capture, manner, &mut filling, gate)?;
+    let cut = fill_rows(context, shelf, command.capture, manner, &mut filling)?;
     if filling.is_full() {
         let most = sizes.most();
         return Err(Halt::Refused(Refusal::Full { most }));
     }
-    match report_of(rt, alloc, &setup, filling, gate) {
+    match report_of(context, &setup, filling) {
         Ok(Product { text: body, seals }) => {
             let text = with_truncated(alloc, body, cut)?;
             Ok(Product { text, seals })
@@ -67,11 +67,9 @@ fn draws(source: Source) -> bool
 
 // The answers of a synth.
 fn synth_answers<R: Threads + Sync, F: Shelf, G: Gate>(
-    rt: &R,
-    alloc: Global,
+    context: &Context<'_, R, G>,
     command: &SynthCommand,
     shelf: &mut F,
-    gate: &G,
 ) -> Result<Product, Halt>
     requires sizes { AreSizes command.now.sizes }
     requires few { command.now.count ≤ 2 ^ 20 }
@@ -79,6 +77,7 @@ fn synth_answers<R: Threads + Sync, F: Shelf, G: Gate>(
     ensures ends { EndsWith (F.files shelf.old) (Some (synth (synth_by command.now))) (F.rest shelf.old) (F.rest shelf.new) result }
     ensures cause { HasHaltCause (F.faults shelf.old) (F.faults shelf.new) result }
 {
+    let alloc = context.alloc;
     let setup = read_setup(alloc, shelf, command.setup)?;
     if !draws(setup.source()) {
         let line = setup.schema_line();
@@ -91,8 +90,8 @@ fn synth_answers<R: Threads + Sync, F: Shelf, G: Gate>(
         return Err(Halt::Refused(Refusal::Full { most }));
     }
     let mut filling = opened(alloc, &setup, sizes, 0)?;
-    fill_drawn(rt, command.seed, command.count, &mut filling, gate)?;
-    match final_of(rt, alloc, &setup, filling, gate) {
+    fill_drawn(context, command.seed, command.count, &mut filling)?;
+    match final_of(context, &setup, filling) {
         Ok(product) => Ok(product),
         Err(why) => Err(why.halt(sizes.nodes)),
     }
@@ -122,17 +121,16 @@ fn dump_listing<F: Shelf>(
 
 // The answers of a snapshot, at its cut.
 fn snapshot_answers<R: Threads + Sync, F: Shelf, G: Gate>(
-    rt: &R,
-    alloc: Global,
+    context: &Context<'_, R, G>,
     command: &SnapshotCommand,
     shelf: &mut F,
-    gate: &G,
 ) -> Result<Product, Halt>
     requires { IsSnapshotInRange command.now }
     ensures files { F.files shelf.new ≡ F.files shelf.old }
     ensures ends { EndsWith (F.files shelf.old) (Some (snapshot (snapshot_by command.now))) (F.rest shelf.old) (F.rest shelf.new) result }
     ensures cause { HasHaltCause (F.faults shelf.old) (F.faults shelf.new) result }
 {
+    let alloc = context.alloc;
     let setup = read_setup(alloc, shelf, command.setup)?;
     let manner = Manner {
         format: format_of(&setup),
@@ -147,22 +145,20 @@ fn snapshot_answers<R: Threads + Sync, F: Shelf, G: Gate>(
     if is_some_full(&hosts, capacity) {
         return Err(Halt::Refused(Refusal::Full { most: capacity }));
     }
-    match load_hosts(rt, alloc, &setup, &hosts, command.sizes, gate) {
+    match load_hosts(context, &setup, &hosts, command.sizes) {
         Ok(()) => {}
         Err(why) => return Err(why.halt(nodes)),
     }
-    let text = cut_text(rt, alloc, command, &setup, &hosts, gate)?;
+    let text = cut_text(context, command, &setup, &hosts)?;
     let seals = Vec::new(alloc);
     Ok(Product { text, seals })
 }
 
 // The product of a command, which is no watch. No command means that the words are none.
 fn product_of<R: Threads + Sync, F: Shelf, G: Gate>(
-    rt: &R,
-    alloc: Global,
+    context: &Context<'_, R, G>,
     command: Option<Command>,
     shelf: &mut F,
-    gate: &G,
 ) -> Result<Product, Halt>
     requires range { IfSome command IsInRange }
     requires whole { IsNoWatch (option_map call_by command) }
@@ -172,10 +168,10 @@ fn product_of<R: Threads + Sync, F: Shelf, G: Gate>(
     ensures no_words { option_map call_by command.entry ≡ None → shelf.new ≡ shelf.old }
 {
     match command {
-        Some(Command::Run(command)) => run_report(rt, alloc, &command, shelf, gate),
-        Some(Command::Synth(command)) => synth_answers(rt, alloc, &command, shelf, gate),
-        Some(Command::Dump(command)) => dump_listing(alloc, &command, shelf),
-        Some(Command::Snapshot(command)) => snapshot_answers(rt, alloc, &command, shelf, gate),
+        Some(Command::Run(command)) => run_report(context, &command, shelf),
+        Some(Command::Synth(command)) => synth_answers(context, &command, shelf),
+        Some(Command::Dump(command)) => dump_listing(context.alloc, &command, shelf),
+        Some(Command::Snapshot(command)) => snapshot_answers(context, &command, shelf),
         // A watch is no report.
         Some(Command::Watch(_)) => unreachable!(),
         None => Err(Halt::Refused(Refusal::Words)),
@@ -184,11 +180,9 @@ fn product_of<R: Threads + Sync, F: Shelf, G: Gate>(
 
 /// The reply to a command, which is no watch, or why nothing is written. No command means that the words are none.
 pub(crate) fn prepare<R: Threads + Sync, F: Shelf, G: Gate>(
-    rt: &R,
-    alloc: Global,
+    context: &Context<'_, R, G>,
     command: Option<Command>,
     shelf: &mut F,
-    gate: &G,
 ) -> Result<WorkReply, Stop>
     requires range { IfSome command IsInRange }
     requires whole { IsNoWatch (option_map call_by command) }
@@ -197,9 +191,9 @@ pub(crate) fn prepare<R: Threads + Sync, F: Shelf, G: Gate>(
     ensures cause { HasStopCause (F.faults shelf.old) (F.faults shelf.new) result }
     ensures no_words { option_map call_by command.entry ≡ None → shelf.new ≡ shelf.old }
 {
-    match product_of(rt, alloc, command, shelf, gate) {
+    match product_of(context, command, shelf) {
         Ok(Product { text, seals }) => Ok(WorkReply::Done { text, seals }),
-        Err(Halt::Refused(refusal)) => refused(alloc, refusal),
+        Err(Halt::Refused(refusal)) => refused(context.alloc, refusal),
         Err(Halt::Stopped(stop)) => Err(stop),
     }
 }

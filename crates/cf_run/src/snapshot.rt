@@ -33,6 +33,7 @@ ghost use Rattle.cf_run.specs.Parts.{AreWithin, ends_each};
 ghost use Rattle.cf_run.specs.Work.{host_lines_at, shape_for};
 ghost use Rattle.cf_run.specs.declared.log.Unmade.TheVariants.{Nodes};
 
+use crate::context::Context;
 use crate::filling::Filling;
 use crate::log::{Unmade, closed_log, opened};
 use cf_command::{LogSizes, SnapshotCommand};
@@ -73,12 +74,10 @@ fn copies(alloc: Global, rows: &[Row]) -> Result<Vec<Row>, Memory>
 
 // Loads rows into a log of one segment, and asks nothing.
 fn load_silently<R: Threads + Sync, G: Gate>(
-    rt: &R,
-    alloc: Global,
+    context: &Context<'_, R, G>,
     setup: &Setup,
     rows: &[Row],
     sizes: LogSizes,
-    gate: &G,
 ) -> Result<(), Unmade>
     requires fit { All (Fits setup.now.schema) rows.now }
     requires few { length rows.now ≤ sizes.capacity }
@@ -86,6 +85,7 @@ fn load_silently<R: Threads + Sync, G: Gate>(
     ensures { MatchResult result (λ _. distinct (shape_for setup.now sizes) rows.now ≤ sizes.writers * sizes.nodes)
         (IsUnmadeAlone (shape_for setup.now sizes) rows.now) }
 {
+    let alloc = context.alloc;
     let shape = shape_of(alloc, setup, sizes.capacity, sizes.writers, sizes.nodes)?;
     let plan = LivePlan {
         asks: Vec::new(alloc),
@@ -95,19 +95,17 @@ fn load_silently<R: Threads + Sync, G: Gate>(
     };
     let mut filling = Filling::new(alloc, shape, 1, &plan)?;
     let mut copied = copies(alloc, rows)?;
-    filling.take_rows(rt, gate, &mut copied)?;
-    filling.finish(rt, gate)?;
+    filling.take_rows(context, &mut copied)?;
+    filling.finish(context)?;
     Ok(())
 }
 
 /// Loads all rows of each host into a log of its own, which shows whether each log has the nodes for them.
 pub(crate) fn load_hosts<R: Threads + Sync, G: Gate>(
-    rt: &R,
-    alloc: Global,
+    context: &Context<'_, R, G>,
     setup: &Setup,
     hosts: &[Captured],
     sizes: LogSizes,
-    gate: &G,
 ) -> Result<(), Unmade>
     requires fit { All (All (Fits setup.now.schema)) (rows_each hosts.now) }
     requires few { All (λ rows. length rows ≤ sizes.capacity) (rows_each hosts.now) }
@@ -116,7 +114,7 @@ pub(crate) fn load_hosts<R: Threads + Sync, G: Gate>(
         (λ why. why ≡ Nodes → Any (λ rows. sizes.nodes < distinct (shape_for setup.now sizes) rows) (rows_each hosts.now)) }
 {
     for host in hosts {
-        load_silently(rt, alloc, setup, &host.rows, sizes, gate)?;
+        load_silently(context, setup, &host.rows, sizes)?;
     }
     Ok(())
 }
@@ -149,15 +147,13 @@ fn count_in_cut(cut: &[u32]) -> u32
 // What the log of each host is made by.
 #[derive(Clone, Copy)]
 struct HostLog<'a> {
-    alloc: Global,
     setup: &'a Setup,
     sizes: LogSizes,
 }
 
 // Writes the part of a host, with its answers on these rows, which are loaded into a log of one writer and one segment.
 fn push_answers<R: Threads + Sync, G: Gate>(
-    rt: &R,
-    gate: &G,
+    context: &Context<'_, R, G>,
     text: &mut String,
     log: &HostLog,
     host: usize,
@@ -173,15 +169,12 @@ fn push_answers<R: Threads + Sync, G: Gate>(
         (string_bytes text.new ≡ string_bytes text.old ++ host_text (shape_for log.now.setup.now log.now.sizes) log.now.setup.now host rows.now) }
     ensures unmade { MatchResult result (λ _. Unit {0}) (IsUnmadeAlone (shape_for log.now.setup.now log.now.sizes) rows.now) }
 {
-    let HostLog {
-        alloc,
-        setup,
-        sizes,
-    } = *log;
+    let HostLog { setup, sizes } = *log;
+    let alloc = context.alloc;
     let mut filling = opened(alloc, setup, sizes, 0)?;
     let mut copied = copies(alloc, rows)?;
-    filling.take_rows(rt, gate, &mut copied)?;
-    let (tags, _seals, answers) = closed_log(rt, filling, gate)?;
+    filling.take_rows(context, &mut copied)?;
+    let (tags, _seals, answers) = closed_log(context, filling)?;
     push_host_by_tags(alloc, text, setup, host, &tags, answers.finals())?;
     Ok(())
 }
@@ -189,8 +182,7 @@ fn push_answers<R: Threads + Sync, G: Gate>(
 // Writes the part of each host, with its answers on those of its rows that are in the cut, and the line of its capture where this is
 // truncated.
 fn push_hosts<R: Threads + Sync, G: Gate>(
-    rt: &R,
-    gate: &G,
+    context: &Context<'_, R, G>,
     text: &mut String,
     log: &HostLog,
     hosts: &[Captured],
@@ -211,7 +203,7 @@ fn push_hosts<R: Threads + Sync, G: Gate>(
     for host in 0..hosts.len() {
         let captured = &hosts[host];
         let rows = &captured.rows[..cut[host] as usize];
-        match push_answers(rt, gate, text, log, host, rows) {
+        match push_answers(context, text, log, host, rows) {
             Ok(()) => {}
             Err(Unmade::Memory) => return Err(AllocError),
             // There are nodes for all its rows.
@@ -224,12 +216,10 @@ fn push_hosts<R: Threads + Sync, G: Gate>(
 
 /// The answers of hosts that have these rows, at the cut of the command.
 pub(crate) fn cut_text<R: Threads + Sync, G: Gate>(
-    rt: &R,
-    alloc: Global,
+    context: &Context<'_, R, G>,
     command: &SnapshotCommand,
     setup: &Setup,
     hosts: &[Captured],
-    gate: &G,
 ) -> Result<Vec<u8>, Memory>
     requires lawful { IsSetup setup.now }
     requires fit { All (All (Fits setup.now.schema)) (rows_each hosts.now) }
@@ -238,16 +228,13 @@ pub(crate) fn cut_text<R: Threads + Sync, G: Gate>(
     requires size { length hosts.now ≡ length command.now.captures.items }
     ensures { IfOk result (λ text. IsSnapshotOf (snapshot_by command.now) setup.now (rows_each hosts.now) (ends_each hosts.now) text.items) }
 {
+    let alloc = context.alloc;
     let counts = counts_of(alloc, hosts)?;
     let cut = cut_of_turns(alloc, &counts, command.turns, command.turn)?;
     let mut text = String::new(alloc);
     push_cut(&mut text, count_in_cut(&cut))?;
     let sizes = command.sizes;
-    let log = HostLog {
-        alloc,
-        setup,
-        sizes,
-    };
-    push_hosts(rt, gate, &mut text, &log, hosts, &cut)?;
+    let log = HostLog { setup, sizes };
+    push_hosts(context, &mut text, &log, hosts, &cut)?;
     Ok(text.into_bytes())
 }

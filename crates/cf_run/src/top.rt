@@ -10,6 +10,7 @@ ghost use Rattle.cf_run.specs.Watched.{IsNoWatch};
 ghost use Rattle.cf_intake.specs.Refusals.{line_of};
 ghost use Rattle.cf_intake.specs.declared.refusal.Refusal.TheVariants as refusals;
 
+use crate::context::Context;
 use crate::prepare::prepare;
 use crate::watched::watch;
 use crate::{Outcome, Status};
@@ -32,12 +33,10 @@ fn unsealed(alloc: Global, status: Status) -> Outcome
 
 // Does the work of a command that is no watch, or tells that the words are none: all text is made before the first write.
 fn report<R: Threads + Sync, F: Shelf, K: Sink, G: Gate>(
-    rt: &R,
-    alloc: Global,
+    context: &Context<'_, R, G>,
     command: Option<Command>,
     shelf: &mut F,
     sink: &mut K,
-    gate: &G,
 ) -> Outcome
     requires range { IfSome command IsInRange }
     requires whole { IsNoWatch (option_map call_by command) }
@@ -60,7 +59,8 @@ fn report<R: Threads + Sync, F: Shelf, K: Sink, G: Gate>(
     ensures shelf_count { F.faults shelf.old ≤ F.faults shelf.new }
     ensures sink_count { K.faults sink.old ≤ K.faults sink.new }
 {
-    let reply = match prepare(rt, alloc, command, shelf, gate) {
+    let alloc = context.alloc;
+    let reply = match prepare(context, command, shelf) {
         Ok(reply) => reply,
         Err(stop) => return unsealed(alloc, Status::from(stop)),
     };
@@ -129,7 +129,7 @@ pub fn run<R: Threads + Sync, F: Shelf, K: Sink, G: Gate>(
     };
     match command {
         Some(Command::Watch(command)) => unsealed(alloc, watch(rt, alloc, &command, shelf, sink)),
-        _ => report(rt, alloc, command, shelf, sink, gate),
+        _ => report(&Context { rt, alloc, gate }, command, shelf, sink),
     }
 }
 
