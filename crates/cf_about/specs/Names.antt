@@ -1,6 +1,5 @@
 -- What a setup names.
 use Rattle.std.specs.Prelude.{ℕ, ◌==◌, if◌then◌else◌, List, [], map, Option, slice_get}
-use Rattle.cf_row.specs.declared.schema.Attr.{Attr}
 use Rattle.cf_setup.specs.Setups.{SetupValue}
 
 -- the names of a sort: 0 the attributes, 1 the lanes, 2 the triggers, 3 the questions

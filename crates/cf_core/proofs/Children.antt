@@ -1,7 +1,6 @@
 -- Child words by their places, and loads of them.
 use Rattle.std.proofs.Common.{◌≡◌, ℕ, ◌+◌, ◌*◌, ◌<◌, zero, suc, List, [], ◌∷◌, length, set, get_or, Option, Some, None, MatchOption, slice_get, refl, arith, ap, ap₂, sym, ◌∙◌, subst}
 use Rattle.std.proofs.lemmas.Option.{slice_get_read}
-use Rattle.cf_shape.proofs.KeyLevels.{levels_two}
 use Rattle.cf_shape.specs.Places.{Slot, place, IsReal}
 use Rattle.cf_shape.specs.Places.Slot.{root, body}
 use Rattle.cf_words.specs.Words.{Spot, spot}
@@ -15,7 +14,7 @@ use Rattle.cf_law.specs.Events.{IsEvent, word_at}
 use Rattle.cf_law.specs.Events.WorldEvent.{acts}
 use Rattle.cf_law.specs.Shapes.{layout}
 use Rattle.cf_law.proofs.Readers.{bounded}
-use Rattle.cf_core.specs.Worlds.{WorldValue, IsLawfulWorld, IsLivePass, IsRootAt, NoRootAt, IsChildOf, NoneBelow, IsChildAt, NoChildAt, IsNode, world_of}
+use Rattle.cf_core.specs.Worlds.{WorldValue, IsLawfulWorld, IsLivePass, NoRootAt, IsChildOf, NoneBelow, IsChildAt, NoChildAt, IsNode, world_of}
 use Rattle.cf_core.proofs.Making.{does_step, word_there, live_one}
 use Rattle.cf_core.proofs.Inverse.{acts_of, child_of}
 
@@ -38,14 +37,6 @@ bounds h k p is live = bounded (layout h.shape) is.law.base p is.law.stands.law 
 
 pub node_is : (h : WorldValue) (k i : ℕ) (p : Pass) (x : Spot × ℕ) → IsLawfulWorld h → IsLivePass h k p → slice_get p.known i ≡ Some x → IsNode h x
 node_is h k i p x is live at = let b = (bounds h k p is live).known i x.1 x.0 at in (b.0, b.1)
-
--- A place is that of one child word at most, and the searches find it.
-pub root_found : (h : WorldValue) (p : Pass) (at l d : ℕ) → IsLawfulWorld h → IsRootAt h at l d → IsChildAt h p at (spot l (d ∷ []))
-root_found h p at l d is found = (
-  root l d,
-  record { reaches = refl; real = (found.0, found.1); inner = levels_two h.shape l is.shape found.0 },
-  found.2,
-)
 
 some_writer : (n w m : ℕ) → n < w * m → 0 < w
 some_writer n zero m lt = absurd (omega arith)

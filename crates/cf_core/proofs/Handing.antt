@@ -12,9 +12,6 @@ use Rattle.cf_law.specs.Events.WorldEvent.{splits, joins}
 use Rattle.cf_law.specs.Events.IsEvent.{parts, meets}
 use Rattle.cf_law.specs.Shapes.{layout}
 use Rattle.cf_core.specs.Worlds.{WorldValue, IsLawfulWorld, IsLivePass, world_of}
-use Rattle.cf_pass.specs.Books.{NoneHeld}
-use Rattle.cf_core.proofs.Making.{live_one}
-use Rattle.cf_core.proofs.Inverse.{parts_of, hands_of, meets_of}
 
 pub bare_does : (h : WorldValue) (k : ℕ) (p left right : Pass) → IsLivePass h k p → left ≡ p → right ≡ new_pass [] p.seen
     → IsEvent (layout h.shape) (world_of h) k (splits None) (record { words = h.words; passes = set h.passes k left ++ right ∷ [] })
@@ -35,14 +32,6 @@ hands_does h k j w p left right b live held writer l r =
     (subst (IsEvent (layout h.shape) (world_of h) k (splits (Some b.writer))) same
     (parts p (record p { books = without j p.books }) (new_pass (b ∷ []) p.seen) (Some b.writer) live (hands j b held)))
 
-pub hands_none : (h : WorldValue) (k w : ℕ) (p : Pass) (y : World) → IsLivePass h k p → NoneHeld p w
-    → IsEvent (layout h.shape) (world_of h) k (splits (Some w)) y → ⊥
-hands_none h k w p y live none does =
-    let A = parts_of (layout h.shape) (world_of h) k (Some w) y does in
-    let r = hands_of A.pass A.left A.right w A.split in
-    let same = live_one h k A.pass p A.live live in
-    none r.0 r.1 (subst (λ (q : Pass). Holds q r.0 r.1) same r.2) r.3
-
 pub joins_does : (h : WorldValue) (k j : ℕ) (p q one other : Pass) → IsLivePass h k p → IsLivePass h j q → (j ≡ k → ⊥) → IsAtRest q → one ≡ joined_pass p q
     → other ≡ spent_pass
     → IsEvent (layout h.shape) (world_of h) k (joins j) (record { words = h.words; passes = set (set h.passes k one) j other })
@@ -51,12 +40,6 @@ joins_does h k j p q one other live there ne rests a b =
     (record { words = h.words; passes = set (set h.passes k one) j other }) =
     ap₂ (λ (x y : Pass). record { words = h.words; passes = set (set h.passes k x) j y }) (sym a) (sym b) in
     subst (IsEvent (layout h.shape) (world_of h) k (joins j)) same (meets p q j live there ne rests)
-
-pub joins_only : (h : WorldValue) (k j : ℕ) (q : Pass) (y : World) → IsLivePass h j q → IsEvent (layout h.shape) (world_of h) k (joins j) y → (j ≡ k → ⊥)
-    × IsAtRest q
-joins_only h k j q y there does =
-    let A = meets_of (layout h.shape) (world_of h) k j y does in
-    let same = live_one h j A.other q A.there there in (A.apart, subst IsAtRest same A.rests)
 
 -- a pass that is added behind
 pub pushed : (passes : List Pass) (k : ℕ) (left right : Pass) → k < length passes → set (passes ++ right ∷ []) k left ≡ set passes k left ++ right ∷ []

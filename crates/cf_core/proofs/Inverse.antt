@@ -8,14 +8,13 @@ use Rattle.cf_shape.specs.Uses.Use.{version}
 use Rattle.cf_words.specs.Words.{Spot, spot, Layout, has}
 use Rattle.cf_words.specs.Law.{IsWhole}
 use Rattle.cf_law.specs.Passes.{Book, Flight, Pass}
-use Rattle.cf_law.specs.Steps.{Act, Step, Splits, Holds, HoldsInFlight, IsNext, IsAtRest, IsChild, Knows, IsOwn, IsNamed, free_node, label_of, ticket_of, own_word}
-use Rattle.cf_law.specs.Steps.Act.{take_ticket, store_cell, finish_record, advance, look_done, load_word, label, link, store_head, load_child, load_head, load_cell}
-use Rattle.cf_law.specs.Steps.Step.{takes, stores, finishes, advances, looks_done, loads_word, labels, links, heads, loads_child, loads_head, loads_cell}
-use Rattle.cf_law.specs.Steps.Splits.{hands}
+use Rattle.cf_law.specs.Steps.{Act, Step, Splits, Holds, HoldsInFlight, IsNext, IsChild, Knows, IsOwn, IsNamed, free_node, label_of, ticket_of, own_word}
+use Rattle.cf_law.specs.Steps.Act.{store_cell, finish_record, advance, load_word, label, link, store_head, load_child, load_head, load_cell}
+use Rattle.cf_law.specs.Steps.Step.{stores, finishes, advances, loads_word, labels, links, heads, loads_child, loads_head, loads_cell}
 use Rattle.cf_law.specs.Lawful.{World}
 use Rattle.cf_law.specs.Events.{IsEvent, IsLive}
-use Rattle.cf_law.specs.Events.WorldEvent.{acts, splits, joins}
-use Rattle.cf_law.specs.Events.IsEvent.{steps, parts, meets}
+use Rattle.cf_law.specs.Events.WorldEvent.{acts, splits}
+use Rattle.cf_law.specs.Events.IsEvent.{steps, parts}
 
 -- a step of that name by the pass
 pub record Acts (sh : Layout) (x : World) (k : ℕ) (a : Act) : Type 0 where
@@ -35,9 +34,6 @@ pub record Takes (sh : Layout) (p : Pass) (r : RowValue) : Type 0 where
   pub one : p.books ≡ book ∷ []
   pub free : book.over ≡ false
   pub rests : book.flight ≡ None
-
-pub takes_of : (sh : Layout) (p : Pass) (r : RowValue) (t : Slot) (f : ℕ → ℕ) (g : ℕ → List Entry → Pass) → Step sh p (take_ticket r) t f g → Takes sh p r
-takes_of sh p r t f g (takes s b fits one free rests) = record { book = b; fits = fits; one = one; free = free; rests = rests }
 
 pub record Stores (sh : Layout) (p : Pass) (o i v : ℕ) : Type 0 where
   pub place : ℕ
@@ -76,9 +72,6 @@ pub advances_of : (sh : Layout) (p : Pass) (n : ℕ) (t : Slot) (f : ℕ → ℕ
 advances_of sh p n t f g (advances m i seen within last word value) =
     record { last = i; seen = seen; within = within; is_last = last; word = word; value = value }
 
-pub looks_of : (sh : Layout) (p : Pass) (o : ℕ) (t : Slot) (f : ℕ → ℕ) (g : ℕ → List Entry → Pass) → Step sh p (look_done o) t f g → o < sh.sizes.tickets
-looks_of sh p o t f g (looks_done m i within last) = within
-
 pub loads_of : (sh : Layout) (p : Pass) (o i : ℕ) (t : Slot) (f : ℕ → ℕ) (g : ℕ → List Entry → Pass) → Step sh p (load_word o i) t f g → (o < length p.seen)
     × (i < sh.sizes.ticket_words)
 loads_of sh p o i t f g (loads_word m j seen within) = (seen, within)
@@ -92,20 +85,6 @@ pub record Parts (sh : Layout) (x : World) (k : ℕ) (w : Option ℕ) : Type 0 w
 
 pub parts_of : (sh : Layout) (x : World) (k : ℕ) (w : Option ℕ) (y : World) → IsEvent sh x k (splits w) y → Parts sh x k w
 parts_of sh x k w y (parts p left right v live split) = record { pass = p; left = left; right = right; live = live; split = split }
-
-pub hands_of : (p left right : Pass) (w : ℕ) → Splits p (Some w) left right → (k : ℕ) × (b : Book) × Holds p k b × (b.writer ≡ w)
-hands_of p left right w (hands k b held) = (k, b, held, refl)
-
-pub record Meets (sh : Layout) (x : World) (k j : ℕ) : Type 0 where
-  pub pass : Pass
-  pub other : Pass
-  pub live : IsLive x k pass
-  pub there : IsLive x j other
-  pub apart : j ≡ k → ⊥
-  pub rests : IsAtRest other
-
-pub meets_of : (sh : Layout) (x : World) (k j : ℕ) (y : World) → IsEvent sh x k (joins j) y → Meets sh x k j
-meets_of sh x k j y (meets p q i live there apart rests) = record { pass = p; other = q; live = live; there = there; apart = apart; rests = rests }
 
 -- the child word, by its place
 pub child_of : (sh : Layout) (p : Pass) (at : ℕ) (t : Slot) (f : ℕ → ℕ) (g : ℕ → List Entry → Pass) → Step sh p (load_child at) t f g → (s : Spot)

@@ -1,5 +1,5 @@
 -- Labels and links.
-use Rattle.std.proofs.Common.{◌≡◌, ℕ, ◌+◌, ◌*◌, ◌/◌, ◌%◌, ◌<◌, ◌≤◌, zero, suc, List, length, set, get_or, Option, Some, None, slice_get, refl, arith, ap, ap₂, sym, ◌∙◌, subst}
+use Rattle.std.proofs.Common.{◌≡◌, ℕ, ◌+◌, ◌*◌, ◌/◌, ◌%◌, ◌<◌, ◌≤◌, List, length, set, get_or, Option, Some, None, slice_get, arith, ap, ap₂, sym, ◌∙◌, subst}
 use Rattle.std.proofs.lemmas.Nat.{mul-add-lt}
 use Rattle.cf_row.specs.declared.schema.Attr.{Attr}
 use Rattle.cf_row.specs.declared.schema.Kind.{Kind}
@@ -48,10 +48,6 @@ levels_few s l = key_few s.schema (lane_at s l).key
 
 pub child_low : (h : WorldValue) (p : Pass) (s : Spot) (t : Slot) → IsChild (layout h.shape) p s t → length s.path < 32
 child_low h p s t child = let inner = child.inner in omega (arith, inner, levels_few h.shape s.lane)
-
--- the label's place and level
-pub label_is : (h : WorldValue) (p : Pass) (value : ℕ) (s : Spot) → IsChildAt h p (value / 32) s → length s.path ≡ value % 32 → IsLabelOf h p value s
-label_is h p value s child level = (child.0, child.1, (let at = child.2 in omega (arith, at, level)))
 
 pub label_child : (h : WorldValue) (p : Pass) (value : ℕ) (s : Spot) → IsLabelOf h p value s → IsChildAt h p (value / 32) s × (length s.path ≡ value % 32)
 label_child h p value s named =
@@ -114,11 +110,6 @@ label_named h k node value p y live none does =
     let r = labels_of sh A.pass node value A.slot A.change A.after A.step in
     let same = live_one h k A.pass p A.live live in
     none r.spot (r.slot, subst (λ (q : Pass). IsChild sh q r.spot r.slot) same r.child, r.value)
-
--- Links.
-pub child_word_is : (node found : ℕ) → (found ≡ 0 → ⊥) → found ≡ child_word node found
-child_word_is node zero ne = absurd (ne refl)
-child_word_is node (suc n) ne = refl
 
 pub link_does : (h : WorldValue) (k at node found left j : ℕ) (p after : Pass) (b : Book) (s : Spot) → IsLivePass h k p → IsFree h.shape.nodes p node j b
     → IsChildAt h p at s → b.label ≡ 32 * at + length s.path → found ≡ get_or h.words at 0 → left ≡ child_word node found

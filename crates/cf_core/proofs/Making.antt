@@ -18,8 +18,8 @@ use Rattle.cf_law.specs.Events.IsEvent.{steps}
 use Rattle.cf_law.specs.Shapes.{layout}
 use Rattle.cf_law.proofs.Shapes.{layout_law}
 use Rattle.cf_law.proofs.Runs.{kept}
-use Rattle.cf_core.specs.Worlds.{WorldValue, IsLawfulWorld, Answers, NoPass, IsLivePass, world_of}
-use Rattle.cf_core.proofs.Inverse.{acts_of, looks_of, loads_of}
+use Rattle.cf_core.specs.Worlds.{WorldValue, IsLawfulWorld, Answers, IsLivePass, world_of}
+use Rattle.cf_core.proofs.Inverse.{acts_of, loads_of}
 
 -- a step by the place, the value and the pass that it leaves
 pub does_step : (sh : Layout) (x : World) (k : ℕ) (p : Pass) (a : Act) (t : Slot) (f : ℕ → ℕ) (g : ℕ → List Entry → Pass) (at value : ℕ) (after : Pass)
@@ -51,9 +51,6 @@ made h new k e words passes is does = subst (λ (n : WorldValue). Answers h k e 
 pub live_one : (h : WorldValue) (k : ℕ) (p q : Pass) → IsLivePass h k p → IsLivePass h k q → p ≡ q
 live_one h k p q a b = cc (a.0, b.0)
 
-pub none_live : (h : WorldValue) (k : ℕ) (a : Act) (y : World) → NoPass h k → IsEvent (layout h.shape) (world_of h) k (acts a) y → ⊥
-none_live h k a y none does = let A = acts_of (layout h.shape) (world_of h) k a y does in none A.pass A.live
-
 pub word_there : (h : WorldValue) (t : Slot) → IsLawfulWorld h → IsReal (layout h.shape).sizes t → place (layout h.shape).sizes t < length h.words
 word_there h t is real = let w = place_within (layout h.shape).sizes t real in let m = is.law.base in let size = is.law.stands.law.size in
     omega (arith, w, size, ap (length {A = ℕ}) is.law.spelled)
@@ -72,10 +69,6 @@ look_does h k offset at i found p after live lt last e v is =
     (looks_done offset i lt last) e word
     (is ∙ ap₂ (λ (a b : ℕ). pass_with_look a b p) e word)
 
-pub look_only : (h : WorldValue) (k offset : ℕ) (y : World) → IsEvent (layout h.shape) (world_of h) k (acts (look_done offset)) y → offset < h.shape.capacity
-look_only h k offset y does = let A = acts_of (layout h.shape) (world_of h) k (look_done offset) y does in
-    looks_of (layout h.shape) A.pass offset A.slot A.change A.after A.step
-
 pub load_does : (h : WorldValue) (k offset at i found : ℕ) (p after : Pass) → IsLivePass h k p → offset < length p.seen → i < ticket_words h.shape
     → at ≡ place (layout h.shape).sizes (cell offset i) → found ≡ get_or h.words at 0 → after ≡ pass_with_look at found p
     → IsEvent (layout h.shape) (world_of h) k (acts (load_word offset i)) (record { words = set h.words at found; passes = set h.passes k after })
@@ -92,8 +85,3 @@ load_only h k offset i p y live does =
     let A = acts_of (layout h.shape) (world_of h) k (load_word offset i) y does in
     let r = loads_of (layout h.shape) A.pass offset i A.slot A.change A.after A.step in
     let same = live_one h k A.pass p A.live live in (subst (λ (q : Pass). offset < length q.seen) same r.0, r.1)
-
--- what was seen is within the table
-pub seen_within : (h : WorldValue) (k : ℕ) (p : Pass) → IsLawfulWorld h → IsLivePass h k p → length p.seen ≤ h.shape.capacity
-seen_within h k p is live = let m = is.law.base in let S = is.law.stands in let a = (S.knows k p live.0).within in let b = S.law.covered in let c =
-    S.law.room in omega (arith, a, b, c)

@@ -1,11 +1,11 @@
 -- Paths of rows in lanes, and the words of tickets that are passed over.
-use Rattle.std.proofs.Common.{◌≡◌, ℕ, ◌+◌, ◌-◌, ◌<◌, ◌≤◌, zero, suc, List, [], ◌∷◌, ◌++◌, length, take, drop, get_or, cond, Bool, true, false, Option, Some, None, slice_get, ◌==◌, inl, inr, refl, arith, ap, ap₂, sym, ◌∙◌, subst}
+use Rattle.std.proofs.Common.{◌≡◌, ℕ, ◌+◌, ◌-◌, ◌<◌, ◌≤◌, zero, suc, List, [], ◌∷◌, ◌++◌, length, take, drop, get_or, cond, Bool, true, false, Option, Some, None, ◌==◌, refl, arith, ap, sym, ◌∙◌}
 use Rattle.std.proofs.lemmas.Bool.{eq-eqb, ne_eqb}
-use Rattle.std.proofs.lemmas.List.{take_all, drop_more, drop_all}
+use Rattle.std.proofs.lemmas.List.{drop_more, drop_all}
 use Rattle.cf_row.specs.Row.{RowValue}
 use Rattle.cf_row.specs.Words.{word_count}
 use Rattle.cf_shape.specs.declared.lane.Lane.{Lane}
-use Rattle.cf_shape.specs.Lanes.{ShapeValue, lane_at, no_lane, selected_by}
+use Rattle.cf_shape.specs.Lanes.{ShapeValue, lane_at, no_lane}
 use Rattle.cf_shape.specs.Uses.{cell_count, cell_words, cells_before, ticket_words, use_at}
 use Rattle.cf_shape.proofs.Counts.{count_cons, count_none}
 use Rattle.cf_shape.proofs.Used.{plain_at, version_at}
@@ -15,7 +15,7 @@ use Rattle.cf_words.proofs.Chains.{same_bool, same_path_true, same_path_intro}
 use Rattle.cf_law.specs.Nibbles.{nibbles}
 use Rattle.cf_law.specs.Steps.{IsNext}
 use Rattle.cf_law.specs.Shapes.{layout}
-use Rattle.cf_law.proofs.Paths.{path_none, none_path, skips_any}
+use Rattle.cf_law.proofs.Paths.{skips_any}
 use Rattle.cf_law.proofs.Nibbles.{nibbles_more}
 use Rattle.cf_core.specs.Worlds.{HasCell, IsPlainUse, IsCellUse, IsPassed, ArePassed, draft}
 
@@ -35,45 +35,17 @@ cells_first s = count_none
 pub cells_next : (s : ShapeValue) (l : ℕ) → l < length s.lanes → cells_before s (l + 1) ≡ cells_before s l + cell_words (lane_at s l)
 cells_next s l lt = count_take s.lanes l lt
 
-pub cells_last : (s : ShapeValue) (l : ℕ) → length s.lanes ≤ l → cells_before s l ≡ cell_count s.lanes
-cells_last s l le = ap cell_count (take_all l s.lanes le)
-
 pub cell_use : (s : ShapeValue) (i l j : ℕ) → i ≡ word_count s.schema + 1 + cells_before s l + j → HasCell s l j → IsCellUse s i l j
 cell_use s i l j e has = (has, ap (use_at s) e ∙ version_at s l j has.0 has.1)
 
 pub plain_use : (s : ShapeValue) (i : ℕ) → i < word_count s.schema + 1 → IsPlainUse s i
 plain_use s i lt = (lt, plain_at s i lt)
 
--- words that are passed over
-pub plain_not_passed : (s : ShapeValue) (row : RowValue) (i : ℕ) → IsPlainUse s i → IsPassed s row i → ⊥
-plain_not_passed s row i is h = subst (Skips (layout s) (draft row 0)) is.1 h
-
-pub cell_passed : (s : ShapeValue) (row : RowValue) (i l j : ℕ) → IsCellUse s i l j → selected_by s l row ≡ false → IsPassed s row i
-cell_passed s row i l j is e = subst (Skips (layout s) (draft row 0)) (sym is.1) (path_none s row l e)
-
-pub cell_not_passed : (s : ShapeValue) (row : RowValue) (i l j : ℕ) → IsCellUse s i l j → IsPassed s row i → selected_by s l row ≡ false
-cell_not_passed s row i l j is h = none_path s row l (subst (Skips (layout s) (draft row 0)) is.1 h)
-
 pub passed_any : (s : ShapeValue) (t : Ticket) (i : ℕ) → IsPassed s t.row i → Skips (layout s) t (use_at s i)
 passed_any s t i h = skips_any (layout s) (draft t.row 0) t (use_at s i) refl h
 
 pub any_passed : (s : ShapeValue) (t : Ticket) (i : ℕ) → Skips (layout s) t (use_at s i) → IsPassed s t.row i
 any_passed s t i h = skips_any (layout s) t (draft t.row 0) (use_at s i) refl h
-
--- the next word, and the whole ticket
-pub next_is : (s : ShapeValue) (row : RowValue) (filled i : ℕ) → suc i < ticket_words s → filled ≤ i → (IsPassed s row i → ⊥) → ArePassed s row filled i
-    → IsNext (layout s) (draft row filled) i
-next_is s row filled i lt le wanted passed = record {
-  from = le;
-  skipped = λ k ge low. passed_any s (draft row filled) k (passed k ge low);
-  wanted = λ h. wanted (any_passed s (draft row filled) i h);
-  within = lt;
-}
-
-pub next_only : (s : ShapeValue) (row : RowValue) (filled i : ℕ) → IsNext (layout s) (draft row filled) i → (suc i < ticket_words s) × (filled ≤ i)
-    × (IsPassed s row i → ⊥) × ArePassed s row filled i
-next_only s row filled i next =
-    (next.within, next.from, λ h. next.wanted (passed_any s (draft row filled) i h), λ k ge low. any_passed s (draft row filled) k (next.skipped k ge low))
 
 pub whole_is : (s : ShapeValue) (row : RowValue) (filled last : ℕ) → suc last ≡ ticket_words s → ArePassed s row filled last
     → IsWhole (layout s) (draft row filled)

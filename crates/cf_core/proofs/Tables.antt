@@ -1,5 +1,5 @@
 -- Entries that words spell.
-use Rattle.std.proofs.Common.{◌≡◌, ℕ, ◌+◌, ◌*◌, ◌<◌, ◌≤◌, ◌==◌, zero, suc, List, [], ◌∷◌, ◌++◌, length, set, get_or, take, drop, cond, Option, Some, None, slice_get, Bool, true, false, ◌&&◌, nat_lt, inl, inr, refl, arith, ap, ap₂, sym, ◌∙◌, subst, length-append}
+use Rattle.std.proofs.Common.{◌≡◌, ℕ, ◌+◌, ◌*◌, ◌<◌, ◌≤◌, ◌==◌, zero, suc, List, [], ◌∷◌, ◌++◌, length, set, get_or, take, drop, cond, Option, Some, None, slice_get, Bool, ◌&&◌, nat_lt, inl, inr, refl, arith, ap, ap₂, sym, ◌∙◌, subst, length-append}
 use Rattle.std.proofs.lemmas.List.{ext_get_or, get_or-set_other, get_or_append_left, get_or_push, get_or-take, get_or-drop, set-get_or, take-append-le, take_all}
 use Rattle.std.proofs.lemmas.Bool.{cases_eq, ltb-true, eq-eqb, ne_eqb}
 use Rattle.cf_row.specs.declared.row.Entry.{Entry}

@@ -7,7 +7,7 @@ use Rattle.cf_shape.specs.Places.{place}
 use Rattle.cf_shape.specs.Places.Slot.{tail, cell}
 use Rattle.cf_words.specs.Law.{IsWhole}
 use Rattle.cf_law.specs.Passes.{Book, Flight, Pass}
-use Rattle.cf_law.specs.Steps.{Step, HoldsInFlight, IsNext, pass_with_book, book_with_word, book_with_record, book_with_ticket, ticket_of, own_word}
+use Rattle.cf_law.specs.Steps.{HoldsInFlight, IsNext, pass_with_book, book_with_word, book_with_record, book_with_ticket, ticket_of, own_word}
 use Rattle.cf_law.specs.Steps.Act.{take_ticket, store_cell, finish_record}
 use Rattle.cf_law.specs.Steps.Step.{takes, stores, finishes}
 use Rattle.cf_law.specs.Lawful.{World}
@@ -19,10 +19,10 @@ use Rattle.cf_law.proofs.Keeps.{aloft}
 use Rattle.cf_law.proofs.Decides.{flight_unique}
 use Rattle.cf_law.proofs.Readers.{write_tail_most}
 use Rattle.cf_core.specs.Worlds.{WorldValue, IsLawfulWorld, IsLivePass, draft, AllLinked, world_of}
-use Rattle.cf_pass.specs.Books.{MayTake, ticketed_at, NoneFlies}
+use Rattle.cf_pass.specs.Books.{MayTake, ticketed_at}
 use Rattle.cf_core.proofs.Paths.{next_any, whole_any}
 use Rattle.cf_core.proofs.Making.{does_step, word_there, live_one}
-use Rattle.cf_core.proofs.Inverse.{acts_of, takes_of, stores_of, finishes_of}
+use Rattle.cf_core.proofs.Inverse.{acts_of, stores_of, finishes_of}
 
 pub write_tail_there : (h : WorldValue) → IsLawfulWorld h → 0 < length h.words
 write_tail_there h is = let w = word_there h (tail 0) is (omega arith) in omega arith
@@ -48,14 +48,6 @@ ticket_does h k found row p after live fits may v is =
     does_step sh (world_of h) k p (take_ticket row) (tail 0) (λ n. suc n) (λ n es. record p { books = book_with_ticket sh row n b ∷ [] }) 0
     (found + 1) after live (takes row b fits may.1 may.2 may.3) (sym none) next
     (is b may.1 ∙ ap (λ (n : ℕ). record p { books = book_with_ticket sh row n b ∷ [] }) word)
-
-pub ticket_only : (h : WorldValue) (k : ℕ) (row : RowValue) (p : Pass) (y : World) → IsLivePass h k p
-    → IsEvent (layout h.shape) (world_of h) k (acts (take_ticket row)) y → ((layout h.shape).fits row ≡ true) × MayTake p
-ticket_only h k row p y live does =
-    let A = acts_of (layout h.shape) (world_of h) k (take_ticket row) y does in
-    let r = takes_of (layout h.shape) A.pass row A.slot A.change A.after A.step in
-    let same = live_one h k A.pass p A.live live in
-    (r.fits, subst MayTake same (r.book, r.one, r.free, r.rests))
 
 -- Words of tickets.
 pub cell_does : (h : WorldValue) (k offset i value at j : ℕ) (p after : Pass) (b : Book) (f : Flight) → IsLivePass h k p → HoldsInFlight p j b f
@@ -107,14 +99,6 @@ cell_only h k offset i value j p b f y is live flies off does =
       sym r.value ∙ ap₂ (λ (c : Book) (g : Flight). own_word sh c g.row (use_at h.shape i)) one.0 one.1,
     )
 
-pub cell_none : (h : WorldValue) (k offset i value : ℕ) (p : Pass) (y : World) → IsLivePass h k p → NoneFlies p offset
-    → IsEvent (layout h.shape) (world_of h) k (acts (store_cell offset i value)) y → ⊥
-cell_none h k offset i value p y live none does =
-    let A = acts_of (layout h.shape) (world_of h) k (store_cell offset i value) y does in
-    let r = stores_of (layout h.shape) A.pass offset i value A.slot A.change A.after A.step in
-    let same = live_one h k A.pass p A.live live in
-    none r.place r.book r.flight (subst (λ (q : Pass). HoldsInFlight q r.place r.book r.flight) same r.flies) r.offset
-
 pub done_only : (h : WorldValue) (k offset j : ℕ) (p : Pass) (b : Book) (f : Flight) (y : World) → IsLawfulWorld h → IsLivePass h k p → HoldsInFlight p j b f
     → f.offset ≡ offset → IsEvent (layout h.shape) (world_of h) k (acts (finish_record offset)) y
     → IsWhole (layout h.shape) (draft f.row f.filled) × AllLinked h.shape f.row f.linked
@@ -128,14 +112,6 @@ done_only h k offset j p b f y is live flies off does =
       whole_any sh (ticket_of r.book.writer r.flight) (draft f.row f.filled) (ap (λ (g : Flight). g.row) one.1) (ap (λ (g : Flight). g.filled) one.1) r.whole,
       subst (λ (g : Flight). AllLinked h.shape g.row g.linked) one.1 r.linked,
     )
-
-pub done_none : (h : WorldValue) (k offset : ℕ) (p : Pass) (y : World) → IsLivePass h k p → NoneFlies p offset
-    → IsEvent (layout h.shape) (world_of h) k (acts (finish_record offset)) y → ⊥
-done_none h k offset p y live none does =
-    let A = acts_of (layout h.shape) (world_of h) k (finish_record offset) y does in
-    let r = finishes_of (layout h.shape) A.pass offset A.slot A.change A.after A.step in
-    let same = live_one h k A.pass p A.live live in
-    none r.place r.book r.flight (subst (λ (q : Pass). HoldsInFlight q r.place r.book r.flight) same r.flies) r.offset
 
 -- what a ticket in flight is known to be
 pub record IsAloft (h : WorldValue) (b : Book) (f : Flight) : Type 0 where

@@ -10,13 +10,13 @@ use Rattle.cf_row.proofs.Bytes.{both}
 use Rattle.cf_shape.specs.Lanes.{ShapeValue, IsShape, measure_of}
 use Rattle.cf_shape.specs.Uses.{is_measured, use_at}
 use Rattle.cf_shape.proofs.Measured.{measure_low}
-use Rattle.cf_words.specs.Words.{Spot, spot, Layout, Ticket, same_path, link_to_newest, version_word}
+use Rattle.cf_words.specs.Words.{Spot, spot, Layout, same_path, link_to_newest, version_word}
 use Rattle.cf_law.specs.Passes.{Own, Book, Pass}
 use Rattle.cf_law.specs.Lawful.{mine_in}
 use Rattle.cf_law.specs.Steps.{Holds, mine_chain, own_word, own_lane_word}
 use Rattle.cf_law.specs.Shapes.{layout, path_in}
 use Rattle.cf_law.proofs.Owning.{mine_before}
-use Rattle.cf_core.specs.Worlds.{WorldValue, IsLawfulWorld, IsLivePass, AreOwn, amounts_with_row, cell_word_of, IsCellUse, IsPlainUse}
+use Rattle.cf_core.specs.Worlds.{WorldValue, IsLawfulWorld, IsLivePass, AreOwn, amounts_with_row, cell_word_of, IsPlainUse}
 use Rattle.cf_core.proofs.Children.{bounds}
 use Rattle.cf_law.proofs.Owned.{chain_nil, chain_cons, chain_few}
 use Rattle.cf_law.proofs.Homes.{mine_few}
@@ -174,7 +174,3 @@ version_none shape b row lane j none = ap (own_lane_word (layout shape) b row la
 pub own_plain : (shape : ShapeValue) (b : Book) (row : RowValue) (i : ℕ) → IsPlainUse shape i
     → own_word (layout shape) b row (use_at shape i) ≡ get_or (Rattle.cf_row.specs.Words.spelled (Rattle.cf_words.specs.Words.entry b.writer row)) i 0
 own_plain shape b row i is = ap (own_word (layout shape) b row) is.1
-
-pub own_version : (shape : ShapeValue) (b : Book) (row : RowValue) (i l j : ℕ) → IsCellUse shape i l j
-    → own_word (layout shape) b row (use_at shape i) ≡ own_lane_word (layout shape) b row l j (path_in shape row l)
-own_version shape b row i l j is = ap (own_word (layout shape) b row) is.1

@@ -1,5 +1,5 @@
 -- A world as it is held: its shape, its words and its passes.
-use Rattle.std.specs.Prelude.{ℕ, zero, ◌+◌, ◌*◌, ◌%◌, ◌^◌, ◌<◌, ◌≤◌, ◌≡◌, ◌⊎◌, suc, List, [], ◌∷◌, cond, nat_lt, length, map, Some, None, slice_get, Bool, true, false}
+use Rattle.std.specs.Prelude.{ℕ, zero, ◌+◌, ◌*◌, ◌%◌, ◌^◌, ◌<◌, ◌≤◌, ◌≡◌, ◌⊎◌, suc, List, [], ◌∷◌, cond, length, map, Some, slice_get, Bool, true, false}
 use Rattle.cf_fold.specs.Quads.{QuadValue}
 use Rattle.cf_fold.specs.Cells.{halves, measure_word}
 use Rattle.cf_row.specs.Words.{AreSpelled, word_count}
@@ -11,8 +11,8 @@ use Rattle.cf_shape.specs.Places.{Slot, place}
 use Rattle.cf_shape.specs.Places.Slot.{root, body}
 use Rattle.cf_words.specs.Words.{Spot, spot, Ticket as Taken, has}
 use Rattle.cf_words.specs.Law.{Skips}
-use Rattle.cf_law.specs.Passes.{Own, Flight, Book, Cursor, Pass}
-use Rattle.cf_law.specs.Steps.{book_with_flight, fresh_flight, HoldsInFlight, Holds, IsChild, Knows, IsOwn, IsNamed, label_of}
+use Rattle.cf_law.specs.Passes.{Own, Pass}
+use Rattle.cf_law.specs.Steps.{IsChild, Knows, label_of}
 use Rattle.cf_law.specs.Lawful.{World, Lawful}
 use Rattle.cf_law.specs.Steps.Act.{take_ticket, store_cell, finish_record, advance, load_tail, look_done, load_word, label, link, store_head, load_child, load_head, load_cell}
 use Rattle.cf_law.specs.Events.{WorldEvent, IsEvent, IsLive, plain_at}

@@ -1,5 +1,5 @@
 -- The following of a capture goes on, or ends.
-use Rattle.std.proofs.Common.{◌≡◌, ◌∙◌, ◌⊎◌, inl, inr, ℕ, ◌+◌, ◌<◌, ◌≤◌, List, [], ◌∷◌, ◌++◌, length, suc, zero, fold, Bool, true, false, Option, Some, None, Result, Ok, Err, MatchResult, refl, sym, ap, ap₂, subst, arith, append-nil, append_assoc}
+use Rattle.std.proofs.Common.{◌≡◌, ◌∙◌, ◌⊎◌, inl, inr, ℕ, ◌+◌, ◌<◌, ◌≤◌, List, [], ◌∷◌, ◌++◌, length, suc, zero, fold, Bool, false, Option, Some, None, Err, refl, sym, ap, ap₂, subst, arith, append-nil, append_assoc}
 use Rattle.std.specs.Prelude.{◌==◌}
 use Rattle.std.specs.Io.KnownBytes.{Appends, Consumes, IsAtEnd, Keeps}
 use Rattle.std.proofs.KnownBytes.{Appends-nil, Appends-trans, Consumes-kept, Consumes-nil, Consumes-trans, Keeps-refl}
@@ -15,21 +15,20 @@ use Rattle.cf_intake.specs.Reads.{AreRowsGiven, HasNext, HaveRead, MovesOn}
 use Rattle.cf_intake.specs.Refusals.{line_of}
 use Rattle.cf_intake.specs.Rows.{ArePacketsTo}
 use Rattle.cf_intake.specs.declared.reads.Reads.{Reads}
-use Rattle.cf_intake.specs.declared.refusal.Halt.{Halt}
 use Rattle.cf_intake.specs.declared.refusal.Halt.TheVariants as halts
 use Rattle.cf_intake.specs.declared.refusal.Refusal.{Refusal}
 use Rattle.cf_intake.specs.declared.refusal.Refusal.TheVariants as refusals
 use Rattle.cf_intake.specs.declared.refusal.Stop.{Stop}
 use Rattle.cf_intake.specs.declared.refusal.Stop.TheVariants as stops
 use Rattle.cf_intake.proofs.SingleReads.{rows_given}
-use Rattle.cf_rounds.specs.Held.{HasEnded, HasRound, IsAt, IsSetAs, RoundsValue, said_in}
+use Rattle.cf_rounds.specs.Held.{HasEnded, HasRound, IsAt, IsSetAs, RoundsValue}
 use Rattle.cf_rounds.specs.Lines.{Said, end_text}
 use Rattle.cf_rounds.specs.Texts.{said_on, view_of}
 use Rattle.cf_window.specs.Held.{count_of}
-use Rattle.cf_window.specs.Rounds.{Course, after_reads, came, span_of, start, was_read, with_round}
+use Rattle.cf_window.specs.Rounds.{Course, after_reads, came, span_of, start, with_round}
 use Rattle.cf_window.specs.Windows.{rows_in_all}
 use Rattle.cf_window.proofs.Rows.{rows_one}
-use Rattle.cf_follow.specs.Followed.{AreRead, IsDueOfStream, IsFollowed, HasBrokenOff, IsGoingOn, IsTurnedAway, ReadComesTo, halted, spoken, truncated_line, whole}
+use Rattle.cf_follow.specs.Followed.{AreRead, IsDueOfStream, IsFollowed, HasBrokenOff, IsGoingOn, IsTurnedAway, halted, spoken, truncated_line, whole}
 use Rattle.cf_follow.specs.Followed.IsDueOfStream.{done, broken, refused, unread}
 use Rattle.cf_follow.specs.Followed.IsFollowed.{wrote, cut, cut_round, out}
 use Rattle.cf_follow.specs.Heard.{Concludes, Hears, Refuses, SaysAll, SaysPart, StopsAfterRound, through}

@@ -1,6 +1,6 @@
 -- What the parts of following say.
-use Rattle.std.proofs.Common.{◌≡◌, ◌∙◌, ◌⊎◌, inl, inr, ℕ, ◌+◌, ◌<◌, ◌≤◌, List, [], ◌∷◌, ◌++◌, length, take, drop, zero, suc, slice_index_or, fold, false, true, Option, Some, None, Result, Ok, Err, refl, sym, ap, ap₂, subst, arith, length-append, append-nil, append_assoc}
-use Rattle.std.specs.Io.KnownBytes.{Appends, Keeps}
+use Rattle.std.proofs.Common.{◌≡◌, ◌∙◌, ◌⊎◌, inl, inr, ℕ, ◌+◌, ◌<◌, ◌≤◌, List, [], ◌∷◌, ◌++◌, length, take, drop, zero, suc, slice_index_or, true, Option, Result, Ok, Err, refl, sym, ap, ap₂, subst, arith, append-nil, append_assoc}
+use Rattle.std.specs.Io.KnownBytes.{Appends}
 use Rattle.std.proofs.lemmas.List.{take_all, take_more}
 use Rattle.std.proofs.lemmas.List.Sums.{fold_push}
 use Rattle.cf_row.specs.Row.{RowValue}
@@ -13,7 +13,7 @@ use Rattle.cf_intake.specs.declared.refusal.Stop.TheVariants as stops
 use Rattle.cf_rounds.specs.Held.{HasAnswered, HasRound, HasTaken, IsAt, IsSetAs, RoundsValue}
 use Rattle.cf_rounds.specs.declared.rounds.Taken.TheVariants as taken
 use Rattle.cf_window.specs.Held.{count_of}
-use Rattle.cf_window.specs.Rounds.{Course, came, with_round}
+use Rattle.cf_window.specs.Rounds.{Course, came}
 use Rattle.cf_window.specs.Windows.{is_refused, window}
 use Rattle.cf_follow.specs.Followed.{IsTurnedAway}
 use Rattle.cf_follow.specs.Heard.{HaveAllGone, HavePartGone, Hears, Refuses, SaysAll, SaysPart, StopsAfterRound, TellsRound, through}
@@ -32,11 +32,6 @@ set_trans m n o a b = record {
   shape = b.shape ∙ a.shape;
   most = b.most ∙ a.most;
 }
-
--- No row has gone in yet.
-pub none_gone : (m : RoundsValue) (text : List ℕ) → HaveAllGone m [] text m text
-none_gone m text come course written at =
-    subst (λ (rs : List RowValue). IsAt m rs course (written ++ text)) (sym (append-nil come)) at
 
 -- One more has.
 pub one_gone : (m n o : RoundsValue) (rows : List RowValue) (row : RowValue) (t₀ t₁ t₂ : List ℕ) → IsSetAs m n → HaveAllGone m rows t₀ n t₁

@@ -1,5 +1,5 @@
 -- One more read.
-use Rattle.std.proofs.Common.{◌≡◌, ◌∙◌, ℕ, ◌+◌, ◌<◌, ◌≤◌, inl, inr, List, [], ◌∷◌, ◌++◌, length, take, fold, All, Bool, true, false, nat_lt, if◌then◌else◌, refl, sym, ap, ap₂, subst, arith, length-append, append-nil}
+use Rattle.std.proofs.Common.{◌≡◌, ◌∙◌, ℕ, ◌+◌, ◌<◌, ◌≤◌, inl, inr, List, [], ◌∷◌, ◌++◌, length, take, fold, Bool, true, nat_lt, if◌then◌else◌, refl, sym, ap, subst, arith, length-append, append-nil}
 use Rattle.std.proofs.lemmas.Bool.{cases_lt}
 use Rattle.std.proofs.lemmas.Bool.Decides.{nat_tests}
 use Rattle.std.proofs.lemmas.List.{take_all, take-append-le}
@@ -11,11 +11,11 @@ use Rattle.cf_row.specs.Row.{RowValue}
 use Rattle.cf_setup.specs.Setups.{SetupValue}
 use Rattle.cf_shape.specs.Lanes.{ShapeValue}
 use Rattle.cf_intake.specs.Reads.{AreRowsGiven}
-use Rattle.cf_rounds.specs.Lines.{Said, WindowView, nothing_said, with_view}
+use Rattle.cf_rounds.specs.Lines.{Said, nothing_said}
 use Rattle.cf_rounds.specs.Texts.{said_on, view_of, with_span}
 use Rattle.cf_rounds.proofs.Again.{again}
 use Rattle.cf_window.specs.Rounds.{Course, Span, after_reads, came, span_of, start, was_read, with_round}
-use Rattle.cf_window.specs.Watched.{AreCut, AreEnded, bytes_in_all}
+use Rattle.cf_window.specs.Watched.{AreEnded, bytes_in_all}
 use Rattle.cf_window.specs.Windows.{rows_in_all}
 use Rattle.cf_window.proofs.Rows.{rows_one}
 use Rattle.cf_follow.specs.Followed.{AreRead}

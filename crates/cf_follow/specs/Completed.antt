@@ -8,7 +8,7 @@ use Rattle.cf_intake.specs.declared.refusal.Stop.TheVariants as stops
 use Rattle.cf_rounds.specs.Held.{RoundsValue}
 use Rattle.cf_window.specs.Windows.{is_small}
 use Rattle.cf_follow.specs.declared.ending.Ending.{Ending}
-use Rattle.cf_follow.specs.declared.ending.Ending.TheVariants.{Done, Stopped, Unwritten}
+use Rattle.cf_follow.specs.declared.ending.Ending.TheVariants.{Stopped, Unwritten}
 
 -- The file is a capture, which may be truncated or not. It has no more records than there may be, and each of them alone needs no more nodes
 -- than a segment has.

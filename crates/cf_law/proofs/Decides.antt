@@ -6,7 +6,7 @@ use Rattle.cf_shape.specs.Places.{Slot, place}
 use Rattle.cf_shape.specs.Places.Slot.{body}
 use Rattle.cf_words.specs.Words.{Spot, spot, Layout, Ticket, Stock, node_at, has, IsNamedBy}
 use Rattle.cf_shape.specs.Uses.Use.{plain, version}
-use Rattle.cf_words.specs.Law.{LayoutLaw, Skips, IsWhole}
+use Rattle.cf_words.specs.Law.{Skips, IsWhole}
 use Rattle.cf_law.specs.Passes.{Book, Flight, Pass}
 use Rattle.cf_law.specs.Steps.{Holds, HoldsInFlight, IsChild, Knows, free_node, ticket_of}
 use Rattle.cf_law.specs.Lawful.{Base, BaseLaw, PassLaw, Stands}
@@ -20,10 +20,6 @@ use Rattle.cf_law.proofs.Loads.{reached, child_lane}
 linked_if_true : (o : Option (List ℕ)) (b : Bool) → linked_if o b ≡ true → (q : List ℕ) → o ≡ Some q → b ≡ true
 linked_if_true None b h q e = absurd (cc e)
 linked_if_true (Some x) b h q e = h
-
-linked_if_intro : (o : Option (List ℕ)) (b : Bool) → ((q : List ℕ) → o ≡ Some q → b ≡ true) → linked_if o b ≡ true
-linked_if_intro None b h = refl
-linked_if_intro (Some x) b h = h x refl
 
 named_unique : (m : ℕ) (bs : List Stock) (l k : ℕ) (p q : List ℕ) (t : Slot) → IsNamedBy m bs l p t → IsNamedBy m bs k q t → spot l p ≡ spot k q
 named_unique m bs l k [] q t h g = absurd h
@@ -82,16 +78,6 @@ below sh t (suc n) h l q lt e = let b = both (linked_if (sh.path t.row n) (has t
   | inr ne ↦ below sh t n b.1 l q (omega arith) e
 ]
 
-pub linked_is : (sh : Layout) (t : Ticket) → LayoutLaw sh → linked_all sh t sh.sizes.lanes ≡ true → (l : ℕ) (q : List ℕ) → sh.path t.row l ≡ Some q
-    → has t.linked l ≡ true
-linked_is sh t law h l q e = below sh t sh.sizes.lanes h l q (law.lanes t.row l q e) e
-
-pub linked_only : (sh : Layout) (t : Ticket) (n : ℕ) → ((l : ℕ) (q : List ℕ) → sh.path t.row l ≡ Some q → has t.linked l ≡ true) → linked_all sh t n ≡ true
-unfolding linked_all
-linked_only sh t zero h = refl
-linked_only sh t (suc n) h =
-    both_intro (linked_if (sh.path t.row n) (has t.linked n)) _ (linked_if_intro (sh.path t.row n) (has t.linked n) (h n)) (linked_only sh t n h)
-
 -- What a place, a node or an offset names, is one.
 pub child_unique : (sh : Layout) (m : Base) (p : Pass) (s r : Spot) (t u : Slot) → PassLaw sh m p → IsChild sh p s t → IsChild sh p r u
     → place sh.sizes t ≡ place sh.sizes u → (s ≡ r) × (t ≡ u)
@@ -125,6 +111,3 @@ free_unique sh m passes k p i j b c S at x y lb lc same =
 -- Without lanes no child word is reached and no node is known, and so there is no label, link or head, and no load of a child, a head or a cell.
 pub no_child : (sh : Layout) (m : Base) (p : Pass) (s : Spot) (t : Slot) → BaseLaw sh m → PassLaw sh m p → sh.sizes.lanes ≡ 0 → IsChild sh p s t → ⊥
 no_child sh m p s t law knows none child = let h = child_lane sh m p s.lane s.path t law knows child.real child.reaches in omega (arith, h, none)
-
-pub no_known : (sh : Layout) (m : Base) (p : Pass) (s : Spot) (n : ℕ) → BaseLaw sh m → PassLaw sh m p → sh.sizes.lanes ≡ 0 → Knows p s n → ⊥
-no_known sh m p s n law knows none k = let h = (law.nodes.shaped n s (knows.known k.0 (s, n) k.1)).0 in omega (arith, h, none)

@@ -3,17 +3,15 @@ use Rattle.std.proofs.Common.{◌≡◌, ◌≢◌, ℕ, ◌+◌, ◌<◌, ◌�
 use Rattle.cf_lemmas.proofs.Truths.{lt_false, lt_true}
 use Rattle.cf_row.specs.Row.{RowValue}
 use Rattle.cf_shape.specs.Places.{head_slot}
-use Rattle.std.specs.Bool.{nat_lt}
 use Rattle.std.proofs.lemmas.Bool.{cases_eq, cases_lt, cases_Bool}
-use Rattle.std.proofs.lemmas.Bool.Decides.{nat_tests}
 use Rattle.std.proofs.lemmas.Option.{slice_get_within}
 use Rattle.cf_shape.specs.Places.{Slot, place}
 use Rattle.cf_shape.specs.Places.Slot.{tail, cell}
-use Rattle.cf_words.proofs.Forms.{stocks_with_label, stocks_with_node, stocks_with_mark, ticket_with_word, ticket_with_head, ticket_with_done, CanFill, CanHead}
-use Rattle.cf_words.specs.Words.{Spot, spot, Layout, Ticket, Stock, stock_of, marked_books, node_at, has, IsNamedBy, is_inner, fresh_ticket, full_word, free_of, ticket_word, done_word}
+use Rattle.cf_words.proofs.Forms.{stocks_with_label, stocks_with_mark, ticket_with_word, ticket_with_done, CanFill, CanHead}
+use Rattle.cf_words.specs.Words.{spot, Layout, Ticket, Stock, stock_of, marked_books, has, fresh_ticket}
 use Rattle.cf_words.specs.Law.{LayoutLaw, IsWhole}
 use Rattle.cf_law.specs.Passes.{Own, Flight, Book, Pass}
-use Rattle.cf_law.specs.Steps.{Holds, HoldsInFlight, ticket_of, book_with_flight, book_with_ticket, book_with_word, book_with_record, book_with_head, book_with_label, book_with_node, own_word, pass_with_book, pass_with_look, pass_that_sees, pass_with_tail, pass_with_node, IsNext, IsChild, Reaches, Knows, label_of, free_node}
+use Rattle.cf_law.specs.Steps.{Holds, HoldsInFlight, ticket_of, book_with_flight, book_with_ticket, book_with_word, book_with_record, book_with_head, own_word, pass_with_book, IsNext, Knows}
 use Rattle.cf_law.specs.Lawful.{Base, BaseLaw, mine_in, flight_in, book_at, PassLaw, Stands}
 use Rattle.cf_law.specs.Events.{word_at}
 use Rattle.cf_words.proofs.Nodes.{book_same, book_other, over_node_at}

@@ -20,10 +20,6 @@ pub walk : Layout → ℕ → Spot → ℕ → List Ticket → ℕ → List (ℕ
 walk sh w s k [] o = []
 walk sh w s k (t ∷ ts) o = walk sh w s (suc k) ts o ++ cond (nat_lt k o) (entry_at sh w s k (Some t)) []
 
-cond_nil : (b : Bool) (xs : List (ℕ × RowValue)) → xs ≡ [] → cond b xs [] ≡ []
-cond_nil true xs h = h
-cond_nil false xs h = refl
-
 -- nothing stands before the first
 walk_none : (sh : Layout) (w : ℕ) (s : Spot) (k : ℕ) (log : List Ticket) (o : ℕ) → o ≤ k → walk sh w s k log o ≡ []
 unfolding walk

@@ -7,7 +7,7 @@ use Rattle.std.proofs.lemmas.Bool.{cases_eq}
 use Rattle.std.specs.Bool.{nat_lt}
 use Rattle.cf_shape.specs.Places.{Slot, place, IsReal}
 use Rattle.cf_shape.specs.Places.Slot.{cell}
-use Rattle.cf_words.specs.Words.{Spot, spot, Layout, Ticket, Stock, stock_of, node_at, IsChildFor, IsNamedBy, NodeWord, BodyWord, is_inner, IsWordOf, Spells, links, entry_at, chain, link_to_newest, has, ticket_word, full_word, used_word, lane_word, version_word}
+use Rattle.cf_words.specs.Words.{Spot, spot, Layout, Ticket, Stock, node_at, IsNamedBy, NodeWord, BodyWord, is_inner, Spells, chain, link_to_newest, has, ticket_word, full_word, used_word, lane_word, version_word}
 use Rattle.cf_shape.specs.Uses.Use.{version}
 use Rattle.cf_words.specs.Law.{NodesLaw}
 use Rattle.cf_law.specs.Passes.{Cursor}

@@ -17,12 +17,6 @@ path_none s row l e = ap (λ (b : Bool). cond {A = Option (List ℕ)} b (Some (n
 pub path_some : (s : ShapeValue) (row : RowValue) (l : ℕ) → selected_by s l row ≡ true → path_in s row l ≡ Some (nibbles (levels_of s l) (key_of s l row))
 path_some s row l e = ap (λ (b : Bool). cond {A = Option (List ℕ)} b (Some (nibbles (levels_of s l) (key_of s l row))) None) e
 
-pub none_path : (s : ShapeValue) (row : RowValue) (l : ℕ) → path_in s row l ≡ None → selected_by s l row ≡ false
-none_path s row l h = elim (cases_Bool (selected_by s l row)) [
-  | inl e ↦ absurd (cc (sym (path_some s row l e) ∙ h))
-  | inr e ↦ e
-]
-
 pub some_path : (s : ShapeValue) (row : RowValue) (l : ℕ) (q : List ℕ) → path_in s row l ≡ Some q → selected_by s l row ≡ true
 some_path s row l q h = elim (cases_Bool (selected_by s l row)) [
   | inl e ↦ e

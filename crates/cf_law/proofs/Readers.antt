@@ -15,7 +15,7 @@ use Rattle.cf_shape.specs.Uses.Use.{version}
 use Rattle.cf_words.specs.Words.{marked_books, Spot, spot, Layout, entry, Ticket, Stock, stock_of, node_at, IsNamedBy, has, same_path, ticket_word, done_word, full_word, links, entry_at, chain, version_word, used_word, lane_word}
 use Rattle.cf_words.specs.Law.{LayoutLaw, NodesLaw}
 use Rattle.cf_law.specs.Passes.{Book, Flight, Cursor, Pass}
-use Rattle.cf_law.specs.Steps.{Holds, HoldsInFlight, IsChild, Knows, Step, met_of, mine_chain, ticket_of, own_word}
+use Rattle.cf_law.specs.Steps.{HoldsInFlight, IsChild, Knows, Step, met_of, ticket_of, own_word}
 use Rattle.cf_law.specs.Lawful.{Base, BaseLaw, front, CursorLaw, CursorIs, Leads, PassLaw, Stands, Lawful}
 use Rattle.cf_law.specs.Events.{word_at, entries_spelled}
 use Rattle.cf_law.specs.Readers.{NoneThrough, NoneOwn, pick_at, picks, WalkTells, EntryTells, IsFit, HasNode, IsBounded, AtHome, Tells, GoesOn, StepTells}
@@ -29,7 +29,7 @@ use Rattle.cf_law.proofs.Fronts.{front_at, front_get, front_take, front_length, 
 use Rattle.cf_law.proofs.Owned.{own_word_is}
 use Rattle.cf_law.proofs.Homes.{mine_few}
 use Rattle.cf_law.proofs.Owning.{mine_before, own_head_is, own_cell, mine_seen}
-use Rattle.cf_law.proofs.Loads.{reached, tail_is, head_walk, cell_walk, spelt_is}
+use Rattle.cf_law.proofs.Loads.{reached, tail_is, head_walk, spelt_is}
 use Rattle.cf_law.proofs.Keeps.{aloft, Later}
 use Rattle.cf_law.proofs.Steps.{step_keeps}
 use Rattle.cf_law.proofs.Homes.{own_done, whole, stays}

@@ -12,7 +12,6 @@ use Rattle.cf_law.specs.Passes.{Book, Pass}
 use Rattle.cf_law.specs.Steps.{new_pass}
 use Rattle.cf_law.specs.Lawful.{Base, BaseLaw, mine_in, flight_in, book_at, PassLaw, HoldsAt, Stands, World, Lawful}
 use Rattle.cf_law.specs.Events.{tabulated, word_at, no_book, opening, WorldEvent, IsEvent}
-use Rattle.cf_law.specs.Shapes.{layout}
 use Rattle.cf_law.specs.Events.IsEvent.{steps, parts, meets}
 use Rattle.cf_shape.proofs.Slots.{place_within}
 use Rattle.cf_law.proofs.Keeps.{made_book}

@@ -1,5 +1,5 @@
 -- The laws of a lawful world, each in plain words.
-use Rattle.std.proofs.Common.{◌≡◌, ℕ, ◌+◌, ◌<◌, ◌≤◌, ◌⊎◌, ◌==◌, zero, suc, List, [], ◌∷◌, length, set, take, replicate, Option, Some, None, slice_get, cond, Bool, true, false, inl, inr, refl, arith, ap, sym, ◌∙◌, subst}
+use Rattle.std.proofs.Common.{◌≡◌, ℕ, ◌+◌, ◌<◌, ◌≤◌, ◌⊎◌, ◌==◌, suc, List, [], ◌∷◌, length, set, take, Option, Some, None, slice_get, cond, Bool, inl, inr, refl, arith, ap, sym, ◌∙◌, subst}
 use Rattle.std.specs.Bool.{nat_lt}
 use Rattle.std.proofs.lemmas.Option.{slice_get_within}
 use Rattle.cf_lemmas.proofs.Truths.{eq_false, eq_true, lt_false, lt_true}
@@ -10,7 +10,6 @@ use Rattle.cf_shape.specs.Places.Slot.{tail, cell}
 use Rattle.cf_words.specs.Words.{Layout, Ticket, ticket_word, done_word, full_word}
 use Rattle.cf_words.specs.Law.{LayoutLaw}
 use Rattle.cf_law.specs.Passes.{Cursor, Pass}
-use Rattle.cf_law.specs.Steps.{Act, Step}
 use Rattle.cf_law.specs.Lawful.{Base, BaseLaw, PassLaw, CursorLaw, CursorIs, Leads, Stands, Lawful, World, book_at}
 use Rattle.cf_law.specs.Events.{WorldEvent, IsEvent, opening, no_book, tabulated, word_at, entries_spelled}
 use Rattle.cf_law.specs.Events.IsEvent.{steps, parts, meets}

@@ -4,12 +4,9 @@ use Rattle.cf_row.specs.declared.row.Entry.{Entry}
 use Rattle.cf_shape.specs.Places.{Slot, place, word_total}
 use Rattle.cf_shape.specs.Places.Slot.{tail, cell}
 use Rattle.cf_words.specs.Words.{Layout}
-use Rattle.cf_words.specs.Law.{LayoutLaw}
 use Rattle.cf_law.specs.Passes.{Book, Pass}
 use Rattle.cf_law.specs.Steps.{Act, Step, Splits, new_pass, joined_pass, spent_pass, IsAtRest}
-use Rattle.cf_law.specs.Lawful.{World, Lawful}
-use Rattle.cf_shape.specs.Lanes.{ShapeValue, IsShape}
-use Rattle.cf_law.specs.Shapes.{layout}
+use Rattle.cf_law.specs.Lawful.{World}
 
 -- what a pass may do: a step; a split, with the number of the writer whose book goes along, or None for no book; a join of another pass,
 -- by its number

@@ -1,20 +1,17 @@
 -- A log's writers: their passes are dealt, append rows, and come home.
 use Rattle.std.proofs.Common.{◌≡◌, ◌∙◌, ◌+◌, ◌<◌, ◌≤◌, ◌++◌, ◌==◌, get_or, ℕ, zero, suc, List, [], ◌∷◌, length, map, take, drop, Some, slice_get, Ok, Err, inl, inr, refl, ap, sym, arith, append-nil, append_assoc}
-use Rattle.std.proofs.lemmas.List.{drop_all, map-append, take-append-drop}
+use Rattle.std.proofs.lemmas.List.{map-append, take-append-drop}
 use Rattle.std.proofs.lemmas.Option.{slice_get_within}
-use Rattle.std.specs.List.{AllByRecursion}
 use Rattle.cf_row.specs.Row.{RowValue}
-use Rattle.cf_row.specs.declared.row.Entry.{Entry}
 use Rattle.cf_shape.specs.Lanes.{ShapeValue}
 use Rattle.cf_history.specs.Order.{written_by}
 use Rattle.cf_law.specs.Passes.{Own, Book, Pass}
 use Rattle.cf_law.specs.Steps.{Holds}
 use Rattle.cf_law.specs.Events.{tabulated, no_book}
-use Rattle.cf_law.specs.Readers.{mine_from}
 use Rattle.cf_law.proofs.Fronts.{table_length, table_at}
 use Rattle.cf_table.specs.Values.{PassValue, LogValue, IsOf, book_of}
 use Rattle.cf_table.specs.Rule.{root_pass}
-use Rattle.cf_table.specs.Moves.{AreDealt, AreAll, HasGathered, books_of}
+use Rattle.cf_table.specs.Moves.{AreDealt, AreAll, HasGathered}
 use Rattle.cf_append.specs.Appends.{PassGoesOn, Rests, HasAppendAnswer}
 use Rattle.cf_append.specs.declared.appends.AppendFault.{AppendFault}
 use Rattle.cf_append.specs.declared.appends.AppendFault.TheVariants.{Full, NodesFull}
@@ -109,18 +106,6 @@ goes_more log rows m n p i o row goes at done = record {
   rows_are = rows_more log.shape row n p o done.answer
       ∙ (ap (λ (rs : List RowValue). rs ++ row ∷ []) goes.rows_are
       ∙ (append_assoc (rows_by m) (take i rows) (row ∷ []) ∙ ap (λ (rs : List RowValue). rows_by m ++ rs) (sym (took_more rows i row at))));
-}
-
-pub goes_last : (log : LogValue) (rows : List RowValue) (m n : PassValue) (i : ℕ) → Goes log rows m i n → length rows ≤ i → AppendsRows log rows m n (Ok tt)
-goes_last log rows m n i goes far = record {
-  goes_on = goes.goes_on;
-  rest = goes.rest;
-  writer = goes.writer;
-  done = take i rows;
-  left = drop i rows;
-  split = take-append-drop i rows;
-  rows_are = goes.rows_are;
-  refused = drop_all i rows far;
 }
 
 next_left : (rows : List RowValue) (i : ℕ) (row : RowValue) → slice_get rows i ≡ Some row → drop i rows ≡ row ∷ drop (suc i) rows

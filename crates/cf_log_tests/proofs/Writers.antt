@@ -12,7 +12,7 @@ use Rattle.cf_law.specs.Readers.{AtHome}
 use Rattle.cf_law.proofs.Fronts.{table_length, table_at}
 use Rattle.cf_table.specs.Values.{PassValue, LogValue, IsOf, book_of}
 use Rattle.cf_table.specs.Rule.{root_pass}
-use Rattle.cf_table.specs.Moves.{AreDealt, AreAll, OnlyLooked}
+use Rattle.cf_table.specs.Moves.{AreDealt, AreAll}
 use Rattle.cf_append.specs.Appends.{PassGoesOn, Rests, HasAppendAnswer}
 use Rattle.cf_append.specs.declared.appends.AppendFault.{AppendFault}
 use Rattle.cf_append.proofs.Appending.{rests_by, rests_all}
@@ -68,11 +68,6 @@ pub appended : (log : LogValue) (w : ℕ) (row : RowValue) (m n : PassValue) (r 
     → HasAppendAnswer log.shape row m n r → IsWriters log w n
 appended log w row m n r is goes rest done =
     record { of = still_one log m n is.of goes.same; rest = rest; writer_is = same_writer log.shape row m n r done ∙ is.writer_is }
-
-looked_books : (log : LogValue) (w : ℕ) (m n : PassValue) → IsWriters log w m → OnlyLooked m n → IsWriters log w n
-looked_books log w m n is looked =
-    let view = ap (λ (h : PassValue). h.view) looked in
-    same_books log w m n is (looked ∙ ap (λ (q : Pass). record m { view = q }) (sym view)) (ap (λ (q : Pass). q.books) view)
 
 pub asked : (log : LogValue) (w : ℕ) (m n : PassValue) (A : Type 0) (P : A → Type 0) (r : Result A AllocError) → IsWriters log w m
     → IfOk r (λ a. HasAsked log.shape m n × P a) → IfErr r (λ x. HasAsked log.shape m n) → IsWriters log w n

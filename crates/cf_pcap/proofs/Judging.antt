@@ -3,7 +3,7 @@ use Rattle.std.proofs.Common.{◌≡◌, inl, inr, ℕ, ◌<◌, ◌+◌, true, 
 use Rattle.cf_stream.specs.declared.limit.Length.{Length}
 use Rattle.cf_stream.specs.Limits.{IsShort, count_on, number_of}
 use Rattle.cf_stream.proofs.Limits.{count_none, count_sum, count_first}
-use Rattle.cf_stream.specs.Format.{Wants, Bad, Takes, Part, items_of, AreUnitsThen, ReadsTo, IsWhole, seen, HasFault}
+use Rattle.cf_stream.specs.Format.{Bad, Takes, Part, items_of, AreUnitsThen, ReadsTo, IsWhole, seen, HasFault}
 use Rattle.cf_stream.specs.Format as formats
 use Rattle.cf_stream.proofs.Units.{reads_nothing, reads_one, reads_on}
 use Rattle.cf_stream.proofs.Cases.{none_shown}

@@ -365,12 +365,6 @@ ended_within reader stream count is left count_is state =
     streams.ended_cut (pcapng reader.scope) reader.state (run.gone ++ reader.held) stream (Cut count) run.runs
     (inl (some_left reader.state.order reader.passed run.gone reader.held run.was left)) (ap (λ n. Cut n) count_is)
 
-pub ended_outside : (reader : PcapNgValue) (stream : List ℕ) (count : ℕ) → reader.stage ≡ Running → is_some reader.state.order ≡ false
-    → count ≡ reader.state.count → IsStateOf reader stream → IsEnded reader.scope stream (Err (Cut count))
-ended_outside reader stream count is none count_is state =
-    let run = at_running (pcapng reader.scope) stream reader.stage (IsRunning reader stream) is state in
-    streams.ended_cut (pcapng reader.scope) reader.state (run.gone ++ reader.held) stream (Cut count) run.runs (inr none) (ap (λ n. Cut n) count_is)
-
 none_left : (order : Option Order) (passed : Option Passed) (gone held : List ℕ) → WasPassed order passed gone → is_some passed ≡ false → held ≡ []
     → gone ++ held ≡ []
 none_left order None gone held was none empty = ap (λ xs. xs ++ held) was ∙ empty

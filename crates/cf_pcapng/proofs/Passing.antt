@@ -10,7 +10,7 @@ use Rattle.cf_pcap.specs.Capture.{FrameValue, number_in}
 use Rattle.cf_pcap.proofs.Following.{number_later}
 use Rattle.cf_stream.specs.declared.limit.Length.{Length}
 use Rattle.cf_stream.specs.declared.limit.Length.TheVariants.{Limited, Any}
-use Rattle.cf_stream.specs.Limits.{count_on, HasRoom}
+use Rattle.cf_stream.specs.Limits.{count_on}
 use Rattle.cf_stream.specs.Format.{Wants, Bad, Takes, ReadsTo}
 use Rattle.cf_stream.proofs.Units.{reads_nothing, reads_more, reads_on, reads_one, reads_fit, reads_count}
 use Rattle.cf_pcapng.specs.declared.fault.Flaw.{Flaw}
@@ -25,7 +25,7 @@ use Rattle.cf_pcapng.specs.declared.content.Content.TheVariants.{Nothing}
 use Rattle.cf_pcapng.specs.declared.passed.Passed.{Passed}
 use Rattle.cf_pcapng.specs.Blocks.{head_of, last_total, content_of, is_section}
 use Rattle.cf_pcapng.specs.File.{State, fault_of, found_at, block_found, step, pcapng}
-use Rattle.cf_pcapng.specs.Reading.{AreRead, WasPassed, Begins, Breaks, AreReadOn, AreReadOnAfter, IsLetGo, IsPassedAt, KeepsLastField, FitsIn, IsSoundOn, IsGoneOn, MayReadOn, size_by, missing_of}
+use Rattle.cf_pcapng.specs.Reading.{AreRead, WasPassed, Begins, Breaks, AreReadOn, AreReadOnAfter, IsLetGo, IsPassedAt, KeepsLastField, FitsIn, IsSoundOn, IsGoneOn, size_by, missing_of}
 use Rattle.cf_pcapng.proofs.Heads.{head_stays, head_by_8, section_first, standing, at_least, at_most, seen_size}
 use Rattle.cf_pcapng.proofs.Steps.{Shown, step_at, found_short, found_whole, length_front, block_not_wants, stepper}
 
@@ -321,32 +321,6 @@ still_read scope s bytes more frames t passed held (Some flaw) (inl h) on = reco
   read = reads_more (pcapng scope) (stepper scope) s bytes frames t on.rest more on.read;
   bad = (stepper scope).bad_stays t on.rest more (fault_of t.count flaw) on.bad;
 }
-
-pub still_sound : (l : Length) (s : State) (size : ℕ) (more : List ℕ) (t : State) (passed : Option Passed) (held : List ℕ) (flaw : Option Flaw)
-    → IsGoneOn l s size t passed held flaw → IsGoneOn l s (size + length more) t passed held flaw
-still_sound l s size more t passed held flaw on = sound_more l s size (size + length more) t passed held flaw (omega arith) on
-
-fits_then : (l : Length) (k size t held n after : ℕ) → FitsIn l (t + held) (k + size) → FitsIn l after (t + (held + n)) → FitsIn l after (k + (size + n))
-fits_then Any k size t held n after had on = tt
-fits_then Limited k size t held n after had on = omega (arith, had, on)
-
-pub then_sound : (l : Length) (s : State) (size n : ℕ) (t : State) (passed : Option Passed) (held : List ℕ) (u : State) (block : Option Passed)
-    (rest : List ℕ) (flaw : Option Flaw) → IsSoundOn l s size t passed held → IsGoneOn l t (length held + n) u block rest flaw
-    → IsGoneOn l s (size + n) u block rest flaw
-then_sound l s size n t passed held u block rest (Some flaw) had on = tt
-then_sound l s size n t passed held u block rest None had on =
-    record { fits = fits_then l s.count size t.count (length held) n (u.count + length rest) had.fits on.fits; room = on.room; few = on.few }
-
-room_then : (l : Length) (k size t held n all : ℕ) → FitsIn l (t + held) (k + size) → size + n ≤ all → HasRoom l (k + all) → HasRoom l (t + (held + n))
-room_then Any k size t held n all had few room = tt
-room_then Limited k size t held n all had few room = omega (arith, had, few, room)
-
--- there is room for what comes after it
-pub may_read_on : (l : Length) (s : State) (size n all : ℕ) (t : State) (passed : Option Passed) (held : List ℕ) (flaw : Option Flaw)
-    → IsGoneOn l s size t passed held flaw → size + n ≤ all → HasRoom l (s.count + all) → MayReadOn l t passed held flaw n
-may_read_on l s size n all t passed held (Some flaw) on few room = tt
-may_read_on l s size n all t passed held None on few room =
-    (on.room, on.few, room_then l s.count size t.count (length held) n all on.fits few room)
 
 -- the bytes that are held, then those that complete the block, and then the others
 pub in_parts : (gone held first others more : List ℕ) → first ++ others ≡ more → (gone ++ (held ++ first)) ++ others ≡ gone ++ (held ++ more)

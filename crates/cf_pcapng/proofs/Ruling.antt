@@ -32,9 +32,6 @@ err_same a b h = cc
 ok_same : (a b : Content) → ◌≡◌ {A = Result Content Flaw} (Ok a) (Ok b) → a ≡ b
 ok_same a b h = cc
 
-ok_err : (a : Content) (b : Flaw) → ◌≡◌ {A = Result Content Flaw} (Ok a) (Err b) → ⊥
-ok_err a b h = cc
-
 -- Rules 7 to 9.
 
 link_case : (links : LinkSet) (link : ℕ) → IsLink links link ⊎ (is_link links link ≡ false)
@@ -250,9 +247,6 @@ section_no bytes h = elim (bool_case (is_section bytes)) [
 ] where
   section_type : (bytes : List ℕ) → eqb (little_number 4 bytes) 0x0a0d0d0a ≡ true → little_number 4 bytes ≡ 0x0a0d0d0a
   section_type bytes is = grind (arith, nat_tests)
-
-type_yes : (bytes : List ℕ) → is_section bytes ≡ true → IsSectionType bytes
-type_yes bytes is = grind (arith, nat_tests)
 
 kind_true : (kind : BlockKind) (n : ℕ) → IsType kind n → kind_of n ≡ kind
 kind_true SectionHeader n h = absurd h

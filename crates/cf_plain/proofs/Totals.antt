@@ -2,9 +2,9 @@
 use Rattle.std.proofs.Common.{◌≡◌, ℕ, ◌+◌, Bool, true, false, cond, not, ◌&&◌, ◌==◌, List, [], ◌∷◌, ◌++◌, length, map, filter, refl, sym, ap, ap₂, ◌∙◌, inl, inr, arith}
 use Rattle.std.specs.List.{sum_by, count_by}
 use Rattle.std.proofs.lemmas.Bool.{cases_Bool}
-use Rattle.std.proofs.lemmas.List.Sums.{sum_by-cons, sum_by-append}
+use Rattle.std.proofs.lemmas.List.Sums.{sum_by-cons}
 use Rattle.cf_row.specs.Row.{RowValue}
-use Rattle.cf_fold.specs.Quads.{QuadValue, quad_of}
+use Rattle.cf_fold.specs.Quads.{QuadValue}
 use Rattle.cf_fold.proofs.Sorted.{AsOften, quad_is_one}
 use Rattle.cf_shape.specs.Lanes.{ShapeValue, selected_by, key_of, measure_of}
 use Rattle.cf_plain.specs.Asks.{total_over}
@@ -45,32 +45,6 @@ one : (x y : Bool) (n : ℕ) → cond x n 0 ≡ cond (x && y) n 0 + cond (x && n
 one true true n = omega arith
 one true false n = omega arith
 one false y n = refl
-
-split_sum : (g : RowValue → ℕ) (p q : RowValue → Bool) (rows : List RowValue)
-    → sum_by (λ row. cond (p row) (g row) 0) rows ≡ sum_by (λ row. cond (p row && q row) (g row) 0) rows + sum_by
-    (λ row. cond (p row && not (q row)) (g row) 0) rows
-split_sum g p q [] = refl
-split_sum g p q (row ∷ rows) =
-    let a = sum_by-cons (λ r. cond (p r) (g r) 0) row rows in
-    let b = sum_by-cons (λ r. cond (p r && q r) (g r) 0) row rows in
-    let c = sum_by-cons (λ r. cond (p r && not (q r)) (g r) 0) row rows in
-    let here = one (p row) (q row) (g row) in
-    omega (arith, a, b, c, here, split_sum g p q rows)
-
--- the quad of some rows is that of those that pass a test together with those that don't, in any order
-pub total_split : (shape : ShapeValue) (lane : ℕ) (p q : RowValue → Bool) (rows : List RowValue)
-    → total_over shape lane p rows ≡ quad_of
-    (map (measure_of shape lane) (filter (λ row. p row && q row) rows) ++ map (measure_of shape lane) (filter (λ row. p row && not (q row)) rows))
-total_split shape lane p q rows =
-    quad_is_one (map (measure_of shape lane) (filter p rows))
-    (map (measure_of shape lane) (filter (λ row. p row && q row) rows) ++ map (measure_of shape lane) (filter (λ row. p row && not (q row)) rows)) (λ n.
-    let left = count_map (measure_of shape lane) p n rows in
-    let with' = count_map (measure_of shape lane) (λ row. p row && q row) n rows in
-    let without = count_map (measure_of shape lane) (λ row. p row && not (q row)) n rows in
-    let both = sum_by-append (λ x. cond (x == n) 1 0) (map (measure_of shape lane) (filter (λ row. p row && q row) rows))
-    (map (measure_of shape lane) (filter (λ row. p row && not (q row)) rows)) in
-    let parts = split_sum (λ row. cond (measure_of shape lane row == n) 1 0) p q rows in
-    omega (arith, left, with', without, both, parts))
 
 pub map_agree : {X Y : Type 0} (f g : X → Y) → ((x : X) → f x ≡ g x) → (xs : List X) → map f xs ≡ map g xs
 map_agree f g same [] = refl

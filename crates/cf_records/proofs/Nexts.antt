@@ -1,6 +1,6 @@
 -- What reading one more record tells.
 use Rattle.std.proofs.Common.{Bor, List, ℕ, ◌≡◌, ◌∙◌, Bool, true, false, inl, Some, ◌++◌, ◌∷◌, []}
-use Rattle.csv.specs.Reading.{Ready, ReadRecord, default_config, strip_bom, reader_trim, took_first}
+use Rattle.csv.specs.Reading.{ReadRecord, default_config, strip_bom, took_first}
 use Rattle.csv.specs.declared.parser.State.TheVariants as st
 use Rattle.csv.specs.declared.reader.Reader.{Reader}
 use Rattle.csv.specs.declared.reader.Trim.TheVariants as trim

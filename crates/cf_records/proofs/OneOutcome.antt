@@ -1,5 +1,5 @@
 -- A text is one thing: its rows, or one first fault.
-use Rattle.std.proofs.Common.{List, ℕ, zero, suc, ◌≡◌, ◌≢◌, ◌<◌, ◌≤◌, ◌+◌, ◌^◌, ◌⊎◌, ◌∙◌, sym, refl, ap, ap₂, [], ◌∷◌, ◌++◌, length, take, slice_get, arith, subst, Some, None, Result, Ok, Err, inl, inr}
+use Rattle.std.proofs.Common.{List, ℕ, zero, suc, ◌≡◌, ◌≢◌, ◌<◌, ◌≤◌, ◌+◌, ◌^◌, ◌⊎◌, ◌∙◌, sym, refl, ap, ap₂, [], ◌∷◌, ◌++◌, length, take, slice_get, arith, subst, Some, Result, Ok, Err, inl, inr}
 use Rattle.cf_row.specs.declared.schema.Attr.{Attr}
 use Rattle.cf_row.specs.declared.row.Value.{Value}
 use Rattle.cf_row.specs.Row.{RowValue}

@@ -1,12 +1,12 @@
 -- What the records that were read make of a text.
-use Rattle.std.proofs.Common.{List, ℕ, zero, suc, ◌≡◌, ◌≢◌, ◌<◌, ◌+◌, ◌^◌, ◌∙◌, sym, refl, ap, [], ◌∷◌, ◌++◌, length, arith, subst, append_assoc, Bor, All, length-append}
+use Rattle.std.proofs.Common.{List, ℕ, zero, suc, ◌≡◌, ◌≢◌, ◌<◌, ◌+◌, ◌^◌, ◌∙◌, sym, refl, [], ◌∷◌, ◌++◌, length, arith, subst, append_assoc, Bor, All, length-append}
 use Rattle.std.proofs.lemmas.List.Elements.{All-append, All-nil}
 use Rattle.csv.specs.declared.reader.Reader.{Reader}
 use Rattle.cf_row.specs.declared.schema.Attr.{Attr}
 use Rattle.cf_row.specs.Row.{RowValue, Fits}
 use Rattle.cf_records.specs.declared.fault.RecordFault.{RecordFault}
 use Rattle.cf_records.specs.declared.fault.RecordFault.TheVariants.{NoHeader, BadHeader, BadCount, BadValue, TooManyBytes, Memory}
-use Rattle.cf_records.specs.Records.{AreRead, names_of, HaveValues, AreRows, HasRecordFault, HasFaultyRecord, HasOtherHeader, HasRecordsFault, IsRecordFile, HasRead}
+use Rattle.cf_records.specs.Records.{AreRead, names_of, HaveValues, AreRows, HasRecordFault, HasFaultyRecord, HasOtherHeader, HasRecordsFault, HasRead}
 use Rattle.cf_records.proofs.Reading.{read_to_end}
 
 abbrev Records : Type 0

@@ -1,7 +1,7 @@
 -- Each text has its records, and one list of them.
 use Rattle.std.proofs.Common.{List, ℕ, zero, suc, Option, Bool, true, false, ◌≡◌, ◌⊎◌, ◌<◌, ◌≤◌, ◌∙◌, sym, refl, ap, ap₂, Some, None, [], ◌∷◌, ◌++◌, ◌+◌, length, inl, inr, rules, arith, cond, subst}
 use Rattle.csv.specs.Machine.{Read, next_record, ends_at_end, is_end, step, fields_after, field_after}
-use Rattle.csv.specs.Reading.{AreRecords, Reached, Ready, default_config, strip_bom, source_of, is_bom}
+use Rattle.csv.specs.Reading.{AreRecords, Reached, default_config, strip_bom, is_bom}
 use Rattle.csv.specs.declared.parser.Config.{Config}
 use Rattle.csv.specs.declared.parser.State.{State}
 use Rattle.csv.specs.declared.parser.State.TheVariants as st

@@ -1,5 +1,5 @@
 -- A text is something: its rows, or one first fault.
-use Rattle.std.proofs.Common.{List, ℕ, zero, suc, ◌≡◌, ◌≢◌, ◌<◌, ◌≤◌, ◌+◌, ◌^◌, ◌⊎◌, ◌∙◌, sym, refl, ap, ap₂, [], ◌∷◌, ◌++◌, length, take, slice_get, arith, subst, Option, Some, None, Result, Ok, Err, inl, inr}
+use Rattle.std.proofs.Common.{List, ℕ, suc, ◌≡◌, ◌≢◌, ◌<◌, ◌≤◌, ◌+◌, ◌^◌, ◌⊎◌, ◌∙◌, refl, ap, ap₂, [], ◌∷◌, ◌++◌, length, arith, subst, Option, Some, None, Result, Ok, Err, inl, inr}
 use Rattle.std.proofs.lemmas.Bool.{cases_lt, cases_eq}
 use Rattle.cf_row.specs.declared.schema.Attr.{Attr}
 use Rattle.cf_row.specs.declared.schema.Kind.{Kind}

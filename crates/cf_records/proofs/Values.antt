@@ -1,5 +1,5 @@
 -- The fields of a record and their values.
-use Rattle.std.proofs.Common.{true, List, ℕ, zero, suc, Option, ◌≡◌, ◌≢◌, ◌<◌, ◌+◌, ◌≤◌, ◌∙◌, sym, refl, ap, ap₂, Some, None, [], ◌∷◌, ◌++◌, length, map, take, slice_get, arith, option_map, subst}
+use Rattle.std.proofs.Common.{true, List, ℕ, zero, suc, Option, ◌≡◌, ◌≢◌, ◌<◌, ◌+◌, ◌≤◌, ◌∙◌, sym, refl, ap, ap₂, Some, None, [], ◌∷◌, ◌++◌, length, take, slice_get, arith, option_map}
 use Rattle.std.proofs.lemmas.Option.{slice_get-get_or, slice_get-map}
 use Rattle.csv.specs.Records.{field_at}
 use Rattle.cf_row.specs.declared.schema.Attr.{Attr}

@@ -1,5 +1,5 @@
 -- Answers that are meant on the log of a valid order make the report of the rows.
-use Rattle.std.proofs.Common.{◌≡◌, ℕ, ◌<◌, List, [], ◌∷◌, length, map, replicate, refl, sym, ap, ap₂, subst, ◌∙◌, arith}
+use Rattle.std.proofs.Common.{◌≡◌, ℕ, ◌<◌, List, [], ◌∷◌, length, map, refl, sym, ap, ap₂, subst, ◌∙◌}
 use Rattle.std.specs.List.{AllByRecursion, flat_map, range_with_len}
 use Rattle.cf_row.specs.Row.{RowValue}
 use Rattle.cf_row.specs.declared.row.Entry.{Entry}
@@ -7,7 +7,6 @@ use Rattle.cf_history.specs.History.{AskReply}
 use Rattle.cf_history.specs.Order.{IsOrder, log_of}
 use Rattle.cf_history.specs.Tails.{Turn, AreTails, batches_of}
 use Rattle.cf_history.proofs.Orders.{log_of_order}
-use Rattle.cf_history.proofs.OneWriter.{alone, is_order_one, log_of_one}
 use Rattle.cf_shape.specs.Lanes.{ShapeValue}
 use Rattle.cf_plain.specs.Asks.{rows_in}
 use Rattle.cf_plain.specs.declared.ask.Ask.{Ask}
@@ -76,16 +75,3 @@ meant_alone setup shape log answered finals alerts none = record {
   tails = subst (λ (lives : List Live). AreTails (length log) 0 setup.lives (map turn_of lives)) (sym none) (no_turns (length log) setup.lives);
   lives = subst (AllByRecursion (IsMeant shape setup log)) (sym none) tt;
 }
-
--- The report of the rows of one writer, with no live answers: the log is the rows one after the other.
-pub report_of_one : (setup : SetupValue) (capacity nodes : ℕ) (rows : List RowValue) (answered : LoadedValue)
-    → answered.finals ≡ map (answer_on (shaped setup capacity 1 nodes) (alone rows)) setup.asks
-    → answered.alerts ≡ alerts_on (shaped setup capacity 1 nodes) setup (rows_in (alone rows)) → answered.lives ≡ []
-    → IsReport setup capacity 1 nodes 0 rows (replicate (length rows) 0) (text_of Whole setup (alone rows) answered)
-report_of_one setup capacity nodes rows answered finals alerts none =
-    let log : List Entry = log_of rows 1 (replicate (length rows) 0) in
-    let same : alone rows ≡ log = sym (log_of_one rows) in
-    subst (λ (entries : List Entry). IsReport setup capacity 1 nodes 0 rows (replicate (length rows) 0) (text_of Whole setup entries answered)) (sym same)
-    (report_is setup capacity 1 nodes 0 rows (replicate (length rows) 0) answered (omega arith) (is_order_one (length rows))
-    (subst (λ (entries : List Entry). AreMeant setup (shaped setup capacity 1 nodes) 0 entries answered) same
-    (meant_alone setup (shaped setup capacity 1 nodes) (alone rows) answered finals alerts none)))

@@ -1,9 +1,9 @@
 -- What the questions and triggers of a setup mean doesn't depend on the sizes of the log.
-use Rattle.std.proofs.Common.{◌≡◌, ℕ, ◌<◌, Bool, ◌&&◌, ◌==◌, List, length, map, filter, refl, ap, ap₂, ◌∙◌}
+use Rattle.std.proofs.Common.{◌≡◌, ℕ, ◌<◌, ◌&&◌, ◌==◌, List, length, map, filter, refl, ap, ap₂, ◌∙◌}
 use Rattle.std.specs.List.{range_with_len}
 use Rattle.std.proofs.lemmas.List.Elements.{filter_agree}
 use Rattle.cf_row.specs.Row.{RowValue}
-use Rattle.cf_fold.specs.Quads.{QuadValue, quad_of}
+use Rattle.cf_fold.specs.Quads.{quad_of}
 use Rattle.cf_fold.specs.declared.trigger.Trigger.{Trigger}
 use Rattle.cf_history.specs.History.{AskReply}
 use Rattle.cf_history.specs.Order.{IsOrder, log_of}
@@ -21,7 +21,7 @@ use Rattle.cf_plain.specs.declared.answer.Fired.{Fired}
 use Rattle.cf_plain.proofs.Totals.{map_agree}
 use Rattle.cf_setup.specs.Setups.{SetupValue, shaped}
 use Rattle.cf_report.specs.Report.{final_part}
-use Rattle.cf_report.specs.Meaning.{told_on, finals_on, alerts_on, final_text}
+use Rattle.cf_report.specs.Meaning.{told_on, final_text}
 use Rattle.cf_report.proofs.Same.{one_final}
 
 module _ (setup : SetupValue) (c w n c' w' n' : ℕ) where

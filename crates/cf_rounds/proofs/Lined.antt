@@ -1,6 +1,6 @@
 -- The lines of questions.
-use Rattle.std.proofs.Common.{◌≡◌, ◌∙◌, ℕ, ◌+◌, ◌<◌, List, [], ◌∷◌, ◌++◌, length, map, codes, decimal, get_or, slice_index_or, refl, sym, ap, ap₂, append_assoc}
-use Rattle.std.proofs.lemmas.List.{get_or-map, map_more}
+use Rattle.std.proofs.Common.{◌≡◌, ◌∙◌, ℕ, ◌+◌, ◌<◌, List, [], ◌∷◌, ◌++◌, length, map, codes, sym, ap, ap₂, append_assoc}
+use Rattle.std.proofs.lemmas.List.{get_or-map}
 use Rattle.cf_row.specs.Row.{RowValue}
 use Rattle.cf_fold.specs.Sort.{sort}
 use Rattle.cf_history.specs.History.{AskReply}

@@ -48,9 +48,6 @@ pub near : (shape : ShapeValue) (ask : Ask) (from to : ℕ) (rows : List RowValu
 near shape ask from to rows body is low body_is =
     within_more (length rows) (2 ^ 32 - from) body (omega (arith, is, low)) (subst (IsWithin (length rows)) (sym body_is) (body_within shape ask rows))
 
-pub within_is : (shape : ShapeValue) (ask : Ask) (rows : List RowValue) (body : Body) → body ≡ eval_rows shape ask rows → IsWithin (length rows) body
-within_is shape ask rows body is = subst (IsWithin (length rows)) (sym is) (body_within shape ask rows)
-
 -- one row more
 pub numbered_more : (from : ℕ) (rows : List RowValue) (row : RowValue) → AreNumbered from rows → row.num ≡ from + length rows
     → AreNumbered from (rows ++ row ∷ [])

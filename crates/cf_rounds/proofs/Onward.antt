@@ -1,21 +1,20 @@
 -- How rounds go on as records come.
-use Rattle.std.proofs.Common.{◌≡◌, ◌∙◌, ℕ, ◌+◌, ◌-◌, ◌<◌, ◌≤◌, inl, inr, List, [], ◌∷◌, ◌++◌, length, drop, fold, Bool, true, false, if◌then◌else◌, slice_index_or, refl, sym, ap, ap₂, subst, arith, append_assoc, length-append}
+use Rattle.std.proofs.Common.{◌≡◌, ◌∙◌, ℕ, ◌+◌, ◌-◌, ◌<◌, ◌≤◌, List, [], ◌∷◌, ◌++◌, length, drop, fold, Bool, true, false, if◌then◌else◌, slice_index_or, refl, sym, ap, ap₂, subst, arith, length-append}
 use Rattle.std.specs.List.{AllByRecursion}
 use Rattle.std.proofs.lemmas.List.{take-append-le}
 use Rattle.std.proofs.lemmas.List.Elements.{All-weaker, recursion_from_All}
 use Rattle.std.proofs.lemmas.List.Sums.{fold_push}
 use Rattle.cf_row.specs.Row.{RowValue}
-use Rattle.cf_plain.specs.declared.answer.Fired.{Fired}
 use Rattle.cf_setup.specs.Setups.{SetupValue}
 use Rattle.cf_shape.specs.Lanes.{ShapeValue}
 use Rattle.cf_window.specs.Courses.{IsCourse}
 use Rattle.cf_window.specs.Held.{WindowValue, count_of, replaced}
 use Rattle.cf_window.specs.Laws.{IsMoment}
-use Rattle.cf_window.specs.Rounds.{Course, Span, came, span_of, start, with_round, within}
+use Rattle.cf_window.specs.Rounds.{Course, Span, came, span_of, with_round}
 use Rattle.cf_window.specs.Windows.{after_row, drops, rows_in_all}
-use Rattle.cf_window.proofs.Courses.{course_came, course_round, course_start, from_is, held_now, long}
+use Rattle.cf_window.proofs.Courses.{course_came, course_round, held_now}
 use Rattle.cf_window.proofs.Rows.{count_first, rows_dropped, rows_first, rows_kept}
-use Rattle.cf_rounds.specs.Held.{AreNumbered, HasEnded, HasRound, HasTaken, IsAt, RoundsValue, after_round, said_in, text_in, view_in}
+use Rattle.cf_rounds.specs.Held.{AreNumbered, IsAt, RoundsValue, after_round, said_in, text_in, view_in}
 use Rattle.cf_rounds.specs.Lines.{Said, WindowView, end_text, nothing_said, with_view}
 use Rattle.cf_rounds.specs.Texts.{said_on, view_of, with_span}
 use Rattle.cf_rounds.proofs.Numbers.{numbered_behind, numbered_more}
@@ -127,14 +126,3 @@ numbered_replaced window row one numbered number =
     (numbered_more (window.from + length first) rest row
     (numbered_behind window.from first rest (subst (AreNumbered window.from) (rows_first window.segments) numbered))
     (number ∙ (omega (arith, all))))
-
--- No record has come.
-pub at_begun : (rounds : RoundsValue) (shape : ShapeValue) (most : ℕ)
-    → rounds.window ≡ record { shape = shape; most = most; from = 0; segments = []; is_spent = false } → rounds.marks ≡ [] → rounds.asked ≡ 0
-    → IsAt rounds [] start []
-at_begun rounds shape most window marks asked = record {
-  come = course_start (rounds.window).shape (rounds.window).most;
-  segments = ap (λ (w : WindowValue). w.segments) window;
-  count = ap count_of window;
-  said = ap₂ (λ (ms : List (List Fired)) (n : ℕ). record { marks = ms; asked = n; text = [] }) (sym marks) (sym asked);
-}

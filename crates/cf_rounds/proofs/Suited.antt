@@ -1,12 +1,10 @@
 -- A setup's questions and triggers suit its window.
-use Rattle.std.proofs.Common.{◌≡◌, ◌∙◌, ℕ, ◌<◌, ◌-◌, List, length, nat_lt, get_or, sym, ap, subst, All}
+use Rattle.std.proofs.Common.{◌≡◌, ◌∙◌, ℕ, ◌<◌, ◌-◌, List, length, nat_lt, get_or, sym, subst, All}
 use Rattle.std.proofs.lemmas.Bool.{ltb-true}
 use Rattle.std.proofs.lemmas.List.Sums.{AllPass-from_list_all}
 use Rattle.cf_fold.specs.declared.trigger.Trigger.{Trigger}
-use Rattle.cf_plain.specs.Answered.{no_ask}
 use Rattle.cf_plain.specs.Asks.{Suits, SuitsTrigger, suits_of, suits_trigger}
 use Rattle.cf_plain.specs.declared.ask.Ask.{Ask}
-use Rattle.cf_report.specs.Answered.{ask_at}
 use Rattle.cf_setup.specs.Setups.{IsSetup, SetupValue, shaped}
 use Rattle.cf_shape.specs.Lanes.{ShapeValue}
 use Rattle.cf_window.specs.Held.{WindowValue}

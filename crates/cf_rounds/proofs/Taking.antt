@@ -1,28 +1,20 @@
 -- What the calls of rounds do, wherever the stream is.
 use Rattle.std.proofs.Common.{◌≡◌, ◌∙◌, ℕ, ◌+◌, ◌<◌, ◌≤◌, List, [], ◌∷◌, ◌++◌, length, drop, slice_index_or, Bool, true, false, not, ◌&&◌, nat_le, if◌then◌else◌, refl, sym, ap, ap₂, subst, append_assoc}
-use Rattle.std.specs.List.{flat_map}
 use Rattle.cf_row.specs.Row.{RowValue}
 use Rattle.cf_row.proofs.Bytes.{both}
-use Rattle.cf_report.specs.Meaning.{alerts_on}
 use Rattle.cf_setup.specs.Setups.{SetupValue}
-use Rattle.cf_shape.specs.Lanes.{ShapeValue}
 use Rattle.cf_window.specs.Held.{HasPushed, WindowValue, count_of, replaced, without_oldest}
-use Rattle.cf_window.specs.Rounds.{Course, Span, came, span_of, with_round}
-use Rattle.cf_window.specs.Windows.{after_row, drops, goes_in, rows_in_all}
+use Rattle.cf_window.specs.Rounds.{Course, Span, came, with_round}
+use Rattle.cf_window.specs.Windows.{drops, goes_in, rows_in_all}
 use Rattle.cf_window.specs.declared.window.Pushed.{Pushed}
 use Rattle.cf_window.specs.declared.window.Pushed.TheVariants.{Gone, NeedsDrop}
 use Rattle.cf_window.proofs.Dropping.{out_of}
 use Rattle.cf_window.proofs.Rows.{rows_first}
-use Rattle.cf_rounds.specs.Held.{AreNumbered, HasAnswered, HasAskedLives, HasEnded, HasRound, HasTaken, IsAt, IsRounds, RoundsValue, after_round, text_in, view_in}
-use Rattle.cf_rounds.specs.Lines.{end_text, fresh_lines, is_due, live_line}
-use Rattle.cf_rounds.specs.Texts.{said_on, view_of}
+use Rattle.cf_rounds.specs.Held.{AreNumbered, HasAnswered, HasEnded, HasRound, HasTaken, IsAt, IsRounds, RoundsValue, after_round, text_in, view_in}
+use Rattle.cf_rounds.specs.Lines.{end_text}
 use Rattle.cf_rounds.specs.declared.rounds.Taken.TheVariants as taken
 use Rattle.cf_rounds.proofs.Numbers.{numbered_behind}
 use Rattle.cf_rounds.proofs.Onward.{at_came, at_round, count_kept, count_replaced, ends, numbered_kept, numbered_replaced}
-
--- the lines of the live questions, where they are due
-abbrev lives_in : RoundsValue → List ℕ
-lives_in m = if is_due m.every m.asked (view_in m.window).to then flat_map (live_line (m.window).shape m.setup (view_in m.window)) (m.setup).lives else []
 
 pub has_round : (old new : RoundsValue) (before after : List ℕ) → new ≡ after_round old → after ≡ before ++ text_in old → HasRound old before new after
 has_round old new before after is text rows course written at =
@@ -30,19 +22,6 @@ has_round old new before after is text rows course written at =
     (subst (λ (t : List ℕ). IsAt (after_round old) rows (with_round course) t)
     (append_assoc written before (text_in old) ∙ ap (λ (t : List ℕ). written ++ t) (sym text))
     (at_round old rows course (written ++ before) at))
-
--- the marks were told, and then the live questions asked
-pub round_made : (old mid new : RoundsValue) (t₀ t₁ t₂ : List ℕ) → mid ≡ record old { marks = alerts_on (old.window).shape old.setup (view_in old.window).rows }
-    → t₁ ≡ t₀ ++ fresh_lines old.setup (view_in old.window).to old.marks (alerts_on (old.window).shape old.setup (view_in old.window).rows)
-    → HasAskedLives mid t₁ new t₂
-    → (new ≡ after_round old) × (t₂ ≡ t₀ ++ text_in old)
-round_made old mid new t₀ t₁ t₂ is text asked = (
-  asked.0 ∙ ap (λ (m : RoundsValue). record m { asked = if is_due m.every m.asked (view_in m.window).to then (view_in m.window).to else m.asked }) is,
-  asked.1
-      ∙ (ap₂ (λ (t : List ℕ) (m : RoundsValue). t ++ lives_in m) text is
-      ∙ append_assoc t₀ (fresh_lines old.setup (view_in old.window).to old.marks (alerts_on (old.window).shape old.setup (view_in old.window).rows))
-      (lives_in old)),
-)
 
 abbrev rounds_by : Course → Bool → List Span
 rounds_by course b = (if b then with_round course else course).rounds

@@ -1,12 +1,11 @@
 -- Rounds as their caller holds them, and what their calls do.
-use Rattle.std.specs.Prelude.{◌≡◌, ℕ, ◌+◌, ◌<◌, ◌≤◌, Bool, true, false, List, [], ◌∷◌, ◌++◌, length, if◌then◌else◌}
+use Rattle.std.specs.Prelude.{◌≡◌, ℕ, ◌+◌, ◌<◌, ◌≤◌, true, false, List, [], ◌∷◌, ◌++◌, length, if◌then◌else◌}
 use Rattle.std.specs.List.{flat_map}
 use Rattle.cf_row.specs.Row.{RowValue}
 use Rattle.cf_plain.specs.Asks.{row_at}
 use Rattle.cf_plain.specs.declared.answer.Fired.{Fired}
 use Rattle.cf_report.specs.Meaning.{alerts_on}
 use Rattle.cf_setup.specs.Setups.{SetupValue, shaped}
-use Rattle.cf_shape.specs.Lanes.{ShapeValue}
 use Rattle.cf_window.specs.Courses.{IsCourse}
 use Rattle.cf_window.specs.Held.{WindowValue, count_of}
 use Rattle.cf_window.specs.Rounds.{Course, came, span_of, with_round}

@@ -1,9 +1,7 @@
 -- Laws of rounds.
-use Rattle.std.specs.Prelude.{◌≡◌, ℕ, ◌<◌, Bool, false, List, [], slice_get, Some}
-use Rattle.cf_plain.specs.declared.answer.Fired.{Fired}
+use Rattle.std.specs.Prelude.{◌≡◌, ℕ, ◌<◌, []}
 use Rattle.cf_setup.specs.Setups.{SetupValue}
 use Rattle.cf_shape.specs.Lanes.{ShapeValue}
-use Rattle.cf_watch.specs.New.{has_bucket_of, newly}
 use Rattle.cf_rounds.specs.Lines.{Said, WindowView, with_view}
 
 -- A round on the window of the round before writes nothing.

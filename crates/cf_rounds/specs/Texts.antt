@@ -3,7 +3,7 @@ use Rattle.std.specs.Prelude.{ℕ, List, ◌++◌, fold}
 use Rattle.cf_row.specs.Row.{RowValue}
 use Rattle.cf_setup.specs.Setups.{SetupValue}
 use Rattle.cf_shape.specs.Lanes.{ShapeValue}
-use Rattle.cf_window.specs.Rounds.{Course, Span, after_reads, span_of, with_round, within}
+use Rattle.cf_window.specs.Rounds.{Span, after_reads, span_of, with_round, within}
 use Rattle.cf_window.specs.Windows.{rows_in_all}
 use Rattle.cf_rounds.specs.Lines.{Said, WindowView, end_text, nothing_said, with_view}
 

@@ -17,10 +17,6 @@ AreBytes xs = list_all (λ byte. nat_lt byte 256) xs ≡ true
 bytes_cons : (x : ℕ) (xs : List ℕ) → AreBytes (x ∷ xs) → (x < 256) × AreBytes xs
 bytes_cons x xs h = let b = both (nat_lt x 256) (list_all (λ byte. nat_lt byte 256) xs) h in (ltb-true x 256 b.0, b.1)
 
-big_none : big_number [] ≡ 0
-unfolding big_number
-big_none = refl
-
 pub big_small : (xs : List ℕ) → AreBytes xs → big_number xs < 256 ^ length xs
 unfolding big_number
 big_small [] h = omega arith

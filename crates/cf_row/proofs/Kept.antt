@@ -297,24 +297,11 @@ no_and : (a b : Bool) → b ≡ false → (a && b) ≡ false
 no_and true b h = h
 no_and false b h = refl
 
-not_all : (vs : List Value) (i : ℕ) → i < length vs → can_be_kept (get_or vs i (Num 0)) ≡ false → list_all can_be_kept vs ≡ false
-not_all [] i lt unkept = absurd (omega (arith, lt))
-not_all (v ∷ vs) zero lt unkept = ap (λ (t : Bool). t && list_all can_be_kept vs) unkept
-not_all (v ∷ vs) (suc i) lt unkept = no_and (can_be_kept v) (list_all can_be_kept vs) (not_all vs i (omega (arith, lt)) unkept)
-
 above : (n m : ℕ) → m < n → nat_le n m ≡ false
 above n m lt = elim (cases_Bool (nat_le n m)) [
   | inl e ↦ (let le = leb-true n m e in absurd (omega (arith, le, lt)))
   | inr e ↦ e
 ]
-
--- why values have no room within a row
-pub too_many_values : (vs : List Value) → 20 < length vs → lie_within vs ≡ false
-too_many_values vs gt = ap (λ (t : Bool). t && list_all can_be_kept vs && nat_le (length (values_words vs)) 20) (above (length vs) 20 gt)
-
-pub one_is_not_kept : (vs : List Value) (i : ℕ) → i < length vs → can_be_kept (get_or vs i (Num 0)) ≡ false → lie_within vs ≡ false
-one_is_not_kept vs i lt unkept =
-    ap (λ (t : Bool). t && nat_le (length (values_words vs)) 20) (no_and (nat_le (length vs) 20) (list_all can_be_kept vs) (not_all vs i lt unkept))
 
 pub too_many_words : (vs : List Value) (i at n : ℕ) → i < length vs → at ≡ length (values_words (take i vs))
     → is_of_kind (kind_of n) (get_or vs i (Num 0)) ≡ true → 20 < at + words_of_kind (kind_of n) → lie_within vs ≡ false

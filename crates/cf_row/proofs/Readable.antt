@@ -2,7 +2,7 @@
 use Rattle.std.proofs.Common.{◌≡◌, ℕ, ◌+◌, ◌-◌, ◌^◌, ◌<◌, ◌≤◌, ◌==◌, List, [], ◌∷◌, ◌++◌, length, get_or, take, drop, replicate, cond, Bool, true, ◌&&◌, nat_lt, nat_le, inl, inr, refl, arith, ap, ap₂, sym, ◌∙◌, subst, length-append, append_assoc, length-drop}
 use Rattle.std.specs.List.{list_all}
 use Rattle.std.proofs.lemmas.Bool.{cases_Bool, and_from, ltb-true, ltb-false, lt-ltb, leb-true, le-leb, eq-eqb}
-use Rattle.std.proofs.lemmas.List.{length-take-le, length-replicate, take-append-drop, drop_at, take_at, get_or_at, append-nil, drop-append-le}
+use Rattle.std.proofs.lemmas.List.{length-take-le, length-replicate, drop_at, take_at}
 use Rattle.std.proofs.lemmas.Nat.{div-add-mod'}
 use Rattle.cf_row.specs.declared.schema.Attr.{Attr}
 use Rattle.cf_row.specs.declared.schema.Kind.{Kind}
@@ -15,7 +15,7 @@ use Rattle.cf_row.specs.Schema.{has_good_size}
 use Rattle.cf_row.specs.Words.{words_of_kind, word_count, big_number, big_bytes, raw_words, value_words, values_words, tag_of, spelled, IsEntry, AreSpelled, raw_read, value_read, values_read, entry_read, word_fits, words_fit}
 use Rattle.cf_row.proofs.Counts.{count_none, count_cons}
 use Rattle.cf_row.proofs.Bytes.{both, AreBytes, big_small, bytes_take, bytes_drop, bytes_back, big_long, big_bytes_low, bytes_append, zeros_all, zeros_low}
-use Rattle.cf_row.proofs.Spelling.{string_of, value_long, value_back, values_long, spelled_long, entry_back, words_none, words_cons}
+use Rattle.cf_row.proofs.Spelling.{string_of, value_long, spelled_long, entry_back, words_none, words_cons}
 
 pub fit_cons : (a : Attr) (attrs : List Attr) (ws : List ℕ)
     → words_fit (a ∷ attrs) ws ≡ (word_fits a.kind ws && words_fit attrs (drop (words_of_kind a.kind) ws))

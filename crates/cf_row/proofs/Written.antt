@@ -1,9 +1,9 @@
 -- Bytes that are written one by one from the last.
-use Rattle.std.proofs.Common.{◌≡◌, ℕ, ◌+◌, ◌*◌, ◌-◌, ◌/◌, ◌%◌, ◌^◌, ◌<◌, ◌≤◌, zero, suc, cond, Bool, List, [], ◌∷◌, ◌++◌, length, set, take, drop, replicate, get_or, refl, arith, ap, ap₂, sym, ◌∙◌, append_assoc, length-append, length-drop}
+use Rattle.std.proofs.Common.{◌≡◌, ℕ, ◌+◌, ◌*◌, ◌-◌, ◌/◌, ◌%◌, ◌^◌, ◌<◌, ◌≤◌, zero, suc, cond, Bool, List, [], ◌∷◌, ◌++◌, length, set, take, drop, replicate, get_or, refl, arith, ap, ap₂, sym, ◌∙◌, append_assoc}
 use Rattle.std.proofs.lemmas.Nat.{div_below}
 use Rattle.std.proofs.lemmas.Bool.{le-ltb, lt-ltb}
 use Rattle.std.proofs.Math.Nat.{pow-suc}
-use Rattle.std.proofs.lemmas.List.{take-set-le, drop-set, drop_at, take_at, drop-drop, drop-replicate, take-append-drop, drop_all, take_all}
+use Rattle.std.proofs.lemmas.List.{take-set-le, drop-set, drop_at, take_at, drop-drop, drop-replicate, take-append-drop}
 use Rattle.cf_row.specs.Words.{big_bytes, raw_read}
 use Rattle.cf_row.proofs.Bytes.{big_last, big_long}
 

@@ -1,5 +1,5 @@
 -- A log is filled row by row.
-use Rattle.std.proofs.Common.{append-nil, ◌≡◌, ◌⊎◌, inl, inr, ℕ, ◌+◌, ◌*◌, ◌<◌, ◌≤◌, ◌%◌, Bool, true, false, List, [], ◌++◌, length, map, All, Result, Ok, Err, MatchResult, refl, sym, ap, ap₂, subst, ◌∙◌, arith, length-append, mul_comm, ◌^◌}
+use Rattle.std.proofs.Common.{append-nil, ◌≡◌, ◌⊎◌, inl, inr, ℕ, ◌+◌, ◌*◌, ◌<◌, ◌≤◌, ◌%◌, Bool, true, false, List, [], ◌++◌, length, map, All, refl, sym, ap, ap₂, subst, ◌∙◌, arith, length-append, mul_comm, ◌^◌}
 use Rattle.std.proofs.lemmas.Bool.{both_ways, false_from_ne_true}
 use Rattle.std.proofs.lemmas.Bool.Decides.{leb_tells}
 use Rattle.std.proofs.lemmas.List.{drop_at}
@@ -12,19 +12,15 @@ use Rattle.cf_plain.specs.Answered.{LoadedValue, answer_on}
 use Rattle.cf_plain.specs.declared.loaded.Live.{Live}
 use Rattle.cf_table.specs.Moves.{SealValue}
 use Rattle.cf_history.specs.Order.{IsLogOf}
-use Rattle.cf_load.specs.Loaders.{LoaderValue, IsFresh, IsLoading, IsBatched, IsRefused, IsFinished}
+use Rattle.cf_load.specs.Loaders.{LoaderValue, IsFresh, IsLoading, IsFinished}
 use Rattle.cf_load.specs.Loading.{HasAnswered}
-use Rattle.cf_segments.specs.Segments.{SegmentsValue, SegmentsGoOn, HoldsRows, KeepsSegment, all_of, entries_of, room_of, sealed, told_of}
+use Rattle.cf_segments.specs.Segments.{SegmentsValue, HoldsRows, KeepsSegment, all_of, entries_of, room_of, sealed, told_of}
 use Rattle.cf_load.specs.Planned.{tails_of, marks_on}
 use Rattle.cf_load.specs.declared.plan.LivePlan.{LivePlan}
 use Rattle.cf_segments.specs.declared.segments.Sealing.{Sealing}
-use Rattle.cf_load.specs.declared.loads.LoadFault.{LoadFault}
-use Rattle.cf_load.specs.declared.loads.LoadFault.TheVariants.{Full, NodesFull}
 use Rattle.cf_segments.proofs.Zips.{zip_long}
 use Rattle.cf_segments.proofs.Chains.{rows_are_log}
 use Rattle.cf_segments.proofs.Kept.{kept_base, kept_shape}
-use Rattle.cf_load.proofs.Loaders.{refused_goes}
-use Rattle.cf_load.proofs.Loading.{told_more}
 use Rattle.cf_command.specs.declared.words.LogSizes.{LogSizes}
 use Rattle.cf_setup.specs.Setups.{SetupValue}
 use Rattle.cf_run.specs.Filling.{FillingValue, KeepsLog, IsLoadedSo, AreLoaded, HasBatch, IsFilled, LoadsWaiting, IsFilledFor, most_waiting, rows_waiting}
@@ -57,46 +53,8 @@ none_filled f plan holds one told fresh begins none zero = record {
   idle = λ _. none;
 }
 
--- whatever a batch comes to, the segments go on
-pub batch_goes : {T : Type 0} (before waiting : List RowValue) (old new : LoaderValue) (s t : SegmentsValue) (result : Result T LoadFault)
-    → MatchResult result (λ x. IsBatched before waiting old new s t) (IsRefused before waiting s t) → SegmentsGoOn s t
-batch_goes before waiting old new s t (Ok x) made = made.same
-batch_goes before waiting old new s t (Err fault) left = refused_goes before waiting s t fault left
-
 -- The rows that wait are loaded, or not.
 module _ (waiting : List RowValue) (s t : SegmentsValue) (old new : LoaderValue) where
-  pub waiting_loaded : 0 < length waiting → ((before : List RowValue) → IsLoading s before old → IsBatched before waiting old new s t)
-      → LoadsWaiting waiting s t old new
-  waiting_loaded some batched = λ before so.
-      let b = batched before so.loading in
-      let within = b.within in
-      let sum = length-append before waiting in
-      inl (record {
-        loading = b.loading;
-        told = told_more [] (told_of s) (told_of t) old.lives b.more so.told b.told ∙ ap (λ (l : LoaderValue). tails_of l.lives) (sym b.loader);
-        begun = λ _. omega (arith, within, sum, some);
-      })
-
-  pub waiting_lack : (fault : LoadFault) (writer : ℕ) → fault ≡ NodesFull writer
-      → ((before : List RowValue) → IsLoading s before old → IsRefused before waiting s t fault) → new ≡ record old { stopped = true; found = new.found }
-      → LoadsWaiting waiting s t old new
-  waiting_lack fault writer is refused stopped = λ before so.
-      let left : IsRefused before waiting s t (NodesFull writer) = subst (λ (f : LoadFault). IsRefused before waiting s t f) is (refused before so.loading) in
-      inr (ap (λ (l : LoaderValue). l.stopped) stopped, (writer, left.2))
-
-  -- there is room for them
-  pub waiting_room : (fault : LoadFault) → fault ≡ Full → ((before : List RowValue) → IsLoading s before old → IsRefused before waiting s t fault)
-      → HasBatch s waiting old → ⊥
-  waiting_room fault is refused due =
-      let left : IsRefused due.before waiting s t Full =
-      subst (λ (f : LoadFault). IsRefused due.before waiting s t f) is (refused due.before due.loaded.loading) in
-      let many = left.0 in
-      let room = due.room in
-      absurd (omega (arith, many, room))
-
--- the loader counts whole batches
-pub batch_whole : (s : SegmentsValue) (waiting : List RowValue) (loader : LoaderValue) → HasBatch s waiting loader → loader.count % 4096 ≡ 0
-batch_whole s waiting loader due = ap (λ (n : ℕ). n % 4096) due.loaded.loading.count ∙ due.whole
 
 pub fit_after : (attrs : List Attr) (before waiting : List RowValue) → All (Fits attrs) (before ++ waiting) → All (Fits attrs) waiting
 fit_after attrs before waiting fit =
@@ -105,10 +63,6 @@ fit_after attrs before waiting fit =
 
 -- the rows that came, while there is room for them
 module _ (f : FillingValue) (rows : List RowValue) (is : IsFilled f rows) where
-  -- a number of 20 bits counts them
-  pub room_small : room_of f.segments ≤ 2 ^ 20
-  room_small = is.allowed.rows
-
   pub over : room_of f.segments < f.count → room_of f.segments < length rows
   over many = let counted = is.count_is in omega (arith, counted, many)
 

@@ -1,6 +1,6 @@
 -- From a log that is loaded and closed to what is told of it.
 use Rattle.std.proofs.Common.{◌≡◌, ℕ, ◌<◌, nat_lt, List, [], ◌∷◌, length, map, get_or, All, Result, Ok, Err, MatchResult, refl, sym, ap, ap₂, subst, ◌∙◌, ◌≤◌, ◌^◌, mul_comm}
-use Rattle.std.specs.List.{flat_map, range_with_len}
+use Rattle.std.specs.List.{range_with_len}
 use Rattle.std.proofs.lemmas.Bool.{ltb-true}
 use Rattle.std.proofs.lemmas.List.{length-map}
 use Rattle.std.proofs.lemmas.List.Sums.{AllPass-from_list_all}

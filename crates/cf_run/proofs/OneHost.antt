@@ -1,5 +1,5 @@
 -- The rows of hosts, one more host at a time.
-use Rattle.std.proofs.Common.{◌≡◌, ◌⊎◌, ℕ, zero, suc, ◌<◌, ◌≤◌, ◌+◌, ◌*◌, List, [], ◌∷◌, ◌++◌, length, map, take, drop, fold, replicate, get_or, All, Any, Option, None, append_assoc, refl, sym, ap, ap₂, subst, ◌∙◌, inl, inr, arith}
+use Rattle.std.proofs.Common.{◌≡◌, ◌⊎◌, ℕ, zero, suc, ◌<◌, ◌≤◌, ◌+◌, ◌*◌, List, [], ◌∷◌, ◌++◌, length, map, take, drop, fold, replicate, get_or, All, Option, None, append_assoc, refl, sym, ap, ap₂, subst, ◌∙◌, inl, inr, arith}
 use Rattle.std.specs.List.{AllByRecursion, flat_map, list_any, range_with_len}
 use Rattle.std.proofs.lemmas.Bool.{cases_Bool}
 use Rattle.std.proofs.lemmas.List.{get_or-map, length-map}
@@ -71,17 +71,9 @@ one_below P hosts i host lt is has below k d low = elim (less_or_same k i low) [
   | inr same ↦ subst (λ (j : ℕ). P (get_or (rows_each hosts) j d)) (sym same) (subst P (sym (at_host hosts i host d lt is)) has)
 ]
 
-pub all_below : (P : List RowValue → Type 0) (hosts : List Captured) (i : ℕ) → length hosts ≤ i → AreBelow P (rows_each hosts) i
-    → All P (rows_each hosts)
-all_below P hosts i end below k d lt = below k d (omega (arith, lt, end, as_many hosts))
-
 pub one_of_all : (P : List RowValue → Type 0) (hosts : List Captured) (i : ℕ) (host : Captured) → i < length hosts
     → host ≡ get_or hosts i host → All P (rows_each hosts) → P host.rows.items
 one_of_all P hosts i host lt is all = subst P (at_host hosts i host host.rows.items lt is) (all i host.rows.items (omega (arith, lt, as_many hosts)))
-
-pub any_host : (P : List RowValue → Type 0) (hosts : List Captured) (i : ℕ) (host : Captured) → i < length hosts
-    → host ≡ get_or hosts i host → P host.rows.items → Any P (rows_each hosts)
-any_host P hosts i host lt is has = (i, host.rows.items, omega (arith, lt, as_many hosts), at_host hosts i host host.rows.items lt is, has)
 
 -- A log of one writer.
 

@@ -1,5 +1,5 @@
 -- Rows are taken in lists, and loaded in whole batches.
-use Rattle.std.proofs.Common.{append-nil, ◌≡◌, ◌⊎◌, inl, inr, ℕ, ◌+◌, ◌-◌, ◌*◌, ◌<◌, ◌≤◌, ◌%◌, min, true, false, List, [], ◌++◌, length, take, drop, All, Result, Ok, Err, IfOk, sym, ap, ap₂, subst, ◌∙◌, arith, length-append}
+use Rattle.std.proofs.Common.{◌≡◌, ◌⊎◌, inl, inr, ℕ, ◌+◌, ◌-◌, ◌*◌, ◌<◌, ◌≤◌, ◌%◌, min, true, false, List, [], ◌++◌, length, take, drop, All, Result, Ok, Err, IfOk, sym, ap, ap₂, subst, ◌∙◌, arith, length-append}
 use Rattle.std.specs.Prelude.{if◌then◌else◌, is_ok, slice_range}
 use Rattle.std.proofs.Math.Seq.{take-add}
 use Rattle.std.proofs.lemmas.Bool.{both_ways}
@@ -11,12 +11,8 @@ use Rattle.cf_load.specs.Loaders.{LoaderValue}
 use Rattle.cf_load.specs.Loads.{LacksNodes}
 use Rattle.cf_segments.specs.Segments.{SegmentsValue, AllowsSegments, room_of}
 use Rattle.cf_load.proofs.Loaders.{lacks_more}
-use Rattle.cf_run.specs.Filling.{FillingValue, IsLoadedSo, AreLoaded, HasBatch, HasRows, IsFilled, IsWaiting, LoadsWaiting, LoadsWhole}
+use Rattle.cf_run.specs.Filling.{FillingValue, AreLoaded, HasBatch, HasRows, IsFilled, IsWaiting, LoadsWaiting, LoadsWhole}
 use Rattle.cf_run.proofs.Filled.{fit_after, loaded_of}
-
--- no row is loaded
-pub loads_none : (s : SegmentsValue) (loader : LoaderValue) → LoadsWaiting [] s s loader loader
-loads_none s loader = λ before so. inl (subst (λ (rs : List RowValue). IsLoadedSo s rs loader) (sym (append-nil before)) so)
 
 module _ (s t : SegmentsValue) (rows : List RowValue) (old mid : LoaderValue) (count : ℕ) (loads : LoadsWaiting (take count rows) s t old mid)
     (going : mid.stopped ≡ false) where

@@ -572,12 +572,6 @@ said_lawful number before line new d h = by (is_silent line) h
     by true k = subst IsDraft (same k) d
     by false k = let law = line_only number before line in stated_lawful number before line new d (subst (LineRead number before line) k law.holds)
 
-pub nothing_lawful : IsDraft nothing_stated
-nothing_lawful = record { unstated = λ e. refl; lawful = λ attrs e. clash attrs e }
-  where
-    clash : (attrs : List Attr) → None ≡ Some attrs → IsSetup (settled nothing_stated attrs)
-    clash attrs e = cc
-
 pub draft_few : (before : DraftValue) → IsDraft before → IsFew before
 draft_few before d = by before.schema refl
   where

@@ -1,5 +1,5 @@
 -- The uses of a ticket's words: each lane has its cell words, and no use stands twice.
-use Rattle.std.proofs.Common.{◌≡◌, ℕ, ◌+◌, ◌*◌, ◌<◌, ◌≤◌, zero, suc, List, [], ◌∷◌, ◌++◌, length, take, get_or, inl, inr, refl, arith, ap, sym, ◌∙◌, length-append}
+use Rattle.std.proofs.Common.{◌≡◌, ℕ, ◌+◌, ◌*◌, ◌<◌, ◌≤◌, zero, suc, List, [], ◌∷◌, ◌++◌, length, take, get_or, inl, inr, refl, arith, ap, sym, ◌∙◌}
 use Rattle.std.proofs.lemmas.List.{get_or-append-add}
 use Rattle.std.proofs.lemmas.Bool.{cases_lt}
 use Rattle.cf_row.specs.Words.{word_count}
@@ -31,19 +31,9 @@ versions_at l k zero i rest lt = absurd (omega arith)
 versions_at l k (suc n) zero rest lt = ap (version l) (let e : k ≡ k + 0 = omega arith in e)
 versions_at l k (suc n) (suc i) rest lt = versions_at l (suc k) n i rest (omega arith) ∙ ap (version l) (let e : suc k + i ≡ k + suc i = omega arith in e)
 
-cells_none : (k : ℕ) → cells k [] ≡ []
-unfolding cells
-cells_none k = refl
-
 cells_cons : (k : ℕ) (x : Lane) (xs : List Lane) → cells k (x ∷ xs) ≡ versions k 0 (cell_words x) ++ cells (suc k) xs
 unfolding cells
 cells_cons k x xs = refl
-
-pub cells_long : (k : ℕ) (lanes : List Lane) → length (cells k lanes) ≡ cell_count lanes
-cells_long k [] = ap (length {A = Use}) (cells_none k) ∙ sym count_none
-cells_long k (x ∷ xs) =
-    let e = ap (length {A = Use}) (cells_cons k x xs) in
-    omega (arith, e, length-append (versions k 0 (cell_words x)) (cells (suc k) xs), versions_long k 0 (cell_words x), cells_long (suc k) xs, count_cons x xs)
 
 cells_past : (k i : ℕ) (x : Lane) (xs : List Lane) → get_or (cells k (x ∷ xs)) (cell_words x + i) (plain 0) ≡ get_or (cells (suc k) xs) i (plain 0)
 cells_past k i x xs =
@@ -98,9 +88,6 @@ before_fits [] l lt = absurd (omega arith)
 before_fits (x ∷ xs) zero lt = omega (arith, count_cons x xs, count_none)
 before_fits (x ∷ xs) (suc l) lt = omega (arith, count_cons x xs, count_cons x (take l xs), before_fits xs l (omega arith))
 
-pub uses_long : (s : ShapeValue) → suc (length (uses s)) ≡ ticket_words s
-uses_long s = omega (arith, length-append (plains 0 (word_count s.schema + 1)) (cells 0 s.lanes), plains_long 0 (word_count s.schema + 1), cells_long 0 s.lanes)
-
 pub plain_at : (s : ShapeValue) (i : ℕ) → i < word_count s.schema + 1 → use_at s i ≡ plain i
 plain_at s i lt = plains_at 0 (word_count s.schema + 1) i (cells 0 s.lanes) lt ∙ ap plain (let e : 0 + i ≡ i = omega arith in e)
 
@@ -133,15 +120,4 @@ version_is s k l i lt is = elim (cases_lt k (word_count s.schema + 1)) [
         at ∙ (ap (λ (m : ℕ). word_count s.schema + 1 + cells_before s m + r.word) same.0
             ∙ ap (λ (m : ℕ). word_count s.schema + 1 + cells_before s l + m) same.1),
       )
-]
-
--- a word of an attribute or the tag is before the cells
-pub plain_is : (s : ShapeValue) (k i : ℕ) → suc k < ticket_words s → use_at s k ≡ plain i → (k < word_count s.schema + 1) × (k ≡ i)
-plain_is s k i lt is = elim (cases_lt k (word_count s.schema + 1)) [
-  | inl low ↦ (low, (let e : k ≡ i = cc (sym (plain_at s k low) ∙ is) in e))
-  | inr le ↦
-      let j : ℕ = Rattle.std.specs.Prelude.◌-◌ k (word_count s.schema + 1) in
-      let r = cell_found s.lanes j (omega arith) in
-      let at : k ≡ word_count s.schema + 1 + cells_before s r.lane + r.word = (let h = r.at in omega (arith, h)) in
-      absurd (cc (sym (version_at s r.lane r.word r.exists r.low) ∙ (ap (use_at s) (sym at) ∙ is)))
 ]

@@ -1,19 +1,13 @@
 -- Whole files, and files of which only the front counts.
-use Rattle.std.proofs.Common.{◌≡◌, ◌⊎◌, inl, inr, ℕ, ◌≤◌, ◌+◌, List, [], ◌++◌, length, Result, Ok, Err, MatchResult, sym, ap, subst, ◌∙◌, arith, append-nil}
-use Rattle.cf_stream.specs.Limits.{IsShort, IsAtLimit, number_of}
+use Rattle.std.proofs.Common.{◌≡◌, ◌⊎◌, inl, inr, ℕ, ◌≤◌, ◌+◌, List, [], ◌++◌, length, Result, Ok, Err, MatchResult, sym, ap, subst, ◌∙◌, append-nil}
+use Rattle.cf_stream.specs.Limits.{IsAtLimit, number_of}
 use Rattle.cf_stream.specs.Format.{Format, IsWhole, HasFault}
 use Rattle.cf_stream.specs.Stream.{IsStepper, AreGiven, IsFed, IsEnded}
-use Rattle.cf_stream.proofs.Limits.{none_short, not_both, short_less, limit_long}
-use Rattle.cf_stream.proofs.Units.{reads_nothing, reads_fit, wants_none}
+use Rattle.cf_stream.proofs.Limits.{none_short, not_both, limit_long}
+use Rattle.cf_stream.proofs.Units.{reads_nothing, wants_none}
 use Rattle.cf_stream.proofs.Seen.{early_short}
 use Rattle.cf_stream.proofs.Cases.{found_more}
 use Rattle.cf_stream.proofs.Given.{given_of, one_given}
-
--- a file's items are no more than its bytes may be
-pub few_items : {S I F : Type 0} (f : Format S I F) (is : IsStepper f) (file : List ℕ) (items : List I) → IsWhole f file items → IsShort f.length (length items)
-few_items f is file items whole =
-    let most : length items + length {A = ℕ} [] ≤ length file = reads_fit f is f.start file items whole.last [] whole.read in
-    short_less f.length (length items) (length file) (omega (arith, most)) whole.size
 
 -- what a file's first bytes say of it, where they are all of it or just too many
 pub fault_of_front : {S I F : Type 0} (f : Format S I F) (is : IsStepper f) (front rest : List ℕ) (fault : F) → (rest ≡ []) ⊎ IsAtLimit f.length (length front)

@@ -143,6 +143,3 @@ ended_whole f is s rest stream count runs none ends is_count =
 pub ended_cut : {S I F : Type 0} (f : Format S I F) (s : S) (rest stream : List ℕ) (fault : F) → Runs f s rest stream → (0 < length rest)
     ⊎ (f.may_end s ≡ false) → fault ≡ f.cut s → IsEnded f stream (Err fault)
 ended_cut f s rest stream fault runs left is_fault = inr (s, is_fault, cut_of f stream runs.items s rest runs.size runs.read runs.part left)
-
-pub ended_found : {S I F : Type 0} (f : Format S I F) (stream : List ℕ) (fault : F) → IsFound f stream fault → IsEnded f stream (Err fault)
-ended_found f stream fault found = inl found

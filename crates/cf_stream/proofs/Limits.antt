@@ -3,7 +3,7 @@ use Rattle.std.proofs.Common.{◌≡◌, ◌⊎◌, inl, ℕ, ◌≤◌, ◌+◌
 use Rattle.std.proofs.lemmas.Bool.{cases_lt}
 use Rattle.cf_stream.specs.declared.limit.Length.{Length}
 use Rattle.cf_stream.specs.declared.limit.Length.TheVariants.{Limited, Any}
-use Rattle.cf_stream.specs.Limits.{IsShort, IsLong, IsAtLimit, HasRoom, IsTotal, count_on, number_of}
+use Rattle.cf_stream.specs.Limits.{IsShort, IsLong, IsAtLimit, IsTotal, count_on, number_of}
 
 pub short_or_long : (l : Length) (n : ℕ) → IsShort l n ⊎ IsLong l n
 short_or_long Limited n = cases_lt n (2 ^ 32)
@@ -32,10 +32,6 @@ limit_long Any n h = h
 pub limit_after : (l : Length) (n : ℕ) → IsAtLimit l (n + 1) → IsShort l n
 limit_after Limited n h = omega (arith, h)
 limit_after Any n h = tt
-
-pub short_room : (l : Length) (n : ℕ) → IsShort l n → HasRoom l n
-short_room Limited n h = omega (arith, h)
-short_room Any n h = tt
 
 pub total_same : (l : Length) (total n m : ℕ) → n ≡ m → IsTotal l total n → IsTotal l total m
 total_same Any total n m same is = tt

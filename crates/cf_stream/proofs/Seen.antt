@@ -45,11 +45,6 @@ seen_more l file more = elim (short_or_long l (length file)) [
   | inr full ↦ ([], seen_full l file more full ∙ sym (append-nil (seen l file)))
 ]
 
--- what the bytes of a file that count say of it, they say of the whole
-pub seen_of_front : (l : Length) (front rest : List ℕ) → (rest ≡ []) ⊎ IsLong l (length front) → seen l (front ++ rest) ≡ seen l front
-seen_of_front l front rest (inl none) = ap (seen l) (ap (λ xs. front ++ xs) none ∙ append-nil front)
-seen_of_front l front rest (inr full) = seen_full l front rest full
-
 seen_limit : (l : Length) (file : List ℕ) → IsAtLimit l (length file) → seen l file ≡ file
 unfolding seen
 seen_limit Limited file h = take_all (2 ^ 32) file (omega (arith, h))

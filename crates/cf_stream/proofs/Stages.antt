@@ -3,7 +3,7 @@ use Rattle.std.proofs.Common.{◌≡◌, inl, ℕ, List, [], ◌++◌, Some, Err
 use Rattle.cf_stream.specs.declared.stage.Stage.{Stage}
 use Rattle.cf_stream.specs.declared.stage.Stage.TheVariants.{Running, Stopped}
 use Rattle.cf_stream.specs.Format.{Format, IsFound}
-use Rattle.cf_stream.specs.Stream.{IsStepper, IsFed, IsEnded}
+use Rattle.cf_stream.specs.Stream.{IsStepper, IsFed}
 use Rattle.cf_stream.specs.Stages.{IsAt, IsSoundAt, AnswersFound, found_at, answer_at}
 use Rattle.cf_stream.proofs.Cases.{one_fault}
 use Rattle.cf_stream.proofs.Feeding as feeding
@@ -47,8 +47,3 @@ pub no_memory : {F : Type 0} (memory : F) (held : List ℕ) (stage : Stage F) (r
     → answer_at stage ≡ Err memory → ⊥
 no_memory memory held Running runs sound h = cc h
 no_memory memory held (Stopped fault) runs sound h = sound.0 (cc h)
-
--- a reader that a fault has stopped ends with it
-pub ended_stopped : {S I F : Type 0} (f : Format S I F) (fault : F) (stage : Stage F) (stream : List ℕ) (runs : Type 0) → stage ≡ Stopped fault
-    → IsAt f stream stage runs → IsEnded f stream (Err fault)
-ended_stopped f fault stage stream runs is state = feeding.ended_found f stream fault (at_stopped f stream stage runs fault is state)

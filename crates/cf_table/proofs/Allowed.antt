@@ -13,7 +13,7 @@ use Rattle.cf_shape.specs.Places.{Slot, Sizes, place, sizes_of, word_total, IsRe
 use Rattle.cf_shape.specs.Places.Slot.{tail}
 use Rattle.cf_shape.proofs.Slots.{place_within}
 use Rattle.cf_law.specs.Passes.{Pass}
-use Rattle.cf_law.specs.Steps.{Step, child_word, joined_pass, spent_pass, pass_with_link, pass_with_child, pass_that_sees, pass_with_tail}
+use Rattle.cf_law.specs.Steps.{Step, child_word, joined_pass, spent_pass, pass_that_sees}
 use Rattle.cf_law.specs.Steps.Step.{takes, stores, finishes, advances, loads_tail, looks_done, loads_word, labels, links, heads, loads_child, loads_head, loads_cell}
 use Rattle.cf_law.specs.Events.{word_at}
 use Rattle.cf_law.specs.Shapes.{layout}

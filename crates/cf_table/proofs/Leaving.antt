@@ -1,7 +1,6 @@
 -- The books leave one by one.
 use Rattle.std.proofs.Common.{◌≡◌, ℕ, ◌==◌, ◌<◌, ◌≤◌, suc, Bool, ap₂, List, [], ◌∷◌, ◌++◌, length, drop, map, get_or, Option, Some, slice_get, sym, ap, subst, ◌∙◌, inl, inr, arith}
 use Rattle.std.proofs.Math.Seq.{drop-cons}
-use Rattle.std.proofs.Math.ListN.{drop_of_length-le}
 use Rattle.std.proofs.lemmas.Bool.{cases_Bool}
 use Rattle.std.proofs.lemmas.Option.{slice_get-get_or, slice_get-map}
 use Rattle.std.proofs.lemmas.List.{length-map, map-append}
@@ -70,9 +69,6 @@ next_left m t n i lt is went =
     let f = first_is m t i lt is in
     went ∙ (ap (λ (bs : List Book). record t { view = record t.view { books = bs } }) f.2
     ∙ ap (λ (h : PassValue). record h { view = record h.view { books = drop (suc i) (m.view).books } }) is)
-
-pub all_left : (m : PassValue) (i : ℕ) → length (m.view).books ≤ i → left_with m i ≡ record m { view = record m.view { books = [] } }
-all_left m i le = ap (λ (bs : List Book). record m { view = record m.view { books = bs } }) (drop_of_length-le (m.view).books le)
 
 -- one book more is home
 pub noted_more : (notes all : List Note) (m n q : PassValue) (writer : ℕ) (over : Bool) (used : ℕ) → AreNoted notes (m.view).books m.nodes

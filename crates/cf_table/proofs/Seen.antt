@@ -16,9 +16,6 @@ use Rattle.cf_table.specs.Rule.{SeatView, TellsSome, given_advance}
 abbrev pub grown : ℕ → List Entry → Pass → Bool → Pass
 grown n es p b = cond b (record p { seen = take n es; cursor = None }) p
 
-grown_books : (n : ℕ) (es : List Entry) (p : Pass) (b : Bool) → (grown n es p b).books ≡ p.books
-grown_books n es p b = elim (cases_Bool b) [ inl e ↦ ap (λ (c : Bool). (grown n es p c).books) e | inr e ↦ ap (λ (c : Bool). (grown n es p c).books) e ]
-
 pub sees_length : (n : ℕ) (es : List Entry) (p : Pass) → n ≤ length es → length (pass_that_sees n es p).seen ≡ max (length p.seen) n
 sees_length n es p le = elim (cases_lt (length p.seen) n) [
   | inl lt ↦

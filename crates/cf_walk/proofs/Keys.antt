@@ -18,7 +18,6 @@ use Rattle.cf_shape.specs.declared.lane.Key.{Key}
 use Rattle.cf_shape.specs.declared.lane.Key.TheVariants as keys
 use Rattle.cf_shape.specs.Lanes.{ShapeValue, IsShape, no_lane, lane_at, key_by, key_of, option_passes, is_number, is_lawful_key, is_lawful_measure, is_lawful_lane}
 use Rattle.cf_shape.specs.Nodes.{nibbles_of_kind, nibbles_of_attr, nibbles_of_key, levels_of}
-use Rattle.cf_shape.specs.Uses.{has_measure, cell_words}
 
 lawful_at : (attrs : List Attr) (lanes : List Lane) (l : ℕ) → list_all (is_lawful_lane attrs) lanes ≡ true → l < length lanes
     → is_lawful_lane attrs (get_or lanes l no_lane) ≡ true

@@ -19,7 +19,7 @@ use Rattle.cf_law.proofs.Nibbles.{nibbles_more, length-nibbles}
 use Rattle.cf_law.specs.Passes.{Look, Cursor, Pass}
 use Rattle.cf_law.specs.Steps.{Knows, cursor_after_cell, met_of}
 use Rattle.cf_law.specs.Steps.Act.{load_cell}
-use Rattle.cf_law.specs.Readers.{IsIn, WalkTells, picks}
+use Rattle.cf_law.specs.Readers.{WalkTells, picks}
 use Rattle.cf_law.specs.Shapes.{layout}
 use Rattle.cf_table.specs.Values.{PassValue, LogValue, IsOf}
 use Rattle.cf_table.specs.Effects.{IsLawfulStep, HasStepped, walk_effect, cell_effect}

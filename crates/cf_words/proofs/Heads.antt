@@ -355,17 +355,6 @@ ticket_keeps sh ts log bs words w r len spells =
     later u ne zero e = absurd (ne e)
     later u ne (suc k) e = refl
 
--- A mark and an advance: a tail alone.
-pub write_tail_keeps : (sh : Layout) (ts : ℕ × ℕ) (log : List Ticket) (bs : List Stock) (words : List ℕ) (v : ℕ)
-    → length words ≡ word_total sh.sizes → Spells sh ts log bs words → Spells sh (v, ts.1) log bs (set words (place sh.sizes (tail 0)) v)
-write_tail_keeps sh ts log bs words v len spells =
-    store_keeps sh ts (v, ts.1) log log bs bs words (tail 0) v len (omega arith) spells
-    (λ u real ne x. log_keeps sh ts (v, ts.1) log log bs u x (λ k e. later u ne k e) (λ o i e. refl) (λ n j s e f inner. refl)) refl
-  where
-    later : (u : Slot) → (u ≡ tail 0 → ⊥) → (k : ℕ) → u ≡ tail k → tail_word ts k ≡ tail_word (v, ts.1) k
-    later u ne zero e = absurd (ne e)
-    later u ne (suc k) e = refl
-
 pub read_tail_keeps : (sh : Layout) (ts : ℕ × ℕ) (log : List Ticket) (bs : List Stock) (words : List ℕ) (v : ℕ)
     → length words ≡ word_total sh.sizes → Spells sh ts log bs words → Spells sh (ts.0, v) log bs (set words (place sh.sizes (tail 1)) v)
 read_tail_keeps sh ts log bs words v len spells =

@@ -1,9 +1,8 @@
 -- The law of nodes, and what a label and a link ask.
-use Rattle.std.specs.Prelude.{ℕ, ◌+◌, ◌*◌, ◌^◌, ◌<◌, ◌≤◌, ◌≡◌, suc, List, ◌∷◌, true, false, length, Some, None, slice_get}
+use Rattle.std.specs.Prelude.{ℕ, ◌+◌, ◌*◌, ◌^◌, ◌<◌, ◌≤◌, ◌≡◌, suc, List, ◌∷◌, true, length, Some, None, slice_get}
 use Rattle.cf_row.specs.Row.{RowValue}
 use Rattle.cf_shape.specs.Uses.{Use}
-use Rattle.cf_shape.specs.Places.{Slot, place, IsReal}
-use Rattle.cf_words.specs.Words.{entry, Spot, spot, Layout, Ticket, Stock, stock_of, node_at, IsNamedBy, has}
+use Rattle.cf_words.specs.Words.{entry, Spot, spot, Layout, Ticket, Stock, stock_of, node_at, has}
 use Rattle.cf_shape.specs.Uses.Use.{plain, version}
 
 -- what is so of the used nodes of all writers: each stands below another used node or a root, and for a spot of its own

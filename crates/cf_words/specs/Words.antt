@@ -1,5 +1,5 @@
 -- What the words mean.
-use Rattle.std.specs.Prelude.{ℕ, ◌+◌, ◌*◌, ◌/◌, ◌%◌, ◌<◌, ◌≤◌, ◌≡◌, ◌==◌, ◌⊎◌, suc, zero, List, [], ◌∷◌, ◌++◌, set, nat_lt, Bool, true, false, cond, length, get_or, Option, Some, None, slice_get, map}
+use Rattle.std.specs.Prelude.{ℕ, ◌+◌, ◌*◌, ◌/◌, ◌%◌, ◌<◌, ◌≤◌, ◌≡◌, ◌==◌, ◌⊎◌, suc, zero, List, [], ◌∷◌, ◌++◌, nat_lt, Bool, true, false, cond, length, get_or, Option, Some, None, slice_get, map}
 use Rattle.cf_row.specs.Row.{RowValue}
 use Rattle.cf_shape.specs.Places.{Sizes, Slot, place, IsReal}
 use Rattle.cf_fold.specs.Quads.{quad_of}

@@ -2,7 +2,7 @@
 use Rattle.std.proofs.Common.{◌≡◌, ◌∙◌, ◌+◌, ◌<◌, ◌++◌, ℕ, zero, suc, List, [], ◌∷◌, All, Ok, length, map, slice_get, refl, ap, sym, subst, append-nil, Some, arith}
 use Rattle.std.proofs.lemmas.List.Sums.{AllPass-from_list_all}
 use Rattle.std.specs.List.{range_with_len, AllByRecursion}
-use Rattle.cf_row.specs.Row.{RowValue, Fits}
+use Rattle.cf_row.specs.Row.{RowValue}
 use Rattle.cf_row.specs.declared.row.Entry.{Entry}
 use Rattle.cf_shape.specs.Lanes.{ShapeValue}
 use Rattle.cf_setup.specs.Setups.{SetupValue, IsSetup, shaped}
@@ -40,10 +40,6 @@ asks_suit setup shape asks lawful is at =
     subst (λ (qs : List Ask). All (Suits shape) qs) (sym at)
     (subst (λ (s : ShapeValue). All (Suits s) setup.asks) (sym is)
     (AllPass-from_list_all (suits_of (shaped setup 4096 2 256)) setup.asks (lawful.asks 4096 2 256)))
-
-pub rows_fit : (setup : SetupValue) (shape : ShapeValue) (rows : List RowValue) → shape ≡ shaped setup 4096 2 256 → All (Fits setup.schema) rows
-    → All (Fits shape.schema) rows
-rows_fit setup shape rows is fit = subst (λ (s : ShapeValue). All (Fits s.schema) rows) (sym is) fit
 
 -- the passes of a log that was opened for two writers
 pub both_writers : (shape : ShapeValue) (o : Opened) (a b : PassValue) → IsOpened shape o → o.writers.items ≡ a ∷ b ∷ []

@@ -1,8 +1,7 @@
-use Rattle.std.proofs.Common.{Bor, Bool, true, false, ◌≡◌, ◌≢◌, ◌⊎◌, ◌∙◌, ◌+◌, List, ℕ, [], ◌∷◌, ◌++◌, length, length-append, inl, inr, sym, ap, refl, subst, arith, All}
-use Rattle.std.proofs.lemmas.List.Elements.{All-append}
+use Rattle.std.proofs.Common.{Bor, Bool, true, false, ◌≡◌, ◌≢◌, ◌⊎◌, ◌∙◌, ◌+◌, List, ℕ, [], ◌∷◌, ◌++◌, inl, inr, sym, refl, subst, arith}
 use Rattle.csv.specs.Records.{fields_of}
 use Rattle.csv.specs.declared.reader.Reader.{Reader}
-use Rattle.cf_row.specs.Row.{RowValue, Fits}
+use Rattle.cf_row.specs.Row.{RowValue}
 use Rattle.cf_records.specs.Records.{AreRead, AreRows, HasRead, HasRecordFault, ReadsOn, names_of}
 use Rattle.cf_records.proofs.Outcomes.{misnamed, first_fault, rows_more, all_fit, none_fit, no_rows, lines_more}
 use Rattle.cf_records.proofs.Reading.{few_read}

@@ -1,4 +1,4 @@
-use Rattle.std.proofs.Common.{◌≡◌, ◌∙◌, sym, [], None}
+use Rattle.std.proofs.Common.{◌≡◌, ◌∙◌, sym, []}
 use Rattle.csv.specs.Records.{fields_of}
 use Rattle.cf_records.proofs.Values.{field_got, there}
 use Rattle.cf_records.proofs.row.field_at.Goals as goal

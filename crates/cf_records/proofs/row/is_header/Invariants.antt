@@ -1,4 +1,4 @@
-use Rattle.std.proofs.Common.{◌≡◌, length, take}
+use Rattle.std.proofs.Common.{◌≡◌, take}
 use Rattle.csv.specs.Records.{fields_of}
 use Rattle.cf_records.specs.Records.{names_of}
 use Rattle.cf_records.proofs.row.is_header.Given as goal

@@ -1,4 +1,4 @@
-use Rattle.std.proofs.Common.{◌≡◌, true, subst, sym, rules}
+use Rattle.std.proofs.Common.{◌≡◌, true, subst, sym}
 use Rattle.csv.specs.Records.{fields_of}
 use Rattle.cf_row.specs.Row.{RowValue, values_fit}
 use Rattle.cf_records.proofs.Values.{values_are_fit}

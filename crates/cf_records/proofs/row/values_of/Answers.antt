@@ -1,4 +1,4 @@
-use Rattle.std.proofs.Common.{rules, ◌≡◌, ◌⊎◌, ◌∙◌, sym, subst, length, slice_get, Some, get_or, inr, List, ℕ, refl, ap, ◌++◌, ◌∷◌, [], take, ◌+◌}
+use Rattle.std.proofs.Common.{◌≡◌, ◌⊎◌, ◌∙◌, sym, subst, length, slice_get, Some, inr, List, ℕ, refl, ◌++◌, ◌∷◌, [], take, ◌+◌}
 use Rattle.std.proofs.lemmas.Option.{slice_get_read}
 use Rattle.csv.specs.Records.{fields_of}
 use Rattle.cf_row.specs.declared.row.Value.{Value}

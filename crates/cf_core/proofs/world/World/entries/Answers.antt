@@ -1,6 +1,5 @@
 use Rattle.std.proofs.Common.{◌≡◌, ◌+◌, ◌++◌, ◌∷◌, [], suc, ℕ, List, ap, ap₂, sym, ◌∙◌, arith, rules}
-use Rattle.cf_law.specs.Events.WorldEvent.{acts}
-use Rattle.cf_law.specs.Events.{entries_spelled, plain_at}
+use Rattle.cf_law.specs.Events.{plain_at}
 use Rattle.cf_law.specs.Shapes.{layout}
 use Rattle.cf_row.specs.declared.row.Entry.{Entry}
 use Rattle.cf_pass.proofs.Books.{table_none, table_more}
