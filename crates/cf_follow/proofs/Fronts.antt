@@ -14,15 +14,15 @@ use Rattle.cf_pcapng.specs.File as blocks
 use Rattle.cf_pcapng.proofs.Filing.{file_by_rules}
 use Rattle.cf_pcapng.proofs.Steps as blocks_steps
 use Rattle.cf_pcapng.proofs.Truncating as blocks_cut
-use Rattle.cf_stream.specs.Format.{Format, ReadsTo}
-use Rattle.cf_stream.specs.Stream.{IsStepper, AreGiven, early}
-use Rattle.cf_stream.specs.declared.limit.Length.{Length}
-use Rattle.cf_stream.specs.declared.limit.Length.TheVariants.{Limited, Any}
-use Rattle.cf_stream.proofs.Ending.{whole_gives}
-use Rattle.cf_stream.proofs.Given.{given_of, one_given}
-use Rattle.cf_stream.proofs.Limits.{long_more, short_or_long}
-use Rattle.cf_stream.proofs.Seen.{early_full, early_more, early_short}
-use Rattle.cf_stream.proofs.Units.{End, More, Fault, end_of, bad_none, reads_more, reads_on, sizes, wants_none}
+use Rattle.cf_pcap.specs.Format.{Format, ReadsTo}
+use Rattle.cf_pcap.specs.Streams.{IsStepper, AreGiven, early}
+use Rattle.cf_pcap.specs.declared.limit.Length.{Length}
+use Rattle.cf_pcap.specs.declared.limit.Length.TheVariants.{Limited, Any}
+use Rattle.cf_pcap.proofs.FormatEnding.{whole_gives}
+use Rattle.cf_pcap.proofs.Given.{given_of, one_given}
+use Rattle.cf_pcap.proofs.Limits.{long_more, short_or_long}
+use Rattle.cf_pcap.proofs.Seen.{early_full, early_more, early_short}
+use Rattle.cf_pcap.proofs.FormatUnits.{End, More, Fault, end_of, bad_none, reads_more, reads_on, sizes, wants_none}
 use Rattle.cf_intake.specs.Formats.{begins_section}
 use Rattle.cf_intake.specs.Reads.{AreFramesGiven, AreRowsGiven}
 use Rattle.cf_intake.specs.Rows.{AreFramesBefore, AreFramesBy, ArePacketsTo, packet_rows, row_by, scope_by}
@@ -73,9 +73,9 @@ module _ {S I F : Type 0} (f : Format S I F) (is : IsStepper f) (front more : Li
 
   pub given_few : 16 * length a ≤ length front
   given_few =
-      let most : 16 * length (Rattle.cf_stream.specs.Format.items_of p.read.parts) + length p.rest ≤ length (early f.length front) =
+      let most : 16 * length (Rattle.cf_pcap.specs.Format.items_of p.read.parts) + length p.rest ≤ length (early f.length front) =
       sizes f is f.start p.read.parts (early f.length front) p.last p.rest p.read.units in
-      let same : length a ≡ length (Rattle.cf_stream.specs.Format.items_of p.read.parts) = ap length p.read.items_are in
+      let same : length a ≡ length (Rattle.cf_pcap.specs.Format.items_of p.read.parts) = ap length p.read.items_are in
       let less = early_few f.length front in
       omega (arith, most, same, less)
 

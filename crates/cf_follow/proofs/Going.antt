@@ -5,7 +5,7 @@ use Rattle.std.specs.Io.KnownBytes.{Appends, Consumes, IsAtEnd, Keeps}
 use Rattle.std.proofs.KnownBytes.{Appends-nil, Appends-trans, Consumes-kept, Consumes-nil, Consumes-trans, Keeps-refl}
 use Rattle.cf_row.specs.Row.{RowValue}
 use Rattle.cf_packet6.specs.declared.PacketSchema.{PacketSchema}
-use Rattle.cf_stream.specs.declared.limit.Length.TheVariants.{Any}
+use Rattle.cf_pcap.specs.declared.limit.Length.TheVariants.{Any}
 use Rattle.cf_setup.specs.Setups.{SetupValue}
 use Rattle.cf_shape.specs.Lanes.{ShapeValue}
 use Rattle.cf_intake.specs.Devices.{TakesAtMost, WritesFront}

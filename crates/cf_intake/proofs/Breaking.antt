@@ -15,12 +15,12 @@ use Rattle.cf_pcapng.specs.File as blocks
 use Rattle.cf_pcapng.specs.Rules.{blocks as blocks_kind}
 use Rattle.cf_pcapng.specs.Reader as reading
 use Rattle.cf_pcapng.proofs.Truncating.{by as by_blocks}
-use Rattle.cf_stream.specs.Format.{Format, IsFound, HasFault}
-use Rattle.cf_stream.specs.Limits.{number_of}
-use Rattle.cf_stream.specs.Stages.{found_at}
-use Rattle.cf_stream.proofs.Stages.{at_found}
-use Rattle.cf_stream.specs.declared.limit.Length.TheVariants.{Any}
-use Rattle.cf_stream.proofs.Cases.{found_more, one_fault}
+use Rattle.cf_pcap.specs.Format.{Format, IsFound, HasFault}
+use Rattle.cf_pcap.specs.Limits.{number_of}
+use Rattle.cf_pcap.specs.Stages.{found_at}
+use Rattle.cf_pcap.proofs.Stages.{at_found}
+use Rattle.cf_pcap.specs.declared.limit.Length.TheVariants.{Any}
+use Rattle.cf_pcap.proofs.Cases.{found_more, one_fault}
 use Rattle.cf_intake.specs.Faults.{code_of, record_of, refusal_by, refusal_of}
 use Rattle.cf_intake.specs.Reading.{IsBrokenFor, reads_blocks, reads_scope}
 use Rattle.cf_intake.specs.Reads.{IsBroken, IsUnderWay}

@@ -7,9 +7,9 @@ use Rattle.cf_pcap.specs.Capture.{FrameValue}
 use Rattle.cf_pcap.specs.Links.{limited}
 use Rattle.cf_pcap.specs.declared.links.LinkSet.{LinkSet}
 use Rattle.cf_pcap.specs.declared.scope.Scope.{Scope}
-use Rattle.cf_stream.specs.Limits.{number_of}
-use Rattle.cf_stream.specs.declared.limit.Length.{Length}
-use Rattle.cf_stream.specs.declared.limit.Length.TheVariants.{Limited}
+use Rattle.cf_pcap.specs.Limits.{number_of}
+use Rattle.cf_pcap.specs.declared.limit.Length.{Length}
+use Rattle.cf_pcap.specs.declared.limit.Length.TheVariants.{Limited}
 use Rattle.cf_packet6.specs.declared.PacketSchema.{PacketSchema}
 use Rattle.cf_setup.specs.declared.source.Source.{Source}
 use Rattle.cf_setup.specs.declared.source.Source.TheVariants.{Packets, Records}
@@ -24,7 +24,7 @@ use Rattle.cf_pcapng.specs.File.{pcapng}
 use Rattle.cf_pcapng.specs.declared.fault.NgFault.TheVariants as ng
 use Rattle.cf_pcapng.proofs.Filing.{file_by_rules, one_case_of}
 use Rattle.cf_pcapng.proofs.Steps.{stepper}
-use Rattle.cf_stream.proofs.Ending as streams
+use Rattle.cf_pcap.proofs.FormatEnding as streams
 use Rattle.cf_intake.specs.Faults.{HasFaultIn, HasPacketFault, HasPacketFaultTo, HasFaultTo, code_of, record_of}
 use Rattle.cf_intake.specs.Formats.{begins_section}
 use Rattle.cf_intake.specs.Laws.{OneCase}

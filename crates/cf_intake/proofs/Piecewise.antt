@@ -8,9 +8,9 @@ use Rattle.std.specs.Io.KnownBytes.{Consumes}
 use Rattle.cf_packet6.specs.declared.PacketSchema.{PacketSchema}
 use Rattle.cf_packet6.specs.Schema6.{attrs_by}
 use Rattle.cf_pcap.specs.declared.scope.Scope.{Scope}
-use Rattle.cf_stream.specs.Limits.{number_of}
-use Rattle.cf_stream.specs.declared.limit.Length.{Length}
-use Rattle.cf_stream.specs.declared.limit.Length.TheVariants.{Limited}
+use Rattle.cf_pcap.specs.Limits.{number_of}
+use Rattle.cf_pcap.specs.declared.limit.Length.{Length}
+use Rattle.cf_pcap.specs.declared.limit.Length.TheVariants.{Limited}
 use Rattle.cf_pcap.specs.Capture.{FrameValue}
 use Rattle.cf_row.specs.Row.{RowValue}
 use Rattle.cf_intake.specs.Devices.{TakesUpTo, TakesAtMost}

@@ -15,14 +15,14 @@ use Rattle.cf_pcapng.specs.File as blocks
 use Rattle.cf_pcapng.proofs.Heads.{head_short}
 use Rattle.cf_pcapng.proofs.Numbers.{IsNumbered, numbered}
 use Rattle.cf_pcapng.proofs.Steps as blocks_steps
-use Rattle.cf_stream.specs.Format.{Format, Part, Takes, AreUnitsThen, items_of}
-use Rattle.cf_stream.specs.Stream.{IsStepper, AreGiven, early}
-use Rattle.cf_stream.specs.Limits.{IsShort, count_on, number_of}
-use Rattle.cf_stream.specs.declared.limit.Length.{Length}
-use Rattle.cf_stream.specs.declared.limit.Length.TheVariants.{Limited, Any}
-use Rattle.cf_stream.proofs.Given.{given_of, one_given}
-use Rattle.cf_stream.proofs.Seen.{early_short}
-use Rattle.cf_stream.proofs.Units.{reads_nothing, wants_none}
+use Rattle.cf_pcap.specs.Format.{Format, Part, Takes, AreUnitsThen, items_of}
+use Rattle.cf_pcap.specs.Streams.{IsStepper, AreGiven, early}
+use Rattle.cf_pcap.specs.Limits.{IsShort, count_on, number_of}
+use Rattle.cf_pcap.specs.declared.limit.Length.{Length}
+use Rattle.cf_pcap.specs.declared.limit.Length.TheVariants.{Limited, Any}
+use Rattle.cf_pcap.proofs.Given.{given_of, one_given}
+use Rattle.cf_pcap.proofs.Seen.{early_short}
+use Rattle.cf_pcap.proofs.FormatUnits.{reads_nothing, wants_none}
 use Rattle.cf_intake.specs.Faults.{HasPacketFaultTo}
 use Rattle.cf_intake.specs.Formats.{begins_section}
 use Rattle.cf_intake.specs.Parts.{IsBad}

@@ -16,13 +16,13 @@ use Rattle.cf_pcapng.specs.Reader as blocks
 use Rattle.cf_pcapng.specs.Rules.{HasFaultOf, blocks as blocks_kind}
 use Rattle.cf_pcapng.specs.Truncated as blocks_cut
 use Rattle.cf_pcapng.proofs.Steps as blocks_steps
-use Rattle.cf_stream.specs.Format.{Format}
-use Rattle.cf_stream.specs.Limits.{number_of}
-use Rattle.cf_stream.specs.Stream.{IsStepper, AreGiven, IsFed}
-use Rattle.cf_stream.proofs.Given.{given_of, one_given}
-use Rattle.cf_stream.proofs.Limits.{none_short}
-use Rattle.cf_stream.proofs.Seen.{early_short}
-use Rattle.cf_stream.proofs.Units.{reads_nothing, wants_none}
+use Rattle.cf_pcap.specs.Format.{Format}
+use Rattle.cf_pcap.specs.Limits.{number_of}
+use Rattle.cf_pcap.specs.Streams.{IsStepper, AreGiven, IsFed}
+use Rattle.cf_pcap.proofs.Given.{given_of, one_given}
+use Rattle.cf_pcap.proofs.Limits.{none_short}
+use Rattle.cf_pcap.proofs.Seen.{early_short}
+use Rattle.cf_pcap.proofs.FormatUnits.{reads_nothing, wants_none}
 use Rattle.cf_intake.specs.Faults.{IsTold, code_of, record_of, refusal_by, halt_by, halt_of}
 use Rattle.cf_intake.specs.Parts.{IsBad}
 use Rattle.cf_intake.specs.Reading.{AddsFew, AreFramesTo, HasFaultUncut, IsCutAt, IsReaderAt}

@@ -2,8 +2,8 @@
 use Rattle.std.specs.Prelude.{◌≡◌, ◌==◌, if◌then◌else◌, ℕ, Bool, true, false, List, Option, Some, None}
 use Rattle.cf_pcap.specs.Capture.{HasPcapFault}
 use Rattle.cf_pcap.specs.declared.scope.Scope.{Scope}
-use Rattle.cf_stream.specs.declared.limit.Length.{Length}
-use Rattle.cf_stream.specs.declared.limit.Length.TheVariants.{Limited}
+use Rattle.cf_pcap.specs.declared.limit.Length.{Length}
+use Rattle.cf_pcap.specs.declared.limit.Length.TheVariants.{Limited}
 use Rattle.cf_pcap.specs.declared.fault.PcapFault.TheVariants as pcap
 use Rattle.cf_pcapng.specs.Rules.{HasFaultOf}
 use Rattle.cf_pcapng.specs.declared.fault.NgFault.TheVariants as ng

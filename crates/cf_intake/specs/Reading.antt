@@ -6,12 +6,12 @@ use Rattle.cf_row.specs.Row.{RowValue}
 use Rattle.cf_row.specs.declared.schema.Attr.{Attr}
 use Rattle.cf_pcap.specs.Capture.{FrameValue}
 use Rattle.cf_pcap.specs.declared.scope.Scope.{Scope}
-use Rattle.cf_stream.specs.declared.limit.Length.TheVariants.{Limited}
+use Rattle.cf_pcap.specs.declared.limit.Length.TheVariants.{Limited}
 use Rattle.cf_pcap.specs.Stream as pcap
 use Rattle.cf_pcapng.specs.File.{pcapng}
 use Rattle.cf_pcapng.specs.Reader as ng
-use Rattle.cf_stream.specs.Limits.{number_of}
-use Rattle.cf_stream.specs.Stream as streams
+use Rattle.cf_pcap.specs.Limits.{number_of}
+use Rattle.cf_pcap.specs.Streams as streams
 use Rattle.cf_intake.specs.Devices.{TakesUpTo, TakesAtMost}
 use Rattle.cf_packet6.specs.declared.PacketSchema.{PacketSchema}
 use Rattle.cf_packet6.specs.Schema6.{attrs_by}

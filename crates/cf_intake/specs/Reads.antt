@@ -7,9 +7,9 @@ use Rattle.cf_pcap.specs.Capture.{FrameValue}
 use Rattle.cf_pcap.specs.declared.scope.Scope.{Scope}
 use Rattle.cf_pcap.specs.Stream as pcap
 use Rattle.cf_pcapng.specs.File.{pcapng}
-use Rattle.cf_stream.specs.Limits.{number_of}
-use Rattle.cf_stream.specs.Stream as streams
-use Rattle.cf_stream.specs.declared.limit.Length.TheVariants.{Any}
+use Rattle.cf_pcap.specs.Limits.{number_of}
+use Rattle.cf_pcap.specs.Streams as streams
+use Rattle.cf_pcap.specs.declared.limit.Length.TheVariants.{Any}
 use Rattle.cf_intake.specs.Faults.{HasPacketFaultTo}
 use Rattle.cf_intake.specs.Formats.{begins_section}
 use Rattle.cf_intake.specs.Parts.{IsBad}

@@ -10,9 +10,9 @@ use Rattle.cf_records.specs.Records.{IsRecordFile}
 use Rattle.cf_pcap.specs.Capture.{FrameValue, IsCapture}
 use Rattle.cf_pcap.specs.declared.links.LinkSet.{LinkSet}
 use Rattle.cf_pcap.specs.declared.scope.Scope.{Scope}
-use Rattle.cf_stream.specs.Limits.{number_of}
-use Rattle.cf_stream.specs.declared.limit.Length.{Length}
-use Rattle.cf_stream.specs.declared.limit.Length.TheVariants.{Limited}
+use Rattle.cf_pcap.specs.Limits.{number_of}
+use Rattle.cf_pcap.specs.declared.limit.Length.{Length}
+use Rattle.cf_pcap.specs.declared.limit.Length.TheVariants.{Limited}
 use Rattle.cf_pcap.specs.declared.links.LinkSet.TheVariants.{Basic, All}
 use Rattle.cf_pcap.specs.Truncated as records
 use Rattle.cf_pcapng.specs.Rules.{IsFileOf}

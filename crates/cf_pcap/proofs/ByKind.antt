@@ -1,16 +1,16 @@
 -- What holds of each file, by the units of the format that its kind is judged by.
 use Rattle.std.proofs.Common.{◌≡◌, ◌⊎◌, inl, inr, ℕ, ◌≤◌, Bool, true, false, List, length, Option, Some, None, Ok, Err, refl, sym, ap, subst, ◌∙◌}
-use Rattle.cf_stream.specs.Limits.{number_of}
-use Rattle.cf_stream.specs.Format.{Format, IsCut, IsWhole, IsFound, HasFault}
-use Rattle.cf_stream.specs.Stages.{IsAt}
-use Rattle.cf_stream.specs.Stream.{IsStepper, AreGiven, Runs, IsEnded}
-use Rattle.cf_stream.specs.declared.stage.Stage.{Stage}
-use Rattle.cf_stream.specs.declared.stage.Stage.TheVariants.{Running, Stopped}
-use Rattle.cf_stream.proofs.Cases.{cut_of, none_found, one_whole}
-use Rattle.cf_stream.proofs.Cases as cases
-use Rattle.cf_stream.proofs.Ending.{whole_gives}
-use Rattle.cf_stream.proofs.Given.{one_given}
-use Rattle.cf_stream.proofs.Units.{one_read, wants_none}
+use Rattle.cf_pcap.specs.Limits.{number_of}
+use Rattle.cf_pcap.specs.Format.{Format, IsCut, IsWhole, IsFound, HasFault}
+use Rattle.cf_pcap.specs.Stages.{IsAt}
+use Rattle.cf_pcap.specs.Streams.{IsStepper, AreGiven, Runs, IsEnded}
+use Rattle.cf_pcap.specs.declared.stage.Stage.{Stage}
+use Rattle.cf_pcap.specs.declared.stage.Stage.TheVariants.{Running, Stopped}
+use Rattle.cf_pcap.proofs.Cases.{cut_of, none_found, one_whole}
+use Rattle.cf_pcap.proofs.Cases as cases
+use Rattle.cf_pcap.proofs.FormatEnding.{whole_gives}
+use Rattle.cf_pcap.proofs.Given.{one_given}
+use Rattle.cf_pcap.proofs.FormatUnits.{one_read, wants_none}
 use Rattle.cf_pcap.specs.Capture.{FrameValue}
 use Rattle.cf_pcap.specs.Kinds.{Kind, OneCase, JudgedAlike, IsTruncated, IsCutAt, Says, Breaks, TruncatedCase}
 use Rattle.cf_pcap.proofs.Wholes.{EndsIn, MayEnd, whole_front, ends_in, same_front, ends_give, ends_unfound, cut_begun, cut_count, ends_begun, ends_count}

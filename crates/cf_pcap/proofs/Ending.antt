@@ -1,8 +1,8 @@
 -- Whole files, and files of which only the front counts.
 use Rattle.std.proofs.Common.{◌≡◌, ◌⊎◌, inl, ℕ, List, [], ◌++◌, length, Result, Ok, Err, MatchResult}
-use Rattle.cf_stream.specs.Limits.{IsAtLimit, number_of}
-use Rattle.cf_stream.proofs.Cases.{found_more}
-use Rattle.cf_stream.proofs.Ending as streams
+use Rattle.cf_pcap.specs.Limits.{IsAtLimit, number_of}
+use Rattle.cf_pcap.proofs.Cases.{found_more}
+use Rattle.cf_pcap.proofs.FormatEnding as streams
 use Rattle.cf_pcap.specs.declared.scope.Scope.{Scope}
 use Rattle.cf_pcap.specs.declared.fault.PcapFault.{PcapFault}
 use Rattle.cf_pcap.specs.Capture.{FrameValue, IsCapture, HasPcapFault}

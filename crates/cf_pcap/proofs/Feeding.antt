@@ -4,25 +4,25 @@ use Rattle.std.proofs.lemmas.Bool.{cases_lt}
 use Rattle.std.proofs.lemmas.Bool.Decides.{nat_tests}
 use Rattle.std.proofs.lemmas.List.{take_all, drop_all, take-append-drop, drop-append-le}
 use Rattle.cf_lemmas.proofs.Lists.{take_past}
-use Rattle.cf_stream.specs.declared.limit.Length.{Length}
-use Rattle.cf_stream.specs.declared.limit.Length.TheVariants.{Limited, Any}
-use Rattle.cf_stream.specs.Limits.{IsShort, IsLong, IsAtLimit, HasRoom, IsTotal, total_on, count_on}
-use Rattle.cf_stream.proofs.Limits.{limit_long, limit_after, total_same}
-use Rattle.cf_stream.specs.Format.{Wants, Bad, Takes, ReadsTo}
-use Rattle.cf_stream.specs.Stream.{Runs}
-use Rattle.cf_stream.proofs.Units.{reads_nothing, reads_one, reads_count, sizes}
-use Rattle.cf_stream.proofs.Feeding as streams
+use Rattle.cf_pcap.specs.declared.limit.Length.{Length}
+use Rattle.cf_pcap.specs.declared.limit.Length.TheVariants.{Limited, Any}
+use Rattle.cf_pcap.specs.Limits.{IsShort, IsLong, IsAtLimit, HasRoom, IsTotal, total_on, count_on}
+use Rattle.cf_pcap.proofs.Limits.{limit_long, limit_after, total_same}
+use Rattle.cf_pcap.specs.Format.{Wants, Bad, Takes, ReadsTo}
+use Rattle.cf_pcap.specs.Streams.{Runs}
+use Rattle.cf_pcap.proofs.FormatUnits.{reads_nothing, reads_one, reads_count, sizes}
+use Rattle.cf_pcap.proofs.FormatFeeding as streams
 use Rattle.cf_pcap.specs.declared.scope.Scope.{Scope}
 use Rattle.cf_pcap.specs.declared.form.FileHeader.{FileHeader}
 use Rattle.cf_pcap.specs.declared.fault.PcapFault.{PcapFault}
 use Rattle.cf_pcap.specs.declared.fault.PcapFault.TheVariants.{FrameTooLong, Cut, TooManyBytes, Memory}
-use Rattle.cf_stream.specs.declared.stage.Stage.{Stage}
-use Rattle.cf_stream.specs.declared.stage.Stage.TheVariants.{Running, Stopped}
+use Rattle.cf_pcap.specs.declared.stage.Stage.{Stage}
+use Rattle.cf_pcap.specs.declared.stage.Stage.TheVariants.{Running, Stopped}
 use Rattle.cf_pcap.specs.Capture.{FrameValue, HasRecord, HasLongRecord, caplen_at}
 use Rattle.cf_pcap.specs.File.{State, step, pcap}
 use Rattle.cf_pcap.specs.Reading.{AreRead, IsFaultAt, front_of, late_of, IsStageAfter, AreTaken}
-use Rattle.cf_stream.specs.Stages.{answer_at, kept_at}
-use Rattle.cf_stream.proofs.Stages.{at_running}
+use Rattle.cf_pcap.specs.Stages.{answer_at, kept_at}
+use Rattle.cf_pcap.proofs.Stages.{at_running}
 use Rattle.cf_pcap.specs.Stream.{IsFound, PcapValue, IsRunning, IsStateOf, IsFed, IsEnded, IsCounted, IsSoundAt, IsSound}
 use Rattle.cf_pcap.proofs.Steps.{Shown, bad_same, broken, InHeader, TooLong, part_of, OfHeader, OfRecord, stepper}
 

@@ -1,13 +1,13 @@
 -- A record that was held, and the bytes that come after it.
 use Rattle.std.proofs.Common.{◌≡◌, ℕ, ◌≤◌, ◌+◌, ◌-◌, List, [], ◌∷◌, ◌++◌, length, take, drop, Some, refl, sym, ap, subst, ◌∙◌, arith, length-append}
 use Rattle.std.proofs.Math.Seq.{take-append-add, drop-append-add, drop-append_seam}
-use Rattle.cf_stream.specs.Limits.{count_on}
-use Rattle.cf_stream.specs.Format.{Takes, ReadsTo}
-use Rattle.cf_stream.proofs.Units.{reads_one, reads_on}
+use Rattle.cf_pcap.specs.Limits.{count_on}
+use Rattle.cf_pcap.specs.Format.{Takes, ReadsTo}
+use Rattle.cf_pcap.proofs.FormatUnits.{reads_one, reads_on}
 use Rattle.cf_pcap.specs.declared.scope.Scope.{Scope}
 use Rattle.cf_pcap.specs.declared.form.FileHeader.{FileHeader}
 use Rattle.cf_pcap.specs.declared.fault.PcapFault.{PcapFault}
-use Rattle.cf_stream.specs.declared.stage.Stage.{Stage}
+use Rattle.cf_pcap.specs.declared.stage.Stage.{Stage}
 use Rattle.cf_pcap.specs.Capture.{FrameValue, caplen_at, frame_at, HasRecord}
 use Rattle.cf_pcap.specs.File.{State, step, pcap}
 use Rattle.cf_pcap.specs.Reading.{state_of, AreRead, IsStageAfter, AreTaken}

@@ -1,13 +1,13 @@
 -- What a file is by its units, and what it is by the definition of whole files.
 use Rattle.std.proofs.Common.{◌≡◌, inl, inr, ℕ, ◌<◌, ◌+◌, true, false, List, [], ◌∷◌, ◌++◌, length, drop, Some, None, is_some, refl, sym, ap, subst, ◌∙◌, arith}
-use Rattle.cf_stream.specs.declared.limit.Length.{Length}
-use Rattle.cf_stream.specs.Limits.{IsShort, count_on, number_of}
-use Rattle.cf_stream.proofs.Limits.{count_none, count_sum, count_first}
-use Rattle.cf_stream.specs.Format.{Bad, Takes, Part, items_of, AreUnitsThen, ReadsTo, IsWhole, seen, HasFault}
-use Rattle.cf_stream.specs.Format as formats
-use Rattle.cf_stream.proofs.Units.{reads_nothing, reads_one, reads_on}
-use Rattle.cf_stream.proofs.Cases.{none_shown}
-use Rattle.cf_stream.proofs.Seen.{seen_short}
+use Rattle.cf_pcap.specs.declared.limit.Length.{Length}
+use Rattle.cf_pcap.specs.Limits.{IsShort, count_on, number_of}
+use Rattle.cf_pcap.proofs.Limits.{count_none, count_sum, count_first}
+use Rattle.cf_pcap.specs.Format.{Bad, Takes, Part, items_of, AreUnitsThen, ReadsTo, IsWhole, seen, HasFault}
+use Rattle.cf_pcap.specs.Format as formats
+use Rattle.cf_pcap.proofs.FormatUnits.{reads_nothing, reads_one, reads_on}
+use Rattle.cf_pcap.proofs.Cases.{none_shown}
+use Rattle.cf_pcap.proofs.Seen.{seen_short}
 use Rattle.cf_pcap.specs.declared.scope.Scope.{Scope}
 use Rattle.cf_pcap.specs.declared.form.FileHeader.{FileHeader}
 use Rattle.cf_pcap.specs.declared.fault.PcapFault.{PcapFault}

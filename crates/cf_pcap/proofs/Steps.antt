@@ -2,10 +2,10 @@
 use Rattle.std.proofs.Common.{◌≡◌, inl, inr, ℕ, ◌<◌, ◌≤◌, ◌+◌, ◌*◌, List, [], ◌∷◌, ◌++◌, length, Option, Some, None, refl, sym, ap, subst, ◌∙◌, arith}
 use Rattle.std.proofs.lemmas.Bool.{cases_lt}
 use Rattle.cf_lemmas.proofs.Truths.{lt_true}
-use Rattle.cf_stream.specs.Limits.{count_on}
-use Rattle.cf_stream.proofs.Limits.{count_none}
-use Rattle.cf_stream.specs.Format.{Found, Wants, Bad, Takes}
-use Rattle.cf_stream.specs.Stream.{IsStepper}
+use Rattle.cf_pcap.specs.Limits.{count_on}
+use Rattle.cf_pcap.proofs.Limits.{count_none}
+use Rattle.cf_pcap.specs.Format.{Found, Wants, Bad, Takes}
+use Rattle.cf_pcap.specs.Streams.{IsStepper}
 use Rattle.cf_pcap.specs.declared.scope.Scope.{Scope}
 use Rattle.cf_pcap.specs.declared.form.FileHeader.{FileHeader}
 use Rattle.cf_pcap.specs.declared.fault.PcapFault.{PcapFault}

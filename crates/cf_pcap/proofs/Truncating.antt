@@ -1,6 +1,6 @@
 -- Captures that end within a record.
 use Rattle.std.proofs.Common.{◌≡◌, inl, inr, ℕ, ◌≤◌, ◌+◌, Bool, true, false, List, length, Some, None, Ok, Err, is_some, refl, sym, ap, ◌∙◌, arith, length-append}
-use Rattle.cf_stream.specs.Format.{Bad, IsCut, IsFound}
+use Rattle.cf_pcap.specs.Format.{Bad, IsCut, IsFound}
 use Rattle.cf_pcap.specs.declared.scope.Scope.{Scope}
 use Rattle.cf_pcap.specs.declared.fault.PcapFault.{PcapFault}
 use Rattle.cf_pcap.specs.declared.fault.PcapFault.TheVariants.{FrameTooLong, Cut, TooManyBytes}

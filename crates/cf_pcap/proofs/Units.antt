@@ -1,10 +1,10 @@
 -- The header and the records of a file, one after another.
 use Rattle.std.proofs.Common.{◌≡◌, ℕ, ◌≤◌, ◌+◌, ◌-◌, ◌*◌, List, [], ◌∷◌, ◌++◌, drop, Option, Some, None, refl, sym, ap, subst, ◌∙◌, arith}
-use Rattle.cf_stream.specs.declared.limit.Length.{Length}
-use Rattle.cf_stream.specs.declared.limit.Length.TheVariants.{Limited, Any}
-use Rattle.cf_stream.specs.Limits.{IsShort, HasRoom, count_on}
-use Rattle.cf_stream.specs.Format.{Bad, Takes, ReadsTo}
-use Rattle.cf_stream.proofs.Units.{reads_nothing, reads_one, reads_on}
+use Rattle.cf_pcap.specs.declared.limit.Length.{Length}
+use Rattle.cf_pcap.specs.declared.limit.Length.TheVariants.{Limited, Any}
+use Rattle.cf_pcap.specs.Limits.{IsShort, HasRoom, count_on}
+use Rattle.cf_pcap.specs.Format.{Bad, Takes, ReadsTo}
+use Rattle.cf_pcap.proofs.FormatUnits.{reads_nothing, reads_one, reads_on}
 use Rattle.cf_pcap.specs.declared.scope.Scope.{Scope}
 use Rattle.cf_pcap.specs.declared.form.FileHeader.{FileHeader}
 use Rattle.cf_pcap.specs.declared.fault.PcapFault.{PcapFault}

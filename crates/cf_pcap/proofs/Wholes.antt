@@ -1,14 +1,14 @@
 -- What is whole of a file that ends within a unit.
 use Rattle.std.proofs.Common.{◌≡◌, ◌⊎◌, inl, inr, ℕ, ◌<◌, ◌≤◌, ◌+◌, ◌-◌, ◌*◌, Bool, true, false, List, [], ◌∷◌, ◌++◌, length, take, drop, refl, sym, ap, subst, ◌∙◌, arith, append_assoc, length-append, length-drop}
 use Rattle.std.proofs.lemmas.List.{drop-append-le, take-append-drop, take-append-le, take_all, nil_from_length}
-use Rattle.cf_stream.specs.Limits.{IsShort, count_on, number_of}
-use Rattle.cf_stream.proofs.Limits.{short_less, count_first}
-use Rattle.cf_stream.specs.Format.{Found, Wants, Bad, Takes, Format, Part, items_of, AreUnitsThen, ReadsTo, IsWhole, IsCut, IsFound}
-use Rattle.cf_stream.specs.Stream.{IsStepper, AreGiven, Runs}
-use Rattle.cf_stream.proofs.Units.{NoUnit, sizes, more_after, reads_count, one_read, wants_none, taken_size, taken_state}
-use Rattle.cf_stream.proofs.Cases.{none_found}
-use Rattle.cf_stream.proofs.Seen.{early_short}
-use Rattle.cf_stream.proofs.Given.{given_of}
+use Rattle.cf_pcap.specs.Limits.{IsShort, count_on, number_of}
+use Rattle.cf_pcap.proofs.Limits.{short_less, count_first}
+use Rattle.cf_pcap.specs.Format.{Found, Wants, Bad, Takes, Format, Part, items_of, AreUnitsThen, ReadsTo, IsWhole, IsCut, IsFound}
+use Rattle.cf_pcap.specs.Streams.{IsStepper, AreGiven, Runs}
+use Rattle.cf_pcap.proofs.FormatUnits.{NoUnit, sizes, more_after, reads_count, one_read, wants_none, taken_size, taken_state}
+use Rattle.cf_pcap.proofs.Cases.{none_found}
+use Rattle.cf_pcap.proofs.Seen.{early_short}
+use Rattle.cf_pcap.proofs.Given.{given_of}
 
 -- a file ends within a unit, after some units of these items
 pub record EndsIn {S I F : Type 0} (f : Format S I F) (file : List ℕ) (items : List I) : Type 0 where

@@ -1,8 +1,8 @@
 -- Captures in the libpcap file format 2.4 (pcap savefile, pcap-savefile(5)), as whole files.
 use Rattle.std.specs.Prelude.{◌≡◌, ◌⊎◌, ℕ, ◌+◌, ◌*◌, ◌^◌, ◌%◌, ◌<◌, ◌≤◌, ◌==◌, true, false, if◌then◌else◌, List, [], ◌∷◌, length, drop, slice_range, Option, Some, None}
-use Rattle.cf_stream.specs.declared.limit.Length.{Length}
-use Rattle.cf_stream.specs.Limits.{IsShort, IsLong, count_on, number_of}
-use Rattle.cf_stream.specs.Format.{seen}
+use Rattle.cf_pcap.specs.declared.limit.Length.{Length}
+use Rattle.cf_pcap.specs.Limits.{IsShort, IsLong, count_on, number_of}
+use Rattle.cf_pcap.specs.Format.{seen}
 use Rattle.byteorder.specs.Endian.{little_number, big_number}
 use Rattle.cf_pcap.specs.declared.form.Order.{Order}
 use Rattle.cf_pcap.specs.declared.form.Order.TheVariants.{Little, Big}

@@ -1,8 +1,8 @@
 -- Captures as units end to end: a file header, and then records. `IsCapture` says without units what a capture is.
 use Rattle.std.specs.Prelude.{ℕ, ◌+◌, ◌==◌, ◌&&◌, nat_lt, if◌then◌else◌, Bool, is_some, List, [], ◌∷◌, length, drop, Option, Some, None}
-use Rattle.cf_stream.specs.declared.limit.Length.{Length}
-use Rattle.cf_stream.specs.Limits.{count_on}
-use Rattle.cf_stream.specs.Format.{Found, Wants, Bad, Takes, Format}
+use Rattle.cf_pcap.specs.declared.limit.Length.{Length}
+use Rattle.cf_pcap.specs.Limits.{count_on}
+use Rattle.cf_pcap.specs.Format.{Found, Wants, Bad, Takes, Format}
 use Rattle.cf_pcap.specs.declared.form.Layout.{Layout}
 use Rattle.cf_pcap.specs.declared.form.FileHeader.{FileHeader}
 use Rattle.cf_pcap.specs.declared.links.LinkSet.{LinkSet}

@@ -1,9 +1,9 @@
 -- Captures of a kind: what the rules over whole files say of each, and what its whole units are where it ends within one.
 use Rattle.std.specs.Prelude.{◌≡◌, ◌⊎◌, ℕ, ◌≤◌, Bool, true, false, List, ◌++◌, length, Option, Some, None}
-use Rattle.cf_stream.specs.declared.limit.Length.{Length}
-use Rattle.cf_stream.specs.Format.{Format, IsWhole, HasFault}
-use Rattle.cf_stream.specs.Limits.{number_of}
-use Rattle.cf_stream.specs.Stream.{AreGiven}
+use Rattle.cf_pcap.specs.declared.limit.Length.{Length}
+use Rattle.cf_pcap.specs.Format.{Format, IsWhole, HasFault}
+use Rattle.cf_pcap.specs.Limits.{number_of}
+use Rattle.cf_pcap.specs.Streams.{AreGiven}
 use Rattle.cf_pcap.specs.Capture.{FrameValue}
 
 -- A kind of captures: how long one may be, the files that are captures of some frames, the faults of others, and that of one that ends

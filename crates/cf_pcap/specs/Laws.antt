@@ -1,6 +1,6 @@
 -- Each file has one meaning.
 use Rattle.std.specs.Prelude.{ℕ, List}
-use Rattle.cf_stream.specs.Stream.{OneGift as OneGiftOf}
+use Rattle.cf_pcap.specs.Streams.{OneGift as OneGiftOf}
 use Rattle.cf_pcap.specs.declared.scope.Scope.{Scope}
 use Rattle.cf_pcap.specs.declared.fault.PcapFault.{PcapFault}
 use Rattle.cf_pcap.specs.declared.fault.PcapFault.TheVariants.{Cut}

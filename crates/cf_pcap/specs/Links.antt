@@ -5,7 +5,7 @@ use Rattle.cf_pcap.specs.declared.links.Link.TheVariants.{Ethernet, LinuxCooked,
 use Rattle.cf_pcap.specs.declared.links.LinkSet.{LinkSet}
 use Rattle.cf_pcap.specs.declared.links.LinkSet.TheVariants.{Basic, All}
 use Rattle.cf_pcap.specs.declared.scope.Scope.{Scope}
-use Rattle.cf_stream.specs.declared.limit.Length.TheVariants.{Limited, Any}
+use Rattle.cf_pcap.specs.declared.limit.Length.TheVariants.{Limited, Any}
 
 -- LINKTYPE_ETHERNET, _LINUX_SLL, _LINUX_SLL2, _RAW, _IPV4, _IPV6, _NULL, _LOOP
 abbrev pub number_of : Link → ℕ

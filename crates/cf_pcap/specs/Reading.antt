@@ -1,16 +1,16 @@
 -- What the parts of a reader do.
 use Rattle.std.specs.Prelude.{◌≡◌, ◌⊎◌, ℕ, ◌+◌, ◌-◌, ◌<◌, ◌^◌, ◌==◌, if◌then◌else◌, List, ◌++◌, length, take, drop, Option, Some, None}
-use Rattle.cf_stream.specs.declared.limit.Length.{Length}
-use Rattle.cf_stream.specs.declared.limit.Length.TheVariants.{Limited, Any}
-use Rattle.cf_stream.specs.Limits.{first_of}
-use Rattle.cf_stream.specs.Format.{Bad, Takes, ReadsTo}
+use Rattle.cf_pcap.specs.declared.limit.Length.{Length}
+use Rattle.cf_pcap.specs.declared.limit.Length.TheVariants.{Limited, Any}
+use Rattle.cf_pcap.specs.Limits.{first_of}
+use Rattle.cf_pcap.specs.Format.{Bad, Takes, ReadsTo}
 use Rattle.cf_pcap.specs.declared.form.FileHeader.{FileHeader}
 use Rattle.cf_pcap.specs.declared.scope.Scope.{Scope}
 use Rattle.cf_pcap.specs.declared.fault.PcapFault.{PcapFault}
 use Rattle.cf_pcap.specs.declared.fault.PcapFault.TheVariants.{TooManyBytes}
-use Rattle.cf_stream.specs.declared.stage.Stage.{Stage}
-use Rattle.cf_stream.specs.declared.stage.Stage.TheVariants.{Running, Stopped}
-use Rattle.cf_stream.specs.Stages.{kept_at}
+use Rattle.cf_pcap.specs.declared.stage.Stage.{Stage}
+use Rattle.cf_pcap.specs.declared.stage.Stage.TheVariants.{Running, Stopped}
+use Rattle.cf_pcap.specs.Stages.{kept_at}
 use Rattle.cf_pcap.specs.declared.taking.Place.{Place}
 use Rattle.cf_pcap.specs.declared.taking.Reached.{Reached}
 use Rattle.cf_pcap.specs.Capture.{FrameValue, HasRecord, caplen_at}

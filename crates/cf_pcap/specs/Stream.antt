@@ -1,16 +1,16 @@
 -- What a reader's state says of the stream that led to it, and what it gives and answers, however the stream is cut.
 use Rattle.std.specs.Prelude.{ℕ, ◌+◌, ◌*◌, ◌≤◌, List, length, Result}
-use Rattle.cf_stream.specs.declared.limit.Length.{Length}
-use Rattle.cf_stream.specs.declared.limit.Length.TheVariants.{Limited, Any}
-use Rattle.cf_stream.specs.Limits.{IsShort, IsTotal}
-use Rattle.cf_stream.specs.Format as formats
-use Rattle.cf_stream.specs.Stream.{Runs}
-use Rattle.cf_stream.specs.Stream as streams
+use Rattle.cf_pcap.specs.declared.limit.Length.{Length}
+use Rattle.cf_pcap.specs.declared.limit.Length.TheVariants.{Limited, Any}
+use Rattle.cf_pcap.specs.Limits.{IsShort, IsTotal}
+use Rattle.cf_pcap.specs.Format as formats
+use Rattle.cf_pcap.specs.Streams.{Runs}
+use Rattle.cf_pcap.specs.Streams as streams
 use Rattle.cf_pcap.specs.declared.scope.Scope.{Scope}
 use Rattle.cf_pcap.specs.declared.fault.PcapFault.{PcapFault}
 use Rattle.cf_pcap.specs.declared.fault.PcapFault.TheVariants.{Memory}
-use Rattle.cf_stream.specs.declared.stage.Stage.{Stage}
-use Rattle.cf_stream.specs.Stages as stages
+use Rattle.cf_pcap.specs.declared.stage.Stage.{Stage}
+use Rattle.cf_pcap.specs.Stages as stages
 use Rattle.cf_pcap.specs.Capture.{FrameValue}
 use Rattle.cf_pcap.specs.File.{State, pcap}
 

@@ -5,13 +5,12 @@ ghost use Rattle.cf_pcap.specs.declared.links.LinkSet.TheVariants.{Basic};
 ghost use Rattle.cf_pcap.specs.Links.{limited};
 ghost use Rattle.cf_pcap.specs.Reading.{front_of};
 ghost use Rattle.cf_pcap.specs.Stream.{IsStateOf, IsFed, IsEnded, AnswersFound, AreGiven};
-ghost use Rattle.cf_stream.specs.Stages.{found_at};
+ghost use Rattle.cf_pcap.specs.Stages.{found_at};
 ghost use Rattle.cf_pcap.specs.Truncated.{Says, Breaks};
 
 use crate::form::FileHeader;
 use crate::taking::{Place, late_of, take_piece};
-use crate::{Frame, LinkSet, PcapFault, Scope};
-use cf_stream::{LIMIT, Length, Stage};
+use crate::{Frame, LIMIT, Length, LinkSet, PcapFault, Scope, Stage};
 use std::alloc::{AllocError, Global};
 use std::marker::Model;
 
@@ -34,7 +33,7 @@ pub struct Pcap {
 impl Model for Pcap {
     ghost use Rattle.cf_pcap.specs.Links.{limited};
     ghost use Rattle.cf_pcap.specs.Reading.{front_of};
-    ghost use Rattle.cf_stream.specs.Limits.{IsShort};
+    ghost use Rattle.cf_pcap.specs.Limits.{IsShort};
     ghost use Rattle.cf_pcap.specs.Stream.{PcapValue, IsSound};
 
     ghost Value = { PcapValue };

@@ -1,7 +1,7 @@
 // The file header and the records of a capture.
 ghost use Rattle.std.specs.Prelude.{◌≡◌, ℕ, List, ◌<◌, ◌≤◌, ◌+◌, ◌*◌, Some, None, drop, length, IfOk, true, false};
 ghost use Rattle.cf_pcap.specs.Capture.{FrameValue, HasRecord, HasLongRecord, frame_at, caplen_at};
-ghost use Rattle.cf_stream.specs.Limits.{HasRoom};
+ghost use Rattle.cf_pcap.specs.Limits.{HasRoom};
 ghost use Rattle.cf_pcap.specs.Reading.{state_of, AreRead, IsFaultAt, IsOneRecord};
 
 use crate::form::FileHeader;

@@ -2,8 +2,7 @@
 ghost use Rattle.std.specs.Prelude.{◌≡◌};
 ghost use Rattle.cf_pcap.specs.Links.{limited as limited_to, unlimited as unlimited_of};
 
-use crate::LinkSet;
-use cf_stream::Length;
+use crate::{Length, LinkSet};
 
 /// Which captures a reader reads: of which links, and how long they may be.
 #[derive(Clone, Copy, Debug, PartialEq, Eq)]

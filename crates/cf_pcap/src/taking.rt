@@ -1,12 +1,11 @@
 // A piece is taken.
 ghost use Rattle.std.specs.Prelude.{◌≡◌, List, [], ◌++◌, ◌≤◌, ◌+◌, ◌*◌, length, take, drop, IfOk, OnErr};
-ghost use Rattle.cf_stream.specs.Limits.{HasRoom};
+ghost use Rattle.cf_pcap.specs.Limits.{HasRoom};
 ghost use Rattle.cf_pcap.specs.Reading.{state_of, IsStageAfter, AreTaken, IsTaken, IsOneRecord, late_of as late_of_total};
 
 use crate::form::FileHeader;
 use crate::records::{RECORD_HEADER, caplen_of, fault_at, first_frame, is_one_record, read_frames};
-use crate::{Frame, PcapFault, Scope};
-use cf_stream::{LIMIT, Length, Stage};
+use crate::{Frame, LIMIT, Length, PcapFault, Scope, Stage};
 use std::alloc::{AllocError, Global};
 
 /// What the bytes at hand gave: the frames, the reader after them, and how many of the bytes it lets go.

@@ -4,25 +4,25 @@ use Rattle.std.proofs.lemmas.List.{take-append-drop}
 use Rattle.cf_pcap.specs.declared.scope.Scope.{Scope}
 use Rattle.cf_pcap.specs.declared.form.Order.{Order}
 use Rattle.cf_pcap.specs.Capture.{FrameValue}
-use Rattle.cf_stream.specs.declared.limit.Length.{Length}
-use Rattle.cf_stream.specs.declared.limit.Length.TheVariants.{Limited, Any}
-use Rattle.cf_stream.specs.Limits.{IsShort, IsLong, IsAtLimit, HasRoom, IsTotal, total_on}
-use Rattle.cf_stream.proofs.Limits.{limit_long, total_same}
-use Rattle.cf_stream.specs.Format.{Wants, Bad, ReadsTo, IsFound}
-use Rattle.cf_stream.specs.Stream.{Runs}
-use Rattle.cf_stream.proofs.Feeding as streams
+use Rattle.cf_pcap.specs.declared.limit.Length.{Length}
+use Rattle.cf_pcap.specs.declared.limit.Length.TheVariants.{Limited, Any}
+use Rattle.cf_pcap.specs.Limits.{IsShort, IsLong, IsAtLimit, HasRoom, IsTotal, total_on}
+use Rattle.cf_pcap.proofs.Limits.{limit_long, total_same}
+use Rattle.cf_pcap.specs.Format.{Wants, Bad, ReadsTo, IsFound}
+use Rattle.cf_pcap.specs.Streams.{Runs}
+use Rattle.cf_pcap.proofs.FormatFeeding as streams
 use Rattle.cf_pcapng.specs.declared.fault.Flaw.{Flaw}
 use Rattle.cf_pcapng.specs.declared.fault.Flaw.TheVariants.{BadMagic, BadVersion, BadLink, FrameTooLong, BadLength, NoInterface}
 use Rattle.cf_pcapng.specs.declared.fault.NgFault.{NgFault}
 use Rattle.cf_pcapng.specs.declared.fault.NgFault.TheVariants.{Cut, TooManyBytes, Memory}
-use Rattle.cf_stream.specs.declared.stage.Stage.{Stage}
-use Rattle.cf_stream.specs.declared.stage.Stage.TheVariants.{Running, Stopped}
+use Rattle.cf_pcap.specs.declared.stage.Stage.{Stage}
+use Rattle.cf_pcap.specs.declared.stage.Stage.TheVariants.{Running, Stopped}
 use Rattle.cf_pcapng.specs.declared.passed.Passed.{Passed}
 use Rattle.cf_pcapng.specs.File.{State, fault_of, step, pcapng}
 use Rattle.cf_pcapng.specs.Position.{listed, PositionValue, state_of}
 use Rattle.cf_pcapng.specs.Reading.{WasPassed, Begins, Breaks, AreReadOn, FitsIn, early_bytes, late_bytes, IsGoneOn, MayGoOn}
-use Rattle.cf_stream.specs.Stages.{IsAt, answer_at, kept_at}
-use Rattle.cf_stream.proofs.Stages.{at_running}
+use Rattle.cf_pcap.specs.Stages.{IsAt, answer_at, kept_at}
+use Rattle.cf_pcap.proofs.Stages.{at_running}
 use Rattle.cf_pcapng.specs.Reader.{PcapNgValue, IsRunning, IsStateOf, IsFed, IsEnded, IsSoundAt, IsSound, IsCalled, state_after, ShowsLate, IsStageAtLimit, IsStageAfter}
 use Rattle.cf_pcapng.specs.declared.interfaces.Interface.{Interface}
 use Rattle.cf_pcapng.specs.declared.position.Reached.{Reached}

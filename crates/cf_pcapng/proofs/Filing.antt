@@ -2,10 +2,10 @@
 use Rattle.std.proofs.Common.{◌≡◌, inl, inr, ℕ, List, [], ◌∷◌, length, drop, refl, sym, ap, subst, ◌∙◌}
 use Rattle.cf_pcap.specs.declared.scope.Scope.{Scope}
 use Rattle.cf_pcap.specs.Capture.{FrameValue}
-use Rattle.cf_stream.specs.Format.{Wants, Bad, Takes, Part, AreUnitsThen, ReadsTo, Shows, seen, HasTooManyBytes, IsCut}
-use Rattle.cf_stream.specs.Limits.{number_of}
-use Rattle.cf_stream.proofs.Limits.{count_first}
-use Rattle.cf_stream.proofs.Units.{reads_count}
+use Rattle.cf_pcap.specs.Format.{Wants, Bad, Takes, Part, AreUnitsThen, ReadsTo, Shows, seen, HasTooManyBytes, IsCut}
+use Rattle.cf_pcap.specs.Limits.{number_of}
+use Rattle.cf_pcap.proofs.Limits.{count_first}
+use Rattle.cf_pcap.proofs.FormatUnits.{reads_count}
 use Rattle.cf_pcap.proofs.ByKind.{one_case}
 use Rattle.cf_pcapng.specs.declared.fault.Flaw.{Flaw}
 use Rattle.cf_pcapng.specs.declared.fault.Flaw.TheVariants.{BadMagic, BadVersion, BadLink, FrameTooLong, BadLength, NoInterface}

@@ -3,13 +3,13 @@ use Rattle.std.proofs.Common.{◌≡◌, inl, inr, ℕ, ◌<◌, ◌≤◌, ◌+
 use Rattle.std.proofs.lemmas.Bool.{cases_lt}
 use Rattle.cf_pcap.specs.declared.links.LinkSet.{LinkSet}
 use Rattle.cf_pcap.specs.declared.scope.Scope.{Scope}
-use Rattle.cf_stream.specs.declared.limit.Length.{Length}
-use Rattle.cf_stream.specs.declared.limit.Length.TheVariants.{Limited, Any}
-use Rattle.cf_stream.specs.Limits.{IsShort, HasRoom}
+use Rattle.cf_pcap.specs.declared.limit.Length.{Length}
+use Rattle.cf_pcap.specs.declared.limit.Length.TheVariants.{Limited, Any}
+use Rattle.cf_pcap.specs.Limits.{IsShort, HasRoom}
 use Rattle.cf_pcap.specs.declared.form.Order.{Order}
 use Rattle.cf_pcap.specs.Capture.{FrameValue}
-use Rattle.cf_stream.specs.Format.{Wants, Bad, Takes, ReadsTo}
-use Rattle.cf_stream.proofs.Units.{reads_on, reads_one}
+use Rattle.cf_pcap.specs.Format.{Wants, Bad, Takes, ReadsTo}
+use Rattle.cf_pcap.proofs.FormatUnits.{reads_on, reads_one}
 use Rattle.cf_pcapng.specs.declared.fault.Flaw.{Flaw}
 use Rattle.cf_pcapng.specs.declared.head.BlockKind.{BlockKind}
 use Rattle.cf_pcapng.specs.declared.head.BlockHead.{BlockHead}

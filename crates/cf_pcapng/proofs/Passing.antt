@@ -8,11 +8,11 @@ use Rattle.cf_pcap.specs.declared.scope.Scope.{Scope}
 use Rattle.cf_pcap.specs.declared.form.Order.{Order}
 use Rattle.cf_pcap.specs.Capture.{FrameValue, number_in}
 use Rattle.cf_pcap.proofs.Following.{number_later}
-use Rattle.cf_stream.specs.declared.limit.Length.{Length}
-use Rattle.cf_stream.specs.declared.limit.Length.TheVariants.{Limited, Any}
-use Rattle.cf_stream.specs.Limits.{count_on}
-use Rattle.cf_stream.specs.Format.{Wants, Bad, Takes, ReadsTo}
-use Rattle.cf_stream.proofs.Units.{reads_nothing, reads_more, reads_on, reads_one, reads_fit, reads_count}
+use Rattle.cf_pcap.specs.declared.limit.Length.{Length}
+use Rattle.cf_pcap.specs.declared.limit.Length.TheVariants.{Limited, Any}
+use Rattle.cf_pcap.specs.Limits.{count_on}
+use Rattle.cf_pcap.specs.Format.{Wants, Bad, Takes, ReadsTo}
+use Rattle.cf_pcap.proofs.FormatUnits.{reads_nothing, reads_more, reads_on, reads_one, reads_fit, reads_count}
 use Rattle.cf_pcapng.specs.declared.fault.Flaw.{Flaw}
 use Rattle.cf_pcapng.specs.declared.fault.Flaw.TheVariants.{BadLength}
 use Rattle.cf_pcapng.specs.declared.head.BlockKind.{BlockKind}

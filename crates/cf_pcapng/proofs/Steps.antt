@@ -5,11 +5,11 @@ use Rattle.std.proofs.lemmas.List.{take-append-le}
 use Rattle.cf_pcap.specs.declared.scope.Scope.{Scope}
 use Rattle.cf_pcap.specs.declared.form.Order.{Order}
 use Rattle.cf_pcap.specs.Capture.{FrameValue}
-use Rattle.cf_stream.specs.declared.limit.Length.{Length}
-use Rattle.cf_stream.specs.Limits.{count_on}
-use Rattle.cf_stream.proofs.Limits.{count_none}
-use Rattle.cf_stream.specs.Format.{Found, Wants, Bad, Takes}
-use Rattle.cf_stream.specs.Stream.{IsStepper}
+use Rattle.cf_pcap.specs.declared.limit.Length.{Length}
+use Rattle.cf_pcap.specs.Limits.{count_on}
+use Rattle.cf_pcap.proofs.Limits.{count_none}
+use Rattle.cf_pcap.specs.Format.{Found, Wants, Bad, Takes}
+use Rattle.cf_pcap.specs.Streams.{IsStepper}
 use Rattle.cf_pcapng.specs.declared.fault.Flaw.{Flaw}
 use Rattle.cf_pcapng.specs.declared.fault.Flaw.TheVariants.{BadLength}
 use Rattle.cf_pcapng.specs.declared.fault.NgFault.{NgFault}

@@ -1,8 +1,8 @@
 -- Captures that end within a block.
 use Rattle.std.proofs.Common.{◌≡◌, inl, inr, ℕ, Bool, true, false, List, [], ◌∷◌, ◌++◌, take, Option, Some, None, Ok, Err, is_some, refl, sym, ap, subst, ◌∙◌}
-use Rattle.cf_stream.specs.declared.limit.Length.{Length}
-use Rattle.cf_stream.specs.Format.{Takes, Part as UnitPart, AreUnitsThen, IsCut, IsFound}
-use Rattle.cf_stream.specs.Stream.{AreGiven}
+use Rattle.cf_pcap.specs.declared.limit.Length.{Length}
+use Rattle.cf_pcap.specs.Format.{Takes, Part as UnitPart, AreUnitsThen, IsCut, IsFound}
+use Rattle.cf_pcap.specs.Streams.{AreGiven}
 use Rattle.cf_pcap.specs.declared.scope.Scope.{Scope}
 use Rattle.cf_pcap.specs.declared.form.Order.{Order}
 use Rattle.cf_pcap.specs.Capture.{FrameValue}

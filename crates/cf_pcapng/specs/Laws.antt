@@ -2,7 +2,7 @@
 use Rattle.std.specs.Prelude.{ℕ, List}
 use Rattle.cf_pcap.specs.declared.scope.Scope.{Scope}
 use Rattle.cf_pcap.specs.Kinds as kinds
-use Rattle.cf_stream.specs.Stream.{OneGift as OneGiftOf}
+use Rattle.cf_pcap.specs.Streams.{OneGift as OneGiftOf}
 use Rattle.cf_pcapng.specs.File.{pcapng}
 use Rattle.cf_pcapng.specs.Rules.{blocks}
 

@@ -2,16 +2,16 @@
 use Rattle.std.specs.Prelude.{◌≡◌, ℕ, ◌+◌, ◌<◌, ◌^◌, List, [], ◌∷◌, ◌++◌, length, Option, Some, None, Result}
 use Rattle.cf_pcap.specs.declared.scope.Scope.{Scope}
 use Rattle.cf_pcap.specs.Capture.{FrameValue}
-use Rattle.cf_stream.specs.Limits.{IsShort, IsTotal}
-use Rattle.cf_stream.specs.Stream.{Runs}
-use Rattle.cf_stream.specs.Stream as streams
+use Rattle.cf_pcap.specs.Limits.{IsShort, IsTotal}
+use Rattle.cf_pcap.specs.Streams.{Runs}
+use Rattle.cf_pcap.specs.Streams as streams
 use Rattle.cf_pcapng.specs.declared.fault.NgFault.{NgFault}
 use Rattle.cf_pcapng.specs.declared.fault.NgFault.TheVariants.{TooManyBytes, Memory}
 use Rattle.cf_pcapng.specs.declared.fault.Flaw.{Flaw}
-use Rattle.cf_stream.specs.declared.stage.Stage.{Stage}
-use Rattle.cf_stream.specs.declared.stage.Stage.TheVariants.{Running, Stopped}
-use Rattle.cf_stream.specs.Stages.{answer_at}
-use Rattle.cf_stream.specs.Stages as stages
+use Rattle.cf_pcap.specs.declared.stage.Stage.{Stage}
+use Rattle.cf_pcap.specs.declared.stage.Stage.TheVariants.{Running, Stopped}
+use Rattle.cf_pcap.specs.Stages.{answer_at}
+use Rattle.cf_pcap.specs.Stages as stages
 use Rattle.cf_pcapng.specs.declared.passed.Passed.{Passed}
 use Rattle.cf_pcapng.specs.declared.interfaces.Interface.{Interface}
 use Rattle.cf_pcapng.specs.declared.position.Reached.{Reached}

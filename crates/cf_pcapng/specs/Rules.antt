@@ -3,12 +3,12 @@ use Rattle.std.specs.Prelude.{◌≡◌, ◌⊎◌, ℕ, ◌-◌, ◌%◌, ◌^�
 use Rattle.byteorder.specs.Endian.{little_number}
 use Rattle.cf_pcap.specs.declared.links.LinkSet.{LinkSet}
 use Rattle.cf_pcap.specs.declared.scope.Scope.{Scope}
-use Rattle.cf_stream.specs.Limits.{IsShort, IsLong, number_of}
+use Rattle.cf_pcap.specs.Limits.{IsShort, IsLong, number_of}
 use Rattle.cf_pcap.specs.declared.form.Order.{Order}
 use Rattle.cf_pcap.specs.Capture.{FrameValue, number_in}
 use Rattle.cf_pcap.specs.Kinds as kinds
 use Rattle.cf_pcap.specs.Links.{is_link, longest}
-use Rattle.cf_stream.specs.Format.{Bad, Takes, Part, items_of, seen}
+use Rattle.cf_pcap.specs.Format.{Bad, Takes, Part, items_of, seen}
 use Rattle.cf_pcapng.specs.declared.fault.Flaw.{Flaw}
 use Rattle.cf_pcapng.specs.declared.fault.Flaw.TheVariants.{BadMagic, BadVersion, BadLink, FrameTooLong, BadLength, NoInterface}
 use Rattle.cf_pcapng.specs.declared.fault.NgFault.{NgFault}

@@ -1,6 +1,6 @@
 // The blocks of a file.
 ghost use Rattle.std.specs.Prelude.{◌≡◌, ◌+◌, ◌<◌, ◌≤◌, ◌^◌, length, IfOk};
-ghost use Rattle.cf_stream.specs.Limits.{HasRoom};
+ghost use Rattle.cf_pcap.specs.Limits.{HasRoom};
 ghost use Rattle.cf_pcapng.specs.Position.{state_of};
 ghost use Rattle.cf_pcapng.specs.Reading.{next_of as next_block, IsNextIn, AreReadAfter};
 

@@ -1,6 +1,6 @@
 // Blocks that are passed over.
 ghost use Rattle.std.specs.Prelude.{◌≡◌, ℕ, List, ◌++◌, ◌+◌, ◌<◌, ◌≤◌, length, IfOk};
-ghost use Rattle.cf_stream.specs.Limits.{HasRoom};
+ghost use Rattle.cf_pcap.specs.Limits.{HasRoom};
 ghost use Rattle.cf_pcap.specs.declared.scope.Scope.{Scope};
 ghost use Rattle.cf_pcapng.specs.File.{State};
 ghost use Rattle.cf_pcapng.specs.Position.{state_of};
@@ -12,8 +12,7 @@ use crate::blocks::{BlocksRead, read_blocks};
 use crate::fault::Flaw;
 use crate::head::{BlockHead, BlockKind, head_of};
 use crate::position::Position;
-use cf_pcap::{Frame, Order, Scope};
-use cf_stream::cut_at;
+use cf_pcap::{Frame, Order, Scope, cut_at};
 use std::alloc::{AllocError, Global};
 
 /// So many bytes show the head of any block, and no block has fewer.

@@ -1,14 +1,13 @@
 // How far a file was read.
 ghost use Rattle.std.specs.Prelude.{◌≡◌, ◌+◌, ◌≤◌, ◌++◌, ◌∷◌, [], false, length, IfOk};
-ghost use Rattle.cf_stream.specs.Limits.{IsShort};
+ghost use Rattle.cf_pcap.specs.Limits.{IsShort};
 ghost use Rattle.cf_pcapng.specs.File.{frames_of, after};
 ghost use Rattle.cf_pcapng.specs.Position.{state_of};
 ghost use Rattle.cf_pcapng.specs.Reading.{LiesIn};
 
 use crate::content::{Content, Packet};
 use crate::interfaces::{Interface, Interfaces};
-use cf_pcap::{Frame, Order};
-use cf_stream::Length;
+use cf_pcap::{Frame, Length, Order};
 use std::alloc::{AllocError, Global};
 use std::marker::Model;
 

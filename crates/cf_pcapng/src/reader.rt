@@ -3,22 +3,21 @@ ghost use Rattle.std.specs.Prelude.{◌≡◌, ◌≢◌, ℕ, List, [], ◌++�
 ghost use Rattle.cf_pcap.specs.Capture.{FrameValue};
 ghost use Rattle.cf_pcap.specs.declared.links.LinkSet.TheVariants.{Basic};
 ghost use Rattle.cf_pcap.specs.Links.{limited};
-ghost use Rattle.cf_stream.specs.Limits.{HasRoom};
-ghost use Rattle.cf_stream.specs.Stream.{AreGiven};
-ghost use Rattle.cf_stream.specs.declared.stage.Stage.TheVariants.{Running};
+ghost use Rattle.cf_pcap.specs.Limits.{HasRoom};
+ghost use Rattle.cf_pcap.specs.Streams.{AreGiven};
+ghost use Rattle.cf_pcap.specs.declared.stage.Stage.TheVariants.{Running};
 ghost use Rattle.cf_pcapng.specs.File.{pcapng};
 ghost use Rattle.cf_pcapng.specs.Position.{listed, state_of};
 ghost use Rattle.cf_pcapng.specs.Reading.{KeepsLastField, MayGoOn, early_bytes, late_bytes};
 ghost use Rattle.cf_pcapng.specs.Reader.{IsStateOf, IsFed, IsEnded, AnswersFound, IsStageAtLimit, IsStageAfter, IsCalled, reader_after};
-ghost use Rattle.cf_stream.specs.Stages.{found_at, kept_at};
+ghost use Rattle.cf_pcap.specs.Stages.{found_at, kept_at};
 ghost use Rattle.cf_pcapng.specs.Truncated.{Says, Breaks};
 
 use crate::fault::NgFault;
 use crate::interfaces::Interface;
 use crate::passed::{Passed, StreamRead, read_piece};
 use crate::position::{Position, Reached};
-use cf_pcap::{Frame, LinkSet, Order, Scope};
-use cf_stream::{LIMIT, Length, Stage};
+use cf_pcap::{Frame, LIMIT, Length, LinkSet, Order, Scope, Stage};
 use std::alloc::{AllocError, Global};
 use std::marker::Model;
 

@@ -13,7 +13,7 @@ use Rattle.cf_packet6.specs.declared.PacketSchema.TheVariants.{Packet, Packet6}
 use Rattle.cf_packet6.specs.Schema6.{attrs_by}
 use Rattle.cf_setup.specs.declared.source.Source.{Source}
 use Rattle.cf_setup.specs.declared.source.Source.TheVariants.{Packets, Records}
-use Rattle.cf_stream.specs.declared.limit.Length.TheVariants.{Limited}
+use Rattle.cf_pcap.specs.declared.limit.Length.TheVariants.{Limited}
 use Rattle.cf_headers.specs.Packet.{packet_row_of}
 use Rattle.cf_make.specs.Generated.{file_header, generated_bytes, generated_frames}
 use Rattle.cf_make.proofs.Reading.{made_is_capture, frames_many}

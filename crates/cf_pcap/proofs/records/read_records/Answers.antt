@@ -1,6 +1,6 @@
 use Rattle.std.proofs.Common.{arith, ◌≡◌, ℕ, List, ◌≤◌, ◌+◌, ◌-◌, ◌*◌, ◌∙◌, Some, ap, sym, subst, [], ◌∷◌, ◌++◌, length, drop, length-drop}
-use Rattle.cf_stream.specs.Limits.{HasRoom, count_on}
-use Rattle.cf_stream.specs.Format.{ReadsTo}
+use Rattle.cf_pcap.specs.Limits.{HasRoom, count_on}
+use Rattle.cf_pcap.specs.Format.{ReadsTo}
 use Rattle.cf_pcap.specs.Capture.{FrameValue, HasRecord, frame_at, caplen_at}
 use Rattle.cf_pcap.specs.File.{pcap}
 use Rattle.cf_pcap.specs.Reading.{state_of, AreRead}

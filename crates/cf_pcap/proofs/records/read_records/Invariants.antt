@@ -1,6 +1,6 @@
 use Rattle.std.proofs.Common.{◌≡◌, length, drop, ◌+◌, ◌-◌, ◌*◌, ◌≤◌, Some}
-use Rattle.cf_stream.specs.Limits.{HasRoom}
-use Rattle.cf_stream.specs.Format.{ReadsTo}
+use Rattle.cf_pcap.specs.Limits.{HasRoom}
+use Rattle.cf_pcap.specs.Format.{ReadsTo}
 use Rattle.cf_pcap.specs.File.{pcap}
 use Rattle.cf_pcap.specs.Reading.{state_of}
 use Rattle.cf_pcap.proofs.records.read_records.Given as goal

@@ -1,5 +1,5 @@
 use Rattle.std.proofs.Common.{rules, ◌≡◌, ℕ, List, ◌∷◌, ◌++◌, drop, Option, Some, sym, ap, subst, ◌∙◌}
-use Rattle.cf_stream.specs.Limits.{count_on}
+use Rattle.cf_pcap.specs.Limits.{count_on}
 use Rattle.cf_pcap.specs.declared.form.FileHeader.{FileHeader}
 use Rattle.cf_pcap.specs.Capture.{frame_at}
 use Rattle.cf_pcap.specs.Reading.{state_of, AreTaken, IsOneRecord}

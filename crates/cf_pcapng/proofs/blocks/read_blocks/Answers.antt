@@ -1,8 +1,8 @@
 use Rattle.std.proofs.Common.{◌≡◌, ◌≤◌, ◌+◌, ◌-◌, ℕ, List, ◌++◌, length, take, drop, Some, None, sym, ap, subst, ◌∙◌, append_assoc, length-drop}
-use Rattle.cf_stream.specs.declared.limit.Length.{Length}
-use Rattle.cf_stream.specs.Limits.{HasRoom}
+use Rattle.cf_pcap.specs.declared.limit.Length.{Length}
+use Rattle.cf_pcap.specs.Limits.{HasRoom}
 use Rattle.cf_pcap.specs.Capture.{FrameValue}
-use Rattle.cf_stream.specs.Format.{ReadsTo}
+use Rattle.cf_pcap.specs.Format.{ReadsTo}
 use Rattle.cf_pcapng.specs.declared.blocks.Next.TheVariants as next
 use Rattle.cf_pcapng.specs.File.{State, frames_of, after, pcapng}
 use Rattle.cf_pcapng.specs.Position.{state_of}

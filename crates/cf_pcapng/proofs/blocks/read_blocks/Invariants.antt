@@ -1,7 +1,7 @@
 use Rattle.std.proofs.Common.{◌≡◌, ◌+◌, List, ◌++◌, length}
-use Rattle.cf_stream.specs.Limits.{HasRoom}
+use Rattle.cf_pcap.specs.Limits.{HasRoom}
 use Rattle.cf_pcap.specs.Capture.{FrameValue}
-use Rattle.cf_stream.specs.Format.{ReadsTo}
+use Rattle.cf_pcap.specs.Format.{ReadsTo}
 use Rattle.cf_pcapng.specs.File.{pcapng}
 use Rattle.cf_pcapng.specs.Position.{state_of}
 use Rattle.cf_pcapng.proofs.blocks.read_blocks.Given as goal

@@ -1,11 +1,11 @@
 use Rattle.std.proofs.Common.{◌≡◌, [], Result, sym, subst, ◌∙◌, append-nil}
 use Rattle.cf_pcap.specs.declared.fault.PcapFault.{PcapFault}
 use Rattle.cf_pcap.specs.declared.fault.PcapFault.TheVariants.{Memory}
-use Rattle.cf_stream.specs.declared.stage.Stage.{Stage}
-use Rattle.cf_stream.specs.declared.stage.Stage.TheVariants.{Running, Stopped}
+use Rattle.cf_pcap.specs.declared.stage.Stage.{Stage}
+use Rattle.cf_pcap.specs.declared.stage.Stage.TheVariants.{Running, Stopped}
 use Rattle.cf_pcap.specs.Reading.{state_of}
 use Rattle.cf_pcap.specs.Stream.{PcapValue, IsRunning, IsStateOf, IsFed, IsSoundAt, IsSound}
-use Rattle.cf_stream.proofs.Stages.{running_of, at_running, answers_stopped, fed_stopped, no_memory}
+use Rattle.cf_pcap.proofs.Stages.{running_of, at_running, answers_stopped, fed_stopped, no_memory}
 use Rattle.cf_pcap.specs.File.{pcap}
 use Rattle.cf_pcap.proofs.Steps.{stepper}
 use Rattle.cf_pcap.proofs.Feeding.{Later, not_found, fed_call, sound_call}

@@ -1,6 +1,6 @@
 use Rattle.std.proofs.Common.{◌≡◌, ℕ, List, ◌++◌, length, sym, ap, subst, ◌∙◌}
-use Rattle.cf_stream.specs.declared.stage.Stage.{Stage}
-use Rattle.cf_stream.specs.declared.stage.Stage.TheVariants.{Running}
+use Rattle.cf_pcap.specs.declared.stage.Stage.{Stage}
+use Rattle.cf_pcap.specs.declared.stage.Stage.TheVariants.{Running}
 use Rattle.cf_pcapng.specs.declared.fault.NgFault.{NgFault}
 use Rattle.cf_pcapng.specs.Position.{state_of}
 use Rattle.cf_pcapng.specs.File.{State}

@@ -1,7 +1,7 @@
 use Rattle.std.proofs.Common.{◌≡◌, [], sym, subst, append-nil}
-use Rattle.cf_stream.specs.declared.stage.Stage.TheVariants.{Running, Stopped}
+use Rattle.cf_pcap.specs.declared.stage.Stage.TheVariants.{Running, Stopped}
 use Rattle.cf_pcapng.specs.Reader.{PcapNgValue, IsRunning}
-use Rattle.cf_stream.proofs.Stages.{running_of, answers_stopped, fed_stopped}
+use Rattle.cf_pcap.proofs.Stages.{running_of, answers_stopped, fed_stopped}
 use Rattle.cf_pcapng.specs.File.{pcapng}
 use Rattle.cf_pcapng.proofs.Steps.{stepper}
 use Rattle.cf_pcapng.proofs.Feeding.{not_found}

@@ -1,8 +1,8 @@
 -- Formats whose files are units end to end, as whole files.
 use Rattle.std.specs.Prelude.{◌≡◌, ◌⊎◌, ℕ, ◌^◌, ◌<◌, Bool, true, false, List, [], ◌∷◌, ◌++◌, length, take, drop}
-use Rattle.cf_stream.specs.declared.limit.Length.{Length}
-use Rattle.cf_stream.specs.declared.limit.Length.TheVariants.{Limited, Any}
-use Rattle.cf_stream.specs.Limits.{IsShort, IsLong}
+use Rattle.cf_pcap.specs.declared.limit.Length.{Length}
+use Rattle.cf_pcap.specs.declared.limit.Length.TheVariants.{Limited, Any}
+use Rattle.cf_pcap.specs.Limits.{IsShort, IsLong}
 
 -- what the bytes at the front show: no whole unit yet, a fault, or a unit of so many bytes, with its items and the state
 -- after it

@@ -2,12 +2,12 @@
 use Rattle.std.proofs.Common.{◌≡◌, ◌⊎◌, inl, inr, ℕ, ◌<◌, ◌+◌, Bool, true, false, List, [], ◌++◌, length, refl, sym, ap, subst, ◌∙◌, arith, length-append}
 use Rattle.std.proofs.lemmas.Bool.{cases_eq}
 use Rattle.std.proofs.lemmas.List.{nil_from_length}
-use Rattle.cf_stream.specs.Limits.{IsShort, IsLong}
-use Rattle.cf_stream.specs.Format.{Wants, Format, ReadsTo, IsWhole, Shows, seen, IsCut, IsFound, HasFault, OneCase}
-use Rattle.cf_stream.specs.Stream.{IsStepper}
-use Rattle.cf_stream.proofs.Units.{NoUnit, reads_more, one_read, wants_none, bad_none, bad_same, wants_bad, End, More, Fault, end_of}
-use Rattle.cf_stream.proofs.Limits.{short_or_long, not_both, long_more}
-use Rattle.cf_stream.proofs.Seen.{seen_short, seen_full, seen_more}
+use Rattle.cf_pcap.specs.Limits.{IsShort, IsLong}
+use Rattle.cf_pcap.specs.Format.{Wants, Format, ReadsTo, IsWhole, Shows, seen, IsCut, IsFound, HasFault, OneCase}
+use Rattle.cf_pcap.specs.Streams.{IsStepper}
+use Rattle.cf_pcap.proofs.FormatUnits.{NoUnit, reads_more, one_read, wants_none, bad_none, bad_same, wants_bad, End, More, Fault, end_of}
+use Rattle.cf_pcap.proofs.Limits.{short_or_long, not_both, long_more}
+use Rattle.cf_pcap.proofs.Seen.{seen_short, seen_full, seen_more}
 
 -- a fault that was found stays, whatever comes
 pub shows_more : {S I F : Type 0} (f : Format S I F) (is : IsStepper f) (bytes more : List ℕ) (fault : F) → Shows f bytes fault → Shows f (bytes ++ more) fault

@@ -1,9 +1,9 @@
 -- What a reader of a format gives and answers over a stream, however it is cut.
 use Rattle.std.specs.Prelude.{◌≡◌, ℕ, ◌+◌, ◌-◌, ◌^◌, ◌<◌, ◌≤◌, List, [], ◌++◌, length, take, Result, MatchResult, ◌*◌}
-use Rattle.cf_stream.specs.declared.limit.Length.{Length}
-use Rattle.cf_stream.specs.declared.limit.Length.TheVariants.{Limited, Any}
-use Rattle.cf_stream.specs.Limits.{IsShort, count_on, number_of}
-use Rattle.cf_stream.specs.Format.{Wants, Bad, Takes, Format, ReadsTo, IsWhole, IsFound, HasFault}
+use Rattle.cf_pcap.specs.declared.limit.Length.{Length}
+use Rattle.cf_pcap.specs.declared.limit.Length.TheVariants.{Limited, Any}
+use Rattle.cf_pcap.specs.Limits.{IsShort, count_on, number_of}
+use Rattle.cf_pcap.specs.Format.{Wants, Bad, Takes, Format, ReadsTo, IsWhole, IsFound, HasFault}
 
 -- What makes a format one that can be read as a stream: no bytes show nothing; what the bytes at the front show stays when more
 -- bytes follow, and a unit that they only begin is longer; a unit gives one item at most, and has 16 bytes then; and the items are

@@ -2,12 +2,12 @@
 use Rattle.std.proofs.Common.{◌≡◌, ◌⊎◌, inl, inr, ℕ, ◌+◌, ◌-◌, ◌^◌, List, [], ◌∷◌, ◌++◌, length, take, refl, sym, ap, subst, ◌∙◌, arith, append_assoc, append-nil, length-append}
 use Rattle.std.proofs.lemmas.List.{take_all, take-append-le}
 use Rattle.cf_lemmas.proofs.Lists.{take_past}
-use Rattle.cf_stream.specs.declared.limit.Length.{Length}
-use Rattle.cf_stream.specs.declared.limit.Length.TheVariants.{Limited, Any}
-use Rattle.cf_stream.specs.Limits.{IsShort, IsLong, IsAtLimit}
-use Rattle.cf_stream.specs.Format.{seen}
-use Rattle.cf_stream.specs.Stream.{early}
-use Rattle.cf_stream.proofs.Limits.{short_or_long, limit_long}
+use Rattle.cf_pcap.specs.declared.limit.Length.{Length}
+use Rattle.cf_pcap.specs.declared.limit.Length.TheVariants.{Limited, Any}
+use Rattle.cf_pcap.specs.Limits.{IsShort, IsLong, IsAtLimit}
+use Rattle.cf_pcap.specs.Format.{seen}
+use Rattle.cf_pcap.specs.Streams.{early}
+use Rattle.cf_pcap.proofs.Limits.{short_or_long, limit_long}
 
 pub seen_short : (l : Length) (file : List ℕ) → IsShort l (length file) → seen l file ≡ file
 unfolding seen

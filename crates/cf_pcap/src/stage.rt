@@ -1,6 +1,6 @@
 // Whether a reader of a stream runs.
 ghost use Rattle.std.specs.Prelude.{◌≡◌};
-ghost use Rattle.cf_stream.specs.Stages.{answer_at, found_at};
+ghost use Rattle.cf_pcap.specs.Stages.{answer_at, found_at};
 
 /// Whether a reader of a stream runs.
 #[derive(Clone, Copy, Debug, PartialEq, Eq)]

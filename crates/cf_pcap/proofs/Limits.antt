@@ -1,9 +1,9 @@
 -- What holds of both lengths.
 use Rattle.std.proofs.Common.{◌≡◌, ◌⊎◌, inl, ℕ, ◌≤◌, ◌+◌, ◌^◌, ◌∙◌, arith}
 use Rattle.std.proofs.lemmas.Bool.{cases_lt}
-use Rattle.cf_stream.specs.declared.limit.Length.{Length}
-use Rattle.cf_stream.specs.declared.limit.Length.TheVariants.{Limited, Any}
-use Rattle.cf_stream.specs.Limits.{IsShort, IsLong, IsAtLimit, IsTotal, count_on, number_of}
+use Rattle.cf_pcap.specs.declared.limit.Length.{Length}
+use Rattle.cf_pcap.specs.declared.limit.Length.TheVariants.{Limited, Any}
+use Rattle.cf_pcap.specs.Limits.{IsShort, IsLong, IsAtLimit, IsTotal, count_on, number_of}
 
 pub short_or_long : (l : Length) (n : ℕ) → IsShort l n ⊎ IsLong l n
 short_or_long Limited n = cases_lt n (2 ^ 32)

@@ -1,13 +1,13 @@
 -- What a call that takes one more piece gives and answers.
 use Rattle.std.proofs.Common.{◌≡◌, ◌⊎◌, inl, inr, ℕ, ◌<◌, ◌≤◌, ◌+◌, ◌*◌, true, false, List, [], ◌∷◌, ◌++◌, length, Ok, Err, sym, ap, subst, ◌∙◌, arith, append_assoc, append-nil, length-append}
-use Rattle.cf_stream.specs.Limits.{IsShort, IsLong, IsAtLimit, count_on, number_of}
-use Rattle.cf_stream.specs.Format.{Wants, Bad, Format, ReadsTo, Shows, seen, IsFound}
-use Rattle.cf_stream.specs.Stream.{IsStepper, early, AreGiven, Runs, IsFed, IsEnded}
-use Rattle.cf_stream.proofs.Units.{reads_nothing, reads_more, reads_on, reads_few, reads_count, wants_none, bad_none}
-use Rattle.cf_stream.proofs.Limits.{none_short, long_more, limit_long, limit_after, count_first}
-use Rattle.cf_stream.proofs.Seen.{seen_short, seen_last, early_short, early_full}
-use Rattle.cf_stream.proofs.Cases.{none_shown, none_found, found_more, seen_shows, whole_of, cut_of}
-use Rattle.cf_stream.proofs.Given.{given_of, found_gives}
+use Rattle.cf_pcap.specs.Limits.{IsShort, IsLong, IsAtLimit, count_on, number_of}
+use Rattle.cf_pcap.specs.Format.{Wants, Bad, Format, ReadsTo, Shows, seen, IsFound}
+use Rattle.cf_pcap.specs.Streams.{IsStepper, early, AreGiven, Runs, IsFed, IsEnded}
+use Rattle.cf_pcap.proofs.FormatUnits.{reads_nothing, reads_more, reads_on, reads_few, reads_count, wants_none, bad_none}
+use Rattle.cf_pcap.proofs.Limits.{none_short, long_more, limit_long, limit_after, count_first}
+use Rattle.cf_pcap.proofs.Seen.{seen_short, seen_last, early_short, early_full}
+use Rattle.cf_pcap.proofs.Cases.{none_shown, none_found, found_more, seen_shows, whole_of, cut_of}
+use Rattle.cf_pcap.proofs.Given.{given_of, found_gives}
 
 -- a new reader
 pub runs_new : {S I F : Type 0} (f : Format S I F) (is : IsStepper f) → Runs f f.start [] []

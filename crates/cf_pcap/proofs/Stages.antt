@@ -1,12 +1,12 @@
 -- Readers at a stage.
 use Rattle.std.proofs.Common.{◌≡◌, inl, ℕ, List, [], ◌++◌, Some, Err, refl, sym, ap, subst}
-use Rattle.cf_stream.specs.declared.stage.Stage.{Stage}
-use Rattle.cf_stream.specs.declared.stage.Stage.TheVariants.{Running, Stopped}
-use Rattle.cf_stream.specs.Format.{Format, IsFound}
-use Rattle.cf_stream.specs.Stream.{IsStepper, IsFed}
-use Rattle.cf_stream.specs.Stages.{IsAt, IsSoundAt, AnswersFound, found_at, answer_at}
-use Rattle.cf_stream.proofs.Cases.{one_fault}
-use Rattle.cf_stream.proofs.Feeding as feeding
+use Rattle.cf_pcap.specs.declared.stage.Stage.{Stage}
+use Rattle.cf_pcap.specs.declared.stage.Stage.TheVariants.{Running, Stopped}
+use Rattle.cf_pcap.specs.Format.{Format, IsFound}
+use Rattle.cf_pcap.specs.Streams.{IsStepper, IsFed}
+use Rattle.cf_pcap.specs.Stages.{IsAt, IsSoundAt, AnswersFound, found_at, answer_at}
+use Rattle.cf_pcap.proofs.Cases.{one_fault}
+use Rattle.cf_pcap.proofs.FormatFeeding as feeding
 
 pub running_of : {F : Type 0} (stage : Stage F) → ((fault : F) → stage ≡ Stopped fault → ⊥) → stage ≡ Running
 running_of Running h = refl

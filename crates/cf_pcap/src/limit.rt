@@ -1,6 +1,6 @@
 // How long a stream may be, and how what comes in it is counted.
 ghost use Rattle.std.specs.Prelude.{◌≡◌, ◌+◌};
-ghost use Rattle.cf_stream.specs.Limits.{IsShort, HasRoom, first_of, others_of, total_on, count_on};
+ghost use Rattle.cf_pcap.specs.Limits.{IsShort, HasRoom, first_of, others_of, total_on, count_on};
 
 use crate::cut_at;
 

@@ -1,13 +1,13 @@
 -- Whole files, and files of which only the front counts.
 use Rattle.std.proofs.Common.{◌≡◌, ◌⊎◌, inl, inr, ℕ, ◌≤◌, ◌+◌, List, [], ◌++◌, length, Result, Ok, Err, MatchResult, sym, ap, subst, ◌∙◌, append-nil}
-use Rattle.cf_stream.specs.Limits.{IsAtLimit, number_of}
-use Rattle.cf_stream.specs.Format.{Format, IsWhole, HasFault}
-use Rattle.cf_stream.specs.Stream.{IsStepper, AreGiven, IsFed, IsEnded}
-use Rattle.cf_stream.proofs.Limits.{none_short, not_both, limit_long}
-use Rattle.cf_stream.proofs.Units.{reads_nothing, wants_none}
-use Rattle.cf_stream.proofs.Seen.{early_short}
-use Rattle.cf_stream.proofs.Cases.{found_more}
-use Rattle.cf_stream.proofs.Given.{given_of, one_given}
+use Rattle.cf_pcap.specs.Limits.{IsAtLimit, number_of}
+use Rattle.cf_pcap.specs.Format.{Format, IsWhole, HasFault}
+use Rattle.cf_pcap.specs.Streams.{IsStepper, AreGiven, IsFed, IsEnded}
+use Rattle.cf_pcap.proofs.Limits.{none_short, not_both, limit_long}
+use Rattle.cf_pcap.proofs.FormatUnits.{reads_nothing, wants_none}
+use Rattle.cf_pcap.proofs.Seen.{early_short}
+use Rattle.cf_pcap.proofs.Cases.{found_more}
+use Rattle.cf_pcap.proofs.Given.{given_of, one_given}
 
 -- what a file's first bytes say of it, where they are all of it or just too many
 pub fault_of_front : {S I F : Type 0} (f : Format S I F) (is : IsStepper f) (front rest : List ℕ) (fault : F) → (rest ≡ []) ⊎ IsAtLimit f.length (length front)

@@ -1,7 +1,7 @@
 -- How long a file may be, and how what comes in it is counted.
 use Rattle.std.specs.Prelude.{◌≡◌, ℕ, ◌+◌, ◌-◌, ◌^◌, ◌<◌, ◌≤◌, max, min, List, [], take, drop}
-use Rattle.cf_stream.specs.declared.limit.Length.{Length}
-use Rattle.cf_stream.specs.declared.limit.Length.TheVariants.{Limited, Any}
+use Rattle.cf_pcap.specs.declared.limit.Length.{Length}
+use Rattle.cf_pcap.specs.declared.limit.Length.TheVariants.{Limited, Any}
 
 -- so many bytes are few enough: below 2^32, or any number
 abbrev pub IsShort : Length → ℕ → Type 0

@@ -1,12 +1,12 @@
 -- The items that a stream gives.
 use Rattle.std.proofs.Common.{◌≡◌, inl, inr, ℕ, ◌+◌, List, ◌++◌, length, refl, sym, subst, arith}
-use Rattle.cf_stream.specs.Limits.{IsShort, IsLong}
-use Rattle.cf_stream.specs.Format.{Format, ReadsTo, Shows, seen, IsFound}
-use Rattle.cf_stream.specs.Stream.{IsStepper, early, AreGiven, OneGift}
-use Rattle.cf_stream.proofs.Units.{NoUnit, reads_more, one_read, wants_none, bad_none, End, More, Fault, end_of}
-use Rattle.cf_stream.proofs.Limits.{short_or_long, long_more}
-use Rattle.cf_stream.proofs.Seen.{seen_short, early_short, early_more, early_full}
-use Rattle.cf_stream.proofs.Cases.{shows_more}
+use Rattle.cf_pcap.specs.Limits.{IsShort, IsLong}
+use Rattle.cf_pcap.specs.Format.{Format, ReadsTo, Shows, seen, IsFound}
+use Rattle.cf_pcap.specs.Streams.{IsStepper, early, AreGiven, OneGift}
+use Rattle.cf_pcap.proofs.FormatUnits.{NoUnit, reads_more, one_read, wants_none, bad_none, End, More, Fault, end_of}
+use Rattle.cf_pcap.proofs.Limits.{short_or_long, long_more}
+use Rattle.cf_pcap.proofs.Seen.{seen_short, early_short, early_more, early_full}
+use Rattle.cf_pcap.proofs.Cases.{shows_more}
 
 pub given_of : {S I F : Type 0} (f : Format S I F) (stream bytes : List ℕ) (items : List I) (t : S) (rest : List ℕ) → early f.length stream ≡ bytes
     → ReadsTo f f.start bytes items t rest → NoUnit f t rest → AreGiven f stream items

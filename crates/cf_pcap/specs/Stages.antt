@@ -1,8 +1,8 @@
 -- What a reader of a stream says of it at its stage.
 use Rattle.std.specs.Prelude.{◌≡◌, ℕ, List, [], Option, Some, None, Result, Ok, Err}
-use Rattle.cf_stream.specs.declared.stage.Stage.{Stage}
-use Rattle.cf_stream.specs.declared.stage.Stage.TheVariants.{Running, Stopped}
-use Rattle.cf_stream.specs.Format.{Format, IsFound}
+use Rattle.cf_pcap.specs.declared.stage.Stage.{Stage}
+use Rattle.cf_pcap.specs.declared.stage.Stage.TheVariants.{Running, Stopped}
+use Rattle.cf_pcap.specs.Format.{Format, IsFound}
 
 -- what is so at a stage: this while the reader runs, and where it stopped, that the stream has the fault
 abbrev pub IsAt : {S I F : Type 0} → Format S I F → List ℕ → Stage F → Type 0 → Type 0

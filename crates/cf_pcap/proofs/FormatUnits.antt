@@ -1,10 +1,10 @@
 -- Units one after another.
 use Rattle.std.proofs.Common.{◌≡◌, ℕ, ◌<◌, ◌≤◌, ◌+◌, ◌-◌, ◌*◌, zero, suc, List, [], ◌∷◌, ◌++◌, length, drop, refl, sym, ap, subst, ◌∙◌, arith, append_assoc, append-nil, length-append, length-drop}
 use Rattle.std.proofs.lemmas.List.{drop-append-le}
-use Rattle.cf_stream.specs.Limits.{count_on}
-use Rattle.cf_stream.specs.Format.{Found, Wants, Bad, Takes, Format, Part, items_of, AreUnitsThen, ReadsTo}
-use Rattle.cf_stream.specs.Stream.{IsStepper}
-use Rattle.cf_stream.proofs.Limits.{count_none, count_sum}
+use Rattle.cf_pcap.specs.Limits.{count_on}
+use Rattle.cf_pcap.specs.Format.{Found, Wants, Bad, Takes, Format, Part, items_of, AreUnitsThen, ReadsTo}
+use Rattle.cf_pcap.specs.Streams.{IsStepper}
+use Rattle.cf_pcap.proofs.Limits.{count_none, count_sum}
 
 -- more bytes come after the rest
 pub more_after : {S I F : Type 0} (f : Format S I F) (is : IsStepper f) (s : S) (parts : List (Part S I)) (bytes : List ℕ) (t : S) (rest more : List ℕ)

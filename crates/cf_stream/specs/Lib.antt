@@ -1,4 +1,0 @@
-pub mod Limits
-pub mod Format
-pub mod Stream
-pub mod Stages
