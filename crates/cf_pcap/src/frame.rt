@@ -17,6 +17,7 @@ pub struct Frame {
     pub len: u32,
     /// The number of the link that it was captured from ([`crate::Link`]).
     pub link: u16,
+    /// Those of its bytes that were captured, from the link's header on.
     pub bytes: Vec<u8>,
 }
 

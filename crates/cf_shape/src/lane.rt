@@ -16,8 +16,11 @@ pub enum Key {
 /// A lane takes the rows of which `select` holds, files them under `key`, and adds up the attribute `measure`.
 #[derive(Debug, Drop)]
 pub struct Lane {
+    /// Which rows it takes.
     pub select: Expr,
+    /// What they are filed under.
     pub key: Key,
+    /// The place in the schema of the attribute that is added up, if one is.
     pub measure: Option<u8>,
 }
 

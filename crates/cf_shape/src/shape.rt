@@ -240,7 +240,7 @@ impl Shape {
         self.nodes
     }
 
-    /// The width of a bucket.
+    /// The width of a bucket, in the unit of the rows' `ts`, which is a nanosecond for packets.
     pub fn width(&self) -> u64
         ensures width { result ≡ self.now.width }
         ensures lawful { 0 < result }

@@ -42,7 +42,7 @@ impl MultiLog {
         }
     }
 
-    /// The books that are home leave the root, each for a writer's pass of its own.
+    /// The books that are home leave the root, each for a writer's pass of its own. If memory runs out, the root is as before.
     pub fn deal(&self, alloc: Global, root: &mut Root) -> Result<Vec<WriterPass>, Memory>
         requires of { IsOf root.old self.now }
         ensures dealt { MatchResult result (λ passes. AreDealt self.now root.old passes.items root.new) (λ _. root.new ≡ root.old) }

@@ -35,7 +35,7 @@ impl Model for MultiLog {
 }
 
 impl MultiLog {
-    /// An empty log of the shape, with all words 0, and the pass that holds all its books.
+    /// An empty log of the shape, with all words 0, and the pass that holds all its books. The only error is that memory runs out.
     pub fn open(alloc: Global, shape: Shape) -> Result<(MultiLog, Root), Memory>
         ensures shape { IfOk result (λ r. r.0.shape ≡ shape) }
         ensures root { IfOk result (λ r. r.1 ≡ record { table = r.0.table; id = 0; nodes = r.0.shape.nodes; view = root_pass r.0.shape }) }
