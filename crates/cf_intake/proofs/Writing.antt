@@ -1,6 +1,6 @@
 -- A text that is written piece by piece.
 use Rattle.std.proofs.Common.{◌≡◌, ℕ, zero, suc, ◌≤◌, ◌∷◌, arith, List, [], ◌++◌, length, take, drop, Option, refl, sym, ap, ◌∙◌, append_assoc}
-use Rattle.std.proofs.lemmas.List.{take-append-drop}
+use Rattle.std.proofs.lemmas.List.{length-take, take-append-drop}
 use Rattle.std.specs.Io.KnownBytes.{Appends}
 use Rattle.std.proofs.KnownBytes.{Appends-nil, Appends-trans}
 
@@ -31,3 +31,7 @@ take_of_take (suc n) (suc m) (x ∷ xs) le = ap (λ ys. x ∷ ys) (take_of_take 
 -- the front of the next piece is the front of the rest
 pub take_of_piece : {X : Type 0} (n m : ℕ) (piece rest : List X) → piece ≡ take m rest → n ≤ length piece → take n piece ≡ take n rest
 take_of_piece {X} n m piece rest same le = let within : n ≤ length (take m rest) = rw same at le in ap (take n) same ∙ take_of_take n m rest within
+
+-- what a device takes of the next piece is there in the rest
+pub within_piece : {X : Type 0} (n m : ℕ) (piece rest : List X) → piece ≡ take m rest → n ≤ length piece → n ≤ length rest
+within_piece n m piece rest same le = let within : n ≤ length (take m rest) = rw same at le in omega (arith, within, length-take m rest)

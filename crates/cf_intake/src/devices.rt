@@ -1,5 +1,5 @@
 // Reads files whole, and writes texts whole.
-ghost use Rattle.std.specs.Prelude.{◌≡◌, ◌≤◌, ◌^◌, IfOk, OnOk, OnErr, take, length};
+ghost use Rattle.std.specs.Prelude.{◌≡◌, ◌^◌, IfOk, OnOk, OnErr};
 ghost use Rattle.std.specs.Io.KnownBytes.{Appends};
 ghost use Rattle.cf_outside.specs.Causes.{HasCause};
 ghost use Rattle.cf_intake.specs.Causes.{HasReadCause};
@@ -7,6 +7,7 @@ ghost use Rattle.cf_intake.specs.Devices.{TakesUpTo, TakesAtMost, ReadsFile, Wri
 ghost use Rattle.cf_intake.specs.Refusals.{unopened};
 
 use cf_outside::{Failed, OpenFault, Shelf, Sink};
+use cf_stream::cut_at;
 use std::alloc::Global;
 
 /// Why a file was not read.
@@ -75,17 +76,6 @@ pub(crate) fn read_file<F: Shelf>(
     read_rest(alloc, shelf, limit)
 }
 
-// What the next write is given: the next 256 bytes of what is left, or all that is left.
-fn next_piece(rest: &[u8]) -> &[u8]
-    ensures piece { result.now ≡ take 256 rest.now }
-    ensures within { length result.now ≤ length rest.now }
-{
-    if rest.len() <= PIECE {
-        return rest;
-    }
-    rest.split_at(PIECE).0
-}
-
 /// Writes the text in pieces. After an error a front of it is written.
 pub fn write_all<K: Sink>(sink: &mut K, text: &[u8]) -> Result<(), Failed>
     ensures ok { OnOk result (Appends (K.held sink.old) (K.held sink.new) text.now) }
@@ -94,7 +84,7 @@ pub fn write_all<K: Sink>(sink: &mut K, text: &[u8]) -> Result<(), Failed>
 {
     let mut rest = text;
     while !rest.is_empty() {
-        let count = sink.write(next_piece(rest))?;
+        let count = sink.write(cut_at(rest, PIECE).0)?;
         rest = rest.split_at(count).1;
     }
     Ok(())

@@ -16,6 +16,17 @@ pub record SnapValue : Type 0 where
   pub has_begun : Bool
   pub is_released : Bool
 
+-- what a coordinator and its hosts hold, of the lists and marks that they keep
+abbrev pub snapshot_of : List ℕ → List Bool → List ℕ → List Bool → Bool → Bool → SnapValue
+snapshot_of tails frozen replies replied has_begun is_released = record {
+  tails = tails;
+  frozen = frozen;
+  replies = replies;
+  replied = replied;
+  has_begun = has_begun;
+  is_released = is_released;
+}
+
 -- so many hosts before anything has happened
 abbrev pub at_start : ℕ → SnapValue
 at_start hosts = record {

@@ -18,13 +18,13 @@ pub struct Snap {
 }
 
 impl Model for Snap {
-    ghost use Rattle.cf_snapshot.specs.Snapshots.{SnapValue, IsSnapshot};
+    ghost use Rattle.cf_snapshot.specs.Snapshots.{SnapValue, IsSnapshot, snapshot_of};
 
     ghost Value = { SnapValue };
 
-    ghost view = { λ s. record { tails = s.tails.items; frozen = s.frozen.items; replies = s.replies.items; replied = s.replied.items; has_begun = s.has_begun; is_released = s.is_released } };
+    ghost view = { λ s. snapshot_of s.tails.items s.frozen.items s.replies.items s.replied.items s.has_begun s.is_released };
 
-    ghost invariant = { λ s. IsSnapshot (record { tails = s.tails.items; frozen = s.frozen.items; replies = s.replies.items; replied = s.replied.items; has_begun = s.has_begun; is_released = s.is_released }) };
+    ghost invariant = { λ s. IsSnapshot (snapshot_of s.tails.items s.frozen.items s.replies.items s.replied.items s.has_begun s.is_released) };
 }
 
 impl Snap {
