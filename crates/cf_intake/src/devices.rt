@@ -7,7 +7,7 @@ ghost use Rattle.cf_intake.specs.Devices.{TakesUpTo, TakesAtMost, ReadsFile, Wri
 ghost use Rattle.cf_intake.specs.Refusals.{unopened};
 
 use cf_outside::{Failed, OpenFault, Shelf, Sink};
-use cf_stream::cut_at;
+use cf_pcap::cut_at;
 use std::alloc::Global;
 
 /// Why a file was not read.

@@ -1,4 +1,5 @@
 pub mod Asking
 pub mod Laws
 pub mod Selecting
+pub mod Tags
 pub mod Walking

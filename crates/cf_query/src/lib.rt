@@ -1,7 +1,7 @@
 //! Questions are asked of a shared log by any pass, while writers append.
 //!
 //! A list and a total go over all entries below their read tail, by the words that their expression compares. All other
-//! questions walk the tree and chains of their lane.
+//! questions walk the tree and chains of their lane. Of what a pass has seen, a row, and all numbers and writers, are read back.
 #![tactic(auto)]
 
 mod asks;
@@ -10,8 +10,10 @@ mod history;
 mod rows;
 mod scans;
 mod selection;
+mod tags;
 
 pub use asks::{ask, ask_seen, groups, measure, tail};
 pub use findings::{finding, finding_seen};
 pub use history::{questions_keep_their_place, seals_are_histories};
 pub use rows::row;
+pub use tags::push_tags;

@@ -10,7 +10,7 @@ use Rattle.cf_plain.specs.Answered.{LoadedValue, answer_on}
 use Rattle.cf_table.specs.Moves.{SealValue}
 use Rattle.cf_load.specs.Loading.{HasAnswered}
 use Rattle.cf_load.specs.Planned.{marks_on, tails_of}
-use Rattle.cf_segments.specs.Tags.{nums_of}
+use Rattle.cf_query.specs.Tags.{nums_of}
 use Rattle.cf_load.specs.declared.plan.LivePlan.{LivePlan}
 use Rattle.cf_segments.specs.declared.segments.Sealing.{Sealing}
 use Rattle.cf_report.specs.Tags.{bare}

@@ -1,2 +1,1 @@
-pub mod Tagged
 pub mod Meant

@@ -2,5 +2,4 @@ pub mod Blocks
 pub mod Needed
 pub mod Loaded
 pub mod Segments
-pub mod Tags
 pub mod Readers

@@ -5,7 +5,6 @@
 
 mod readers;
 mod segments;
-mod tags;
 #[cfg(test)]
 mod tests;
 

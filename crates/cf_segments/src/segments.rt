@@ -4,11 +4,11 @@ ghost use Rattle.std.specs.List.{AllZip, flat_map};
 ghost use Rattle.cf_history.specs.Order.{order_of};
 ghost use Rattle.cf_shape.specs.Lanes.{ShapeValue, IsShape};
 ghost use Rattle.cf_table.specs.Values.{IsOf};
+ghost use Rattle.cf_query.specs.Tags.{nums_of};
 ghost use Rattle.cf_segments.specs.Segments.{AllowsSegments, IsSegment, IsOpened, HoldsRows, HasTurnedOver, HasLooked, HaveLooked, all_of, base_of, entries_of, room_of, seen_of, sealed, told_of};
-ghost use Rattle.cf_segments.specs.Tags.{nums_of};
 ghost use Rattle.cf_segments.specs.declared.segments.TurnFault.TheVariants.{Memory as NoMemory, Spent};
 
-use crate::tags::push_tags;
+use cf_query::push_tags;
 use cf_row::{Entry, Memory};
 use cf_shape::Shape;
 use cf_table::{MultiLog, Pass, Root, Seal, Steps};

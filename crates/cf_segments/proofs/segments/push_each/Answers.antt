@@ -1,8 +1,8 @@
 use Rattle.std.proofs.Common.{◌<◌, ◌+◌, ◌++◌, length, map, ap, ◌∙◌, rules}
 use Rattle.cf_row.specs.declared.row.Entry.{Entry}
 use Rattle.cf_table.specs.Values.{IsOf}
+use Rattle.cf_query.specs.Tags.{nums_of}
 use Rattle.cf_segments.specs.Segments.{HasLooked, seen_of}
-use Rattle.cf_segments.specs.Tags.{nums_of}
 use Rattle.cf_segments.specs.declared.segments.Segment.{Segment}
 use Rattle.cf_segments.proofs.Chains.{looked_none}
 use Rattle.cf_segments.proofs.Changing.{changed_at, changed_holds, changed_long, changed_more, changed_some}

@@ -1,8 +1,8 @@
 use Rattle.std.proofs.Common.{◌≡◌, ◌++◌, take}
 use Rattle.std.specs.List.{flat_map}
 use Rattle.cf_history.specs.Order.{order_of}
+use Rattle.cf_query.specs.Tags.{nums_of}
 use Rattle.cf_segments.specs.Segments.{HasLooked, seen_of}
-use Rattle.cf_segments.specs.Tags.{nums_of}
 use Rattle.cf_segments.proofs.Changing.{Changed}
 use Rattle.cf_segments.proofs.segments.push_each.Given as goal
 

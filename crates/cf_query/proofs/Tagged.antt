@@ -1,5 +1,5 @@
 -- The tag of an entry that was seen is loaded.
-use Rattle.std.proofs.Common.{◌≡◌, ◌∙◌, ◌+◌, ◌-◌, ◌*◌, ◌/◌, ◌%◌, ◌<◌, ◌^◌, ℕ, List, [], ◌∷◌, ◌++◌, length, map, min, take, get_or, Some, slice_get, refl, ap, sym, arith}
+use Rattle.std.proofs.Common.{◌≡◌, ◌∙◌, ◌+◌, ◌-◌, ◌*◌, ◌/◌, ◌%◌, ◌<◌, ◌^◌, ℕ, List, [], ◌∷◌, ◌++◌, length, map, min, take, get_or, Some, slice_get, refl, ap, sym, arith, append_assoc}
 use Rattle.std.proofs.lemmas.List.{map_push, take_more}
 use Rattle.std.proofs.lemmas.Option.{slice_get-get_or}
 use Rattle.cf_row.specs.Words.{IsEntry, word_count, values_words, spelled, tag_of}
@@ -46,9 +46,11 @@ tag_read shape m n o place i found is at lt last made =
 pub entry_is : (m : PassValue) (o : ℕ) (e : Entry) → o < length (m.view).seen → slice_get (m.view).seen o ≡ Some e → entry_at m.view o ≡ e
 entry_is m o e lt at = (let both = sym (slice_get-get_or (m.view).seen o no_entry lt) ∙ at in cc both)
 
--- what is made of one more of them
-pub more_of : {X Y : Type 0} (f : X → Y) (xs : List X) (now after : List Y) (o : ℕ) (d : X) (y : Y) → o < length xs → now ≡ map f (take o xs)
-    → after ≡ now ++ y ∷ [] → y ≡ f (get_or xs o d) → after ≡ map f (take (o + 1) xs)
-more_of {X} {Y} f xs now after o d y lt is push one = push
-    ∙ (ap (λ (ys : List Y). ys ++ y ∷ []) is
-    ∙ (ap (λ (x : Y). map f (take o xs) ++ x ∷ []) one ∙ (sym (map_push f (take o xs) (get_or xs o d)) ∙ ap (map f) (sym (take_more xs o d lt)))))
+-- one more of what is made of each, behind others
+pub more_of : {X : Type 0} (f : Entry → X) (es : List Entry) (before now after : List X) (o : ℕ) (x : X) → o < length es
+    → now ≡ before ++ map f (take o es) → after ≡ now ++ x ∷ [] → x ≡ f (get_or es o no_entry) → after ≡ before ++ map f (take (o + 1) es)
+more_of f es before now after o x lt is push one = push
+    ∙ (ap (λ xs. xs ++ x ∷ []) is
+    ∙ (append_assoc before (map f (take o es)) (x ∷ [])
+    ∙ ap (λ xs. before ++ xs)
+    (ap (λ y. map f (take o es) ++ y ∷ []) one ∙ (sym (map_push f (take o es) (get_or es o no_entry)) ∙ ap (map f) (sym (take_more es o no_entry lt))))))
