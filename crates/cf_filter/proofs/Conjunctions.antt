@@ -2,7 +2,7 @@
 use Rattle.std.proofs.Common.{◌≡◌, ℕ, suc, List, [], ◌∷◌, ◌++◌, Result, Ok, Err, refl, ap, sym, ◌∙◌, append_assoc}
 use Rattle.cf_row.specs.declared.schema.Attr.{Attr}
 use Rattle.cf_row.specs.declared.expr.Atom.{Atom}
-use Rattle.cf_filter.specs.declared.fault.Stop.{Stop}
+use Rattle.cf_filter.specs.declared.fault.OffenceAt.{OffenceAt}
 use Rattle.cf_filter.specs.declared.fault.Offence.TheVariants.{TooLong}
 use Rattle.cf_filter.specs.declared.atom.Joint.{Joint}
 use Rattle.cf_filter.specs.declared.atom.Joint.TheVariants.{End, And, Or}
@@ -16,7 +16,7 @@ preceded closed [] others = closed ++ others
 preceded closed (a ∷ more) [] = closed ++ (a ∷ more) ∷ []
 preceded closed (a ∷ more) (atoms ∷ others) = closed ++ ((a ∷ more) ++ atoms) ∷ others
 
-abbrev pub read_on : List (List Atom) → List Atom → List Attr → ℕ → List ℕ → Result (List (List Atom)) Stop
+abbrev pub read_on : List (List Atom) → List Atom → List Attr → ℕ → List ℕ → Result (List (List Atom)) OffenceAt
 read_on closed open_atoms attrs n text = seen_by (preceded closed open_atoms) (conjunctions_at attrs n text)
 
 abbrev pub pair : Atom → List ℕ → Atom × List ℕ
@@ -43,12 +43,12 @@ preceded_or : (closed : List (List Atom)) (open_atoms : List Atom) (atom : Atom)
 preceded_or closed [] atom others = sym (append_assoc closed ((atom ∷ []) ∷ []) others)
 preceded_or closed (a ∷ more) atom others = sym (append_assoc closed (((a ∷ more) ++ atom ∷ []) ∷ []) others)
 
-joined_and : (closed : List (List Atom)) (open_atoms : List Atom) (atom : Atom) (r : Result (List (List Atom)) Stop)
+joined_and : (closed : List (List Atom)) (open_atoms : List Atom) (atom : Atom) (r : Result (List (List Atom)) OffenceAt)
     → seen_by (preceded closed open_atoms) (seen_by (with_atom atom) r) ≡ seen_by (preceded closed (open_atoms ++ atom ∷ [])) r
 joined_and closed open_atoms atom (Ok xs) = ap Ok (preceded_and closed open_atoms atom xs)
 joined_and closed open_atoms atom (Err e) = refl
 
-joined_or : (closed : List (List Atom)) (open_atoms : List Atom) (atom : Atom) (r : Result (List (List Atom)) Stop)
+joined_or : (closed : List (List Atom)) (open_atoms : List Atom) (atom : Atom) (r : Result (List (List Atom)) OffenceAt)
     → seen_by (preceded closed open_atoms) (seen_by (λ others. (atom ∷ []) ∷ others) r) ≡ seen_by (preceded (closed ++ (open_atoms ++ atom ∷ []) ∷ []) []) r
 joined_or closed open_atoms atom (Ok xs) = ap Ok (preceded_or closed open_atoms atom xs)
 joined_or closed open_atoms atom (Err e) = refl
@@ -81,12 +81,12 @@ read_end closed open_atoms attrs m n text rest after atom e a l = ap (seen_by (p
     last [] = refl
     last (x ∷ xs) = refl
 
-pub read_bad_atom : (closed : List (List Atom)) (open_atoms : List Atom) (attrs : List Attr) (m n : ℕ) (text : List ℕ) (stop : Stop) → m ≡ suc n
+pub read_bad_atom : (closed : List (List Atom)) (open_atoms : List Atom) (attrs : List Attr) (m n : ℕ) (text : List ℕ) (stop : OffenceAt) → m ≡ suc n
     → atom_at attrs text ≡ Err stop → read_on closed open_atoms attrs m text ≡ Err stop
 unfolding conjunctions_at
 read_bad_atom closed open_atoms attrs m n text stop e a = rw (e, a) refl
 
-pub read_bad_joint : (closed : List (List Atom)) (open_atoms : List Atom) (attrs : List Attr) (m n : ℕ) (text rest : List ℕ) (atom : Atom) (stop : Stop)
+pub read_bad_joint : (closed : List (List Atom)) (open_atoms : List Atom) (attrs : List Attr) (m n : ℕ) (text rest : List ℕ) (atom : Atom) (stop : OffenceAt)
     → m ≡ suc n → atom_at attrs text ≡ Ok (pair atom rest) → joint_at rest ≡ Err stop → read_on closed open_atoms attrs m text ≡ Err stop
 unfolding conjunctions_at
 read_bad_joint closed open_atoms attrs m n text rest atom stop e a l = rw (e, a, l) refl

@@ -9,7 +9,7 @@ use Rattle.cf_row.specs.declared.expr.Op.{Op}
 use Rattle.cf_filter.specs.declared.bytes.Class.TheVariants as classes
 use Rattle.cf_filter.specs.declared.fault.Offence.{Offence}
 use Rattle.cf_filter.specs.declared.fault.Offence.TheVariants.{Syntax, TooLong}
-use Rattle.cf_filter.specs.declared.fault.Stop.{Stop}
+use Rattle.cf_filter.specs.declared.fault.OffenceAt.{OffenceAt}
 use Rattle.cf_filter.specs.declared.atom.Joint.{Joint}
 use Rattle.cf_filter.specs.declared.atom.Joint.TheVariants.{End, And, Or}
 use Rattle.cf_filter.specs.Tokens.{run, past, unspaced, strip_at, IsAfterSpaces}
@@ -29,10 +29,10 @@ ends_hold : (kind : Kind) (op : Op) (text here : List ℕ) → IsAfterSpaces tex
 ends_hold kind op text here sp (Ok x) h = (here, run classes.Value here, sp, run_is classes.Value here, h)
 ends_hold kind op text here sp (Err offence) h = (here, run classes.Value here, past classes.Value here, sp, run_is classes.Value here, refl, h)
 
-abbrev ends_in : Kind → Op → List ℕ → Result ((Value × Value) × List ℕ) Stop
+abbrev ends_in : Kind → Op → List ℕ → Result ((Value × Value) × List ℕ) OffenceAt
 ends_in kind op here = ends_or here (bounds_at kind op (run classes.Value here))
 
-ends_same : (kind : Kind) (op : Op) (text : List ℕ) (r : Result ((Value × Value) × List ℕ) Stop) → EndsRead kind op text r → r ≡ bounds_from kind op text
+ends_same : (kind : Kind) (op : Op) (text : List ℕ) (r : Result ((Value × Value) × List ℕ) OffenceAt) → EndsRead kind op text r → r ≡ bounds_from kind op text
 ends_same kind op text (Ok found) h =
     let same = run_only classes.Value h.0 h.1 found.1 h.3 in
     let law = bounds_only kind op h.1 in
@@ -64,8 +64,8 @@ atom_only attrs text =
 
 -- conjunctions
 
-joined_only : (atom : Atom) (joint : Joint) (Later : Result (List (List Atom)) Stop → Type 0) (later : Result (List (List Atom)) Stop) → Only Later later
-    → Only (JoinedRead atom joint Later) (joined_by atom joint later)
+joined_only : (atom : Atom) (joint : Joint) (Later : Result (List (List Atom)) OffenceAt → Type 0) (later : Result (List (List Atom)) OffenceAt)
+    → Only Later later → Only (JoinedRead atom joint Later) (joined_by atom joint later)
 joined_only atom End Later later h = record { holds = refl; only = λ r e. e }
 joined_only atom And Later later h = record { holds = (later, h.holds, refl); only = λ r k. k.2 ∙ ap (seen_by (with_atom atom)) (h.only k.0 k.1) }
 joined_only atom Or Later later h =
@@ -91,7 +91,7 @@ star_err : (here : List ℕ) → (here ≡ [] → ⊥) → star_in here ≡ Err 
 star_err [] h = absurd (h refl)
 star_err (x ∷ xs) h = rw (some_len x xs) refl
 
-star_same : (text : List ℕ) (r : Result (List (List Atom)) Stop) → StarRead text r → r ≡ star_at text
+star_same : (text : List ℕ) (r : Result (List (List Atom)) OffenceAt) → StarRead text r → r ≡ star_at text
 star_same text (Ok expr) h = ap Ok h.1 ∙ ap star_in (spaces_only text [] h.0)
 star_same text (Err stop) h = ap Err h.3 ∙ sym (star_err h.0 h.2) ∙ ap star_in (spaces_only text h.0 h.1)
 
@@ -111,7 +111,7 @@ no_star here h = by (strip_at (codes "*") here) refl
     by None e = e
     by (Some rest) e = absurd (h rest (strip_found (codes "*") here rest e))
 
-expr_same : (attrs : List Attr) (text : List ℕ) (r : Result (List (List Atom)) Stop) → ExprRead attrs text r → r ≡ expr_at attrs text
+expr_same : (attrs : List Attr) (text : List ℕ) (r : Result (List (List Atom)) OffenceAt) → ExprRead attrs text r → r ≡ expr_at attrs text
 expr_same attrs text r (star rest sp h) =
     let found : strip_at (codes "*") (unspaced text) ≡ Some rest = ap (strip_at (codes "*")) (sym (spaces_only text (codes "*" ++ rest) sp))
     ∙ strip_front (codes "*") rest in

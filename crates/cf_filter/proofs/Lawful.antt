@@ -19,7 +19,7 @@ use Rattle.cf_row.specs.declared.expr.Op.TheVariants.{Eq, Ne, Lt, Le, Gt, Ge, Wi
 use Rattle.cf_row.specs.Row.{is_of_kind, is_byte_string}
 use Rattle.cf_row.specs.Expr.{suits_kind, is_within, atom_suits_attr, atom_suits, atom_count, is_of_schema, IsOfSchema}
 use Rattle.cf_filter.specs.declared.bytes.Class.TheVariants as classes
-use Rattle.cf_filter.specs.declared.fault.Stop.{Stop}
+use Rattle.cf_filter.specs.declared.fault.OffenceAt.{OffenceAt}
 use Rattle.cf_filter.specs.declared.atom.Joint.{Joint}
 use Rattle.cf_filter.specs.declared.atom.Joint.TheVariants.{End, And, Or}
 use Rattle.cf_filter.specs.Tokens.{is_digit, is_between}
@@ -219,7 +219,7 @@ atom_fits attrs text found h =
     (atom_good attrs name.0.1 (record { attr = name.0.0; op = op.0; low = range.0.0; high = range.0.1 })
     (named_stands attrs name_read.1 name.0 name_read.5) op_read.3 fit.low fit.high)
   where
-    same : {p q : Atom × List ℕ} → ◌≡◌ {A = Result (Atom × List ℕ) Stop} (Ok p) (Ok q) → q ≡ p
+    same : {p q : Atom × List ℕ} → ◌≡◌ {A = Result (Atom × List ℕ) OffenceAt} (Ok p) (Ok q) → q ≡ p
     same e = cc
 
 -- conjunctions
@@ -240,28 +240,28 @@ before_good : (attrs : List Attr) (n : ℕ) (atom : Atom) (others : List (List A
     → IsGood attrs (suc n) ((atom ∷ []) ∷ others)
 before_good attrs n atom others good h = let few = h.few in record { few = omega (arith, few); suit = rw good h.suit }
 
-ok_same : {x y : List (List Atom)} → ◌≡◌ {A = Result (List (List Atom)) Stop} (Ok x) (Ok y) → y ≡ x
+ok_same : {x y : List (List Atom)} → ◌≡◌ {A = Result (List (List Atom)) OffenceAt} (Ok x) (Ok y) → y ≡ x
 ok_same e = cc
 
-joined_good : (attrs : List Attr) (n : ℕ) (atom : Atom) (joint : Joint) (Later : Result (List (List Atom)) Stop → Type 0) (expr : List (List Atom))
+joined_good : (attrs : List Attr) (n : ℕ) (atom : Atom) (joint : Joint) (Later : Result (List (List Atom)) OffenceAt → Type 0) (expr : List (List Atom))
     → atom_suits attrs atom ≡ true → ((xs : List (List Atom)) → Later (Ok xs) → IsGood attrs n xs) → JoinedRead atom joint Later (Ok expr)
     → IsGood attrs (suc n) expr
 joined_good attrs n atom End Later expr good later h = subst (IsGood attrs (suc n)) (ok_same h) (alone_good attrs n atom good)
 joined_good attrs n atom And Later expr good later h = by h.0 h.1 h.2
   where
-    by : (r : Result (List (List Atom)) Stop) → Later r → Ok expr ≡ seen_by (with_atom atom) r → IsGood attrs (suc n) expr
+    by : (r : Result (List (List Atom)) OffenceAt) → Later r → Ok expr ≡ seen_by (with_atom atom) r → IsGood attrs (suc n) expr
     by (Ok xs) l e = subst (IsGood attrs (suc n)) (ok_same e) (with_good attrs n atom xs good (later xs l))
     by (Err stop) l e = cc
 joined_good attrs n atom Or Later expr good later h = by h.0 h.1 h.2
   where
-    by : (r : Result (List (List Atom)) Stop) → Later r → Ok expr ≡ seen_by (λ others. (atom ∷ []) ∷ others) r → IsGood attrs (suc n) expr
+    by : (r : Result (List (List Atom)) OffenceAt) → Later r → Ok expr ≡ seen_by (λ others. (atom ∷ []) ∷ others) r → IsGood attrs (suc n) expr
     by (Ok xs) l e = subst (IsGood attrs (suc n)) (ok_same e) (before_good attrs n atom xs good (later xs l))
     by (Err stop) l e = cc
 
 conjunctions_good : (attrs : List Attr) (n : ℕ) (text : List ℕ) (expr : List (List Atom)) → ConjunctionsRead attrs n text (Ok expr) → IsGood attrs n expr
 conjunctions_good attrs zero text expr h = clash h.2
   where
-    clash : {stop : Stop} → ◌≡◌ {A = Result (List (List Atom)) Stop} (Ok expr) (Err stop) → IsGood attrs zero expr
+    clash : {stop : OffenceAt} → ◌≡◌ {A = Result (List (List Atom)) OffenceAt} (Ok expr) (Err stop) → IsGood attrs zero expr
     clash e = cc
 conjunctions_good attrs (suc n) text expr h =
     let atom = h.0 in

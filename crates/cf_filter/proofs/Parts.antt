@@ -13,7 +13,7 @@ use Rattle.cf_filter.specs.declared.bytes.Class.{Class}
 use Rattle.cf_filter.specs.declared.bytes.Class.TheVariants.{Letter, Name, Operator}
 use Rattle.cf_filter.specs.declared.fault.Offence.{Offence}
 use Rattle.cf_filter.specs.declared.fault.Offence.TheVariants.{Syntax, UnknownName, BadOperator, ValueRange, TooLong}
-use Rattle.cf_filter.specs.declared.fault.Stop.{Stop}
+use Rattle.cf_filter.specs.declared.fault.OffenceAt.{OffenceAt}
 use Rattle.cf_filter.specs.declared.atom.Joint.{Joint}
 use Rattle.cf_filter.specs.declared.atom.Joint.TheVariants.{End, And, Or}
 use Rattle.cf_filter.specs.Tokens.{passes, run, past, unspaced, strip_at, IsAfterSpaces}
@@ -24,29 +24,30 @@ use Rattle.cf_filter.proofs.Runs.{one_more, run_is, run_only, spaces_is, spaces_
 
 -- the first part and then the next
 module _ {A B : Type 0} where
-  bind_ok : (f : Result A Stop) (g : A → Result B Stop) (x : A) → Ok x ≡ f → (f >>= g) ≡ g x
+  bind_ok : (f : Result A OffenceAt) (g : A → Result B OffenceAt) (x : A) → Ok x ≡ f → (f >>= g) ≡ g x
   bind_ok f g x e = ap (λ r. r >>= g) (sym e)
 
-  bind_err : (f : Result A Stop) (g : A → Result B Stop) (stop : Stop) → Err stop ≡ f → (f >>= g) ≡ Err stop
+  bind_err : (f : Result A OffenceAt) (g : A → Result B OffenceAt) (stop : OffenceAt) → Err stop ≡ f → (f >>= g) ≡ Err stop
   bind_err f g stop e = ap (λ r. r >>= g) (sym e)
 
-  next_holds : (First : Result A Stop → Type 0) (Next : A → Result B Stop → Type 0) (x : A) (r : Result B Stop) → First (Ok x) → Next x r → Then First Next r
+  next_holds : (First : Result A OffenceAt → Type 0) (Next : A → Result B OffenceAt → Type 0) (x : A) (r : Result B OffenceAt) → First (Ok x) → Next x r
+      → Then First Next r
   next_holds First Next x (Ok y) h k = (x, h, k)
   next_holds First Next x (Err stop) h k = inr (x, h, k)
 
-  then_holds : (First : Result A Stop → Type 0) (Next : A → Result B Stop → Type 0) (f : Result A Stop) (g : A → Result B Stop) → First f
+  then_holds : (First : Result A OffenceAt → Type 0) (Next : A → Result B OffenceAt → Type 0) (f : Result A OffenceAt) (g : A → Result B OffenceAt) → First f
       → ((x : A) → Next x (g x)) → Then First Next (f >>= g)
   then_holds First Next (Ok x) g h k = next_holds First Next x (g x) h (k x)
   then_holds First Next (Err stop) g h k = inl h
 
-  then_same : (First : Result A Stop → Type 0) (Next : A → Result B Stop → Type 0) (f : Result A Stop) (g : A → Result B Stop) → Only First f
-      → ((x : A) → Only (Next x) (g x)) → (r : Result B Stop) → Then First Next r → r ≡ (f >>= g)
+  then_same : (First : Result A OffenceAt → Type 0) (Next : A → Result B OffenceAt → Type 0) (f : Result A OffenceAt) (g : A → Result B OffenceAt)
+      → Only First f → ((x : A) → Only (Next x) (g x)) → (r : Result B OffenceAt) → Then First Next r → r ≡ (f >>= g)
   then_same First Next f g h k (Ok y) t = let next = k t.0 in next.only (Ok y) t.2 ∙ sym (bind_ok f g t.0 (h.only (Ok t.0) t.1))
   then_same First Next f g h k (Err stop) (inl t) = sym (bind_err f g stop (h.only (Err stop) t))
   then_same First Next f g h k (Err stop) (inr t) = let next = k t.0 in next.only (Err stop) t.2 ∙ sym (bind_ok f g t.0 (h.only (Ok t.0) t.1))
 
-  pub then_only : (First : Result A Stop → Type 0) (Next : A → Result B Stop → Type 0) (f : Result A Stop) (g : A → Result B Stop) → Only First f
-      → ((x : A) → Only (Next x) (g x)) → Only (Then First Next) (f >>= g)
+  pub then_only : (First : Result A OffenceAt → Type 0) (Next : A → Result B OffenceAt → Type 0) (f : Result A OffenceAt) (g : A → Result B OffenceAt)
+      → Only First f → ((x : A) → Only (Next x) (g x)) → Only (Then First Next) (f >>= g)
   then_only First Next f g h k = record { holds = then_holds First Next f g h.holds (λ x. let next = k x in next.holds); only = then_same First Next f g h k }
 
 -- names
@@ -65,10 +66,10 @@ name_err attrs here BadOperator h = absurd h
 name_err attrs here ValueRange h = absurd h
 name_err attrs here TooLong h = absurd h
 
-pub stop_same : (stop : Stop) (here : List ℕ) → stop.left ≡ length here → stop ≡ stop_at stop.offence here
+pub stop_same : (stop : OffenceAt) (here : List ℕ) → stop.left ≡ length here → stop ≡ stop_at stop.offence here
 stop_same stop here e = ap (λ n. record { offence = stop.offence; left = n }) e
 
-name_same : (attrs : List Attr) (text : List ℕ) (r : Result ((ℕ × Kind) × List ℕ) Stop) → NameRead attrs text r → r ≡ name_at attrs text
+name_same : (attrs : List Attr) (text : List ℕ) (r : Result ((ℕ × Kind) × List ℕ) OffenceAt) → NameRead attrs text r → r ≡ name_at attrs text
 name_same attrs text (Ok found) h =
     let r = run_only Name h.0 h.1 found.1 h.4 in
     let some : attr_named attrs (run Name h.0) ≡ Some found.0 = ap (attr_named attrs) (sym r.0) ∙ h.5 in
@@ -208,7 +209,7 @@ op_holds kind text here sp false true l e = rw l (op_word_holds kind text here (
 op_holds kind text here sp false false l e = rw (l, begins_run Operator here false e) (here, sp, refl, (l, e))
 
 suits_no : (kind : Kind) (here rest : List ℕ) (op : Op) (s : Bool) → suits_kind kind op ≡ s → (s ≡ true → ⊥)
-    → cond {A = Result (Op × List ℕ) Stop} s (Ok (op, rest)) (Err (stop_at BadOperator here)) ≡ Err (stop_at BadOperator here)
+    → cond {A = Result (Op × List ℕ) OffenceAt} s (Ok (op, rest)) (Err (stop_at BadOperator here)) ≡ Err (stop_at BadOperator here)
 suits_no kind here rest op true s h = absurd (h refl)
 suits_no kind here rest op false s h = refl
 
@@ -226,7 +227,7 @@ op_err kind here UnknownName h = absurd h
 op_err kind here ValueRange h = absurd h
 op_err kind here TooLong h = absurd h
 
-op_same : (kind : Kind) (text : List ℕ) (r : Result (Op × List ℕ) Stop) → OpRead kind text r → r ≡ op_at kind text
+op_same : (kind : Kind) (text : List ℕ) (r : Result (Op × List ℕ) OffenceAt) → OpRead kind text r → r ≡ op_at kind text
 op_same kind text (Ok found) h =
     let t = token_is h.0 (op_text found.0) found.1 h.2 in
     let read : op_in kind h.0 (word_rest (op_text found.0) found.1) ≡ Ok (found.0, found.1) = rw (op_text_some found.0, op_front found.0, h.3) refl in
@@ -283,7 +284,7 @@ joint_err here none = by (length here == 0) refl (strip_at (codes "&&") here) re
     by false b None e (Some rest) f = absurd (none Or rest (strip_found (codes "||") here rest f))
     by false b None e None f = rw (b, e, f) refl
 
-joint_same : (text : List ℕ) (r : Result (Joint × List ℕ) Stop) → JointRead text r → r ≡ joint_at text
+joint_same : (text : List ℕ) (r : Result (Joint × List ℕ) OffenceAt) → JointRead text r → r ≡ joint_at text
 joint_same text (Ok found) h = sym (joint_text found.0 h.0 found.1 h.2) ∙ ap joint_in (spaces_only text h.0 h.1)
 joint_same text (Err stop) h = ap Err h.2 ∙ sym (joint_err h.0 h.3) ∙ ap joint_in (spaces_only text h.0 h.1)
 

@@ -15,7 +15,7 @@ use Rattle.cf_filter.specs.declared.fault.Offence.{Offence}
 use Rattle.cf_filter.specs.declared.fault.Offence.TheVariants.{Syntax, UnknownName, BadOperator, ValueRange, TooLong}
 use Rattle.cf_filter.specs.declared.value.ValueForm.{ValueForm}
 use Rattle.cf_filter.specs.Tokens.{passes, run, past, strip_at, IsRun}
-use Rattle.cf_filter.specs.Values.{is_run_of, parts_at, form_at, address_at, number_at, lawful, AreParts, HasForm}
+use Rattle.cf_filter.specs.Values.{is_run_of, parts_at, value_form_at, address_at, number_at, lawful, AreParts, HasForm}
 use Rattle.cf_filter.specs.Ranges.{◌>>=◌, found_or, sized_at, are_dots, dots_len, before_dots, cut_at, in_order, net_from, is_address_kind, test_or, range_by, range_at, twice_at, bounds_at}
 use Rattle.cf_filter.specs.Grammar.{Only, AreBytes, address_of, ValueText, HasRangeForm, RangeText, IsForm, Judged, ValueRead, TwiceRead, BoundsRead}
 use Rattle.cf_filter.specs.Grammar.RangeText.{ends as lawful_ends, net as lawful_net}
@@ -265,8 +265,8 @@ module _ (kind : Kind) (text low high : List ℕ) (cut : cut_at text ≡ Some (c
       order_holds first last (lawful_found kind f low first hf e) (lawful_found kind g high last hg k) (form_ends low high f g is.whole is.first hf hg)
       (nat_lt (number_of last) (number_of first)) refl
 
-  no_form : (t : List ℕ) → form_at t ≡ None → IsForm t → ⊥
-  no_form t e h = let some : form_at t ≡ Some h.0 = form_only t h.0 h.1 in cc
+  no_form : (t : List ℕ) → value_form_at t ≡ None → IsForm t → ⊥
+  no_form t e h = let some : value_form_at t ≡ Some h.0 = form_only t h.0 h.1 in cc
 
   abbrev by_forms : Option ValueForm → Option ValueForm → Result (Value × Value) Offence
   by_forms f g =
@@ -274,7 +274,7 @@ module _ (kind : Kind) (text low high : List ℕ) (cut : cut_at text ≡ Some (c
       (λ low_form. found_or Syntax g >>= (λ high_form. found_or ValueRange
       (lawful kind low_form low) >>= (λ first. found_or ValueRange (lawful kind high_form high) >>= (λ last. in_order first last))))
 
-  between_holds : (f g : Option ValueForm) → form_at low ≡ f → form_at high ≡ g → RangeRead kind text (by_forms f g)
+  between_holds : (f g : Option ValueForm) → value_form_at low ≡ f → value_form_at high ≡ g → RangeRead kind text (by_forms f g)
   between_holds None g e k = λ h. let ends = ends_of text low high cut h in no_form low e ends.0
   between_holds (Some f) None e k = λ h. let ends = ends_of text low high cut h in no_form high k ends.1
   between_holds (Some f) (Some g) e k = values_hold f g (form_found low f e) (form_found high g k) (lawful kind f low) (lawful kind g high) refl refl
@@ -432,7 +432,7 @@ module _ (kind : Kind) (text : List ℕ) (none : cut_at text ≡ None) where
 
 range_by_holds : (kind : Kind) (text : List ℕ) (o : Option (List ℕ × List ℕ)) → cut_at text ≡ o → RangeRead kind text (range_by kind text o)
 range_by_holds kind text None e = net_holds kind text e (strip_at (codes "/") (past (classes.Except 47) text)) refl
-range_by_holds kind text (Some p) e = between_holds kind text p.0 p.1 e (cut_found text p e) (form_at p.0) (form_at p.1) refl refl
+range_by_holds kind text (Some p) e = between_holds kind text p.0 p.1 e (cut_found text p e) (value_form_at p.0) (value_form_at p.1) refl refl
 
 -- the value or the range after an operator
 

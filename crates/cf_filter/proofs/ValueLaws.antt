@@ -17,7 +17,7 @@ use Rattle.cf_filter.specs.declared.fault.Offence.TheVariants.{Syntax, UnknownNa
 use Rattle.cf_filter.specs.declared.value.ValueForm.{ValueForm}
 use Rattle.cf_filter.specs.declared.value.ValueForm.TheVariants.{Decimal, Hex, Dotted}
 use Rattle.cf_filter.specs.Tokens.{passes, run, past, strip_at}
-use Rattle.cf_filter.specs.Values.{is_run_of, hex_digits, part_at, parts_at, form_at, byte_at, address_at, number_at, of_kind, lawful, raw_of, hex_number, pairs, value_at, AreParts, HasForm}
+use Rattle.cf_filter.specs.Values.{is_run_of, hex_digits, part_at, parts_at, value_form_at, byte_at, address_at, number_at, of_kind, lawful, raw_of, hex_number, pairs, value_at, AreParts, HasForm}
 use Rattle.cf_filter.specs.Ranges.{◌>>=◌, found_or, sized_at}
 use Rattle.cf_filter.specs.Grammar.{AreBytes, address_of, ValueText, IsForm, Judged, ValueRead}
 use Rattle.cf_filter.specs.Grammar.ValueText.{decimal, hexadecimal, dotted, bytes}
@@ -132,7 +132,7 @@ hex_none text not_hex = by (hex_digits text) refl
     by None e = e
     by (Some digits) e = absurd (not_hex digits (strip_found (codes "0x") text digits e))
 
-pub form_only : (text : List ℕ) (form : ValueForm) → HasForm text form → form_at text ≡ Some form
+pub form_only : (text : List ℕ) (form : ValueForm) → HasForm text form → value_form_at text ≡ Some form
 form_only text Decimal h = rw h refl
 form_only text Hex h =
     let no_decimal : is_run_of classes.Digit 1 20 text ≡ false = ap (is_run_of classes.Digit 1 20) h.1 ∙ not_run classes.Digit 1 20 (48 ∷ []) 120 h.0 refl in
@@ -147,7 +147,7 @@ form_only text Dotted h =
     let some : parts_at text ≡ Some (four h.0 h.1 h.2 h.3) = parts_only text h.0 h.1 h.2 h.3 p in
     rw (no_decimal, none, some) refl
 
-pub form_found : (text : List ℕ) (form : ValueForm) → form_at text ≡ Some form → HasForm text form
+pub form_found : (text : List ℕ) (form : ValueForm) → value_form_at text ≡ Some form → HasForm text form
 form_found text form h = by (is_run_of classes.Digit 1 20 text) refl (hex_digits text) refl (parts_at text) refl h
   where
     in_hex : (digits : List ℕ) → hex_digits text ≡ Some digits → (b : Bool) → is_run_of classes.Hex 1 32 digits ≡ b
@@ -309,7 +309,7 @@ lawful_found U64 Dotted text value h e = cc
 lawful_found (Bytes len) Dotted text value h e = cc
 
 pub value_found : (kind : Kind) (text : List ℕ) (value : Value) → value_at kind text ≡ Some value → ValueText kind text value
-value_found kind text value h = option_and_then_some _ (form_at text) value h (λ form e k. lawful_found kind form text value (form_found text form e) k)
+value_found kind text value h = option_and_then_some _ (value_form_at text) value h (λ form e k. lawful_found kind form text value (form_found text form e) k)
 
 -- what a text is of where a value is wanted
 
@@ -356,12 +356,12 @@ abbrev sized_by : Kind → List ℕ → Option ValueForm → Result Value Offenc
 sized_by kind text o = found_or Syntax o >>= (λ form. found_or ValueRange (lawful kind form text))
 
 pub sized_holds : (kind : Kind) (text : List ℕ) → ValueRead kind text (sized_at kind text)
-sized_holds kind text = by (form_at text) refl
+sized_holds kind text = by (value_form_at text) refl
   where
     in_form : (form : ValueForm) → HasForm text form → (o : Option Value) → lawful kind form text ≡ o → ValueRead kind text (found_or ValueRange o)
     in_form form h (Some value) e = lawful_found kind form text value h e
     in_form form h None e = ((form, h), unlawful kind text form h e)
 
-    by : (o : Option ValueForm) → form_at text ≡ o → ValueRead kind text (sized_by kind text o)
-    by None e = λ f. let some : form_at text ≡ Some f.0 = form_only text f.0 f.1 in cc
+    by : (o : Option ValueForm) → value_form_at text ≡ o → ValueRead kind text (sized_by kind text o)
+    by None e = λ f. let some : value_form_at text ≡ Some f.0 = form_only text f.0 f.1 in cc
     by (Some form) e = in_form form (form_found text form e) (lawful kind form text) refl

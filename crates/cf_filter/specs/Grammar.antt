@@ -13,7 +13,7 @@ use Rattle.cf_row.specs.Expr.{number_of, suits_kind}
 use Rattle.cf_filter.specs.declared.bytes.Class.TheVariants as classes
 use Rattle.cf_filter.specs.declared.fault.Offence.{Offence}
 use Rattle.cf_filter.specs.declared.fault.Offence.TheVariants.{Syntax, UnknownName, BadOperator, ValueRange, TooLong}
-use Rattle.cf_filter.specs.declared.fault.Stop.{Stop}
+use Rattle.cf_filter.specs.declared.fault.OffenceAt.{OffenceAt}
 use Rattle.cf_filter.specs.declared.atom.Joint.{Joint}
 use Rattle.cf_filter.specs.declared.atom.Joint.TheVariants.{End, And, Or}
 use Rattle.cf_filter.specs.declared.value.ValueForm.{ValueForm}
@@ -90,7 +90,7 @@ BoundsRead kind Gt text = TwiceRead kind text
 BoundsRead kind Ge text = TwiceRead kind text
 
 -- The first part is read, and then the next from what the first gives. The first fault decides.
-abbrev pub Then : {A B : Type 0} → (Result A Stop → Type 0) → (A → Result B Stop → Type 0) → Result B Stop → Type 0
+abbrev pub Then : {A B : Type 0} → (Result A OffenceAt → Type 0) → (A → Result B OffenceAt → Type 0) → Result B OffenceAt → Type 0
 Then {A} First Next (Ok y) = (x : A) × First (Ok x) × Next x (Ok y)
 Then {A} First Next (Err stop) = First (Err stop) ⊎ ((x : A) × First (Ok x) × Next x (Err stop))
 
@@ -104,7 +104,7 @@ NameFault attrs here ValueRange = ⊥
 NameFault attrs here TooLong = ⊥
 
 -- an attribute's name, after spaces
-abbrev pub NameRead : List Attr → List ℕ → Result ((ℕ × Kind) × List ℕ) Stop → Type 0
+abbrev pub NameRead : List Attr → List ℕ → Result ((ℕ × Kind) × List ℕ) OffenceAt → Type 0
 NameRead attrs text (Ok found) = (here word : List ℕ) × IsAfterSpaces text here × (begins_with classes.Letter here ≡ true)
     × IsRun classes.Name here word found.1 × (attr_named attrs word ≡ Some found.0)
 NameRead attrs text (Err stop) = (here : List ℕ) × IsAfterSpaces text here × (stop.left ≡ length here) × NameFault attrs here stop.offence
@@ -133,18 +133,18 @@ OpFault kind here ValueRange = ⊥
 OpFault kind here TooLong = ⊥
 
 -- an operator that suits the kind, after spaces
-abbrev pub OpRead : Kind → List ℕ → Result (Op × List ℕ) Stop → Type 0
+abbrev pub OpRead : Kind → List ℕ → Result (Op × List ℕ) OffenceAt → Type 0
 OpRead kind text (Ok found) = (here : List ℕ) × IsAfterSpaces text here × IsOpWord here (op_text found.0) found.1 × (suits_kind kind found.0 ≡ true)
 OpRead kind text (Err stop) = (here : List ℕ) × IsAfterSpaces text here × (stop.left ≡ length here) × OpFault kind here stop.offence
 
 -- The word where a value or a range is wanted may be empty, which is in no form.
-abbrev pub EndsRead : Kind → Op → List ℕ → Result ((Value × Value) × List ℕ) Stop → Type 0
+abbrev pub EndsRead : Kind → Op → List ℕ → Result ((Value × Value) × List ℕ) OffenceAt → Type 0
 EndsRead kind op text (Ok found) = (here word : List ℕ) × IsAfterSpaces text here × IsRun classes.Value here word found.1 × BoundsRead kind op word (Ok found.0)
 EndsRead kind op text (Err stop) = (here word rest : List ℕ) × IsAfterSpaces text here × IsRun classes.Value here word rest × (stop.left ≡ length here)
     × BoundsRead kind op word (Err stop.offence)
 
 -- a name, an operator that suits its kind, and a value or a range of that kind
-abbrev pub AtomRead : List Attr → List ℕ → Result (Atom × List ℕ) Stop → Type 0
+abbrev pub AtomRead : List Attr → List ℕ → Result (Atom × List ℕ) OffenceAt → Type 0
 AtomRead attrs text =
     Then (NameRead attrs text) (λ name.
     Then (OpRead name.0.1 name.1) (λ op.
@@ -158,19 +158,19 @@ JointText And here rest = here ≡ codes "&&" ++ rest
 JointText Or here rest = here ≡ codes "||" ++ rest
 
 -- the end of the text, or a connective
-abbrev pub JointRead : List ℕ → Result (Joint × List ℕ) Stop → Type 0
+abbrev pub JointRead : List ℕ → Result (Joint × List ℕ) OffenceAt → Type 0
 JointRead text (Ok found) = (here : List ℕ) × IsAfterSpaces text here × JointText found.0 here found.1
 JointRead text (Err stop) = (here : List ℕ) × IsAfterSpaces text here × (stop ≡ stop_at Syntax here)
     × ((joint : Joint) (rest : List ℕ) → JointText joint here rest → ⊥)
 
 -- and what comes after a connective
-abbrev pub JoinedRead : Atom → Joint → (Result (List (List Atom)) Stop → Type 0) → Result (List (List Atom)) Stop → Type 0
+abbrev pub JoinedRead : Atom → Joint → (Result (List (List Atom)) OffenceAt → Type 0) → Result (List (List Atom)) OffenceAt → Type 0
 JoinedRead atom End Later read = read ≡ Ok ((atom ∷ []) ∷ [])
-JoinedRead atom And Later read = (later : Result (List (List Atom)) Stop) × Later later × (read ≡ seen_by (with_atom atom) later)
-JoinedRead atom Or Later read = (later : Result (List (List Atom)) Stop) × Later later × (read ≡ seen_by (λ others. (atom ∷ []) ∷ others) later)
+JoinedRead atom And Later read = (later : Result (List (List Atom)) OffenceAt) × Later later × (read ≡ seen_by (with_atom atom) later)
+JoinedRead atom Or Later read = (later : Result (List (List Atom)) OffenceAt) × Later later × (read ≡ seen_by (λ others. (atom ∷ []) ∷ others) later)
 
 -- conjunctions of at most n atoms in all
-abbrev pub ConjunctionsRead : List Attr → ℕ → List ℕ → Result (List (List Atom)) Stop → Type 0
+abbrev pub ConjunctionsRead : List Attr → ℕ → List ℕ → Result (List (List Atom)) OffenceAt → Type 0
 ConjunctionsRead attrs zero text read = (here : List ℕ) × IsAfterSpaces text here × (read ≡ Err (stop_at TooLong here))
 ConjunctionsRead attrs (suc n) text read =
     Then (AtomRead attrs text) (λ atom.
@@ -178,12 +178,12 @@ ConjunctionsRead attrs (suc n) text read =
     JoinedRead atom.0 joint.0 (ConjunctionsRead attrs n joint.1))) read
 
 -- after a star nothing is wanted
-abbrev pub StarRead : List ℕ → Result (List (List Atom)) Stop → Type 0
+abbrev pub StarRead : List ℕ → Result (List (List Atom)) OffenceAt → Type 0
 StarRead text (Ok expr) = IsAfterSpaces text [] × (expr ≡ [] ∷ [])
 StarRead text (Err stop) = (here : List ℕ) × IsAfterSpaces text here × (here ≡ [] → ⊥) × (stop ≡ stop_at Syntax here)
 
 -- what a text is, as an expression or by its first offending token
-pub data ExprRead (attrs : List Attr) (text : List ℕ) (read : Result (List (List Atom)) Stop) : Type 0 where
+pub data ExprRead (attrs : List Attr) (text : List ℕ) (read : Result (List (List Atom)) OffenceAt) : Type 0 where
   star : (rest : List ℕ) → IsAfterSpaces text (codes "*" ++ rest) → StarRead rest read → ExprRead attrs text read
   conjunctions : (here : List ℕ) → IsAfterSpaces text here → ((rest : List ℕ) → here ≡ codes "*" ++ rest → ⊥) → ConjunctionsRead attrs 32 text read
       → ExprRead attrs text read

@@ -12,7 +12,7 @@ use Rattle.cf_filter.specs.declared.bytes.Class.TheVariants as classes
 use Rattle.cf_filter.specs.declared.fault.Offence.{Offence}
 use Rattle.cf_filter.specs.declared.fault.Offence.TheVariants.{Syntax, ValueRange}
 use Rattle.cf_filter.specs.Tokens.{run, past, strip_at}
-use Rattle.cf_filter.specs.Values.{form_at, lawful, parts_at, address_at, is_run_of, number_at}
+use Rattle.cf_filter.specs.Values.{value_form_at, lawful, parts_at, address_at, is_run_of, number_at}
 
 -- what is found, or this offence
 abbrev pub found_or : {A : Type 0} → Offence → Option A → Result A Offence
@@ -28,7 +28,7 @@ abbrev pub ◌>>=◌ : {A B : Type 0} → Result A Offence → (A → Result B O
 -- the value of a text: no value's form is Syntax, an unlawful value is ValueRange
 abbrev pub sized_at : Kind → List ℕ → Result Value Offence
 sized_at kind text = do
-  form ← found_or Syntax (form_at text)
+  form ← found_or Syntax (value_form_at text)
   found_or ValueRange (lawful kind form text)
 
 -- two dots stand at the front
@@ -55,8 +55,8 @@ in_order low high = if nat_lt (number_of high) (number_of low) then Err ValueRan
 -- both ends of a range that is cut: forms first, then values, then their order
 abbrev pub between_at : Kind → List ℕ → List ℕ → Result (Value × Value) Offence
 between_at kind low high = do
-  low_form ← found_or Syntax (form_at low)
-  high_form ← found_or Syntax (form_at high)
+  low_form ← found_or Syntax (value_form_at low)
+  high_form ← found_or Syntax (value_form_at high)
   first ← found_or ValueRange (lawful kind low_form low)
   last ← found_or ValueRange (lawful kind high_form high)
   in_order first last

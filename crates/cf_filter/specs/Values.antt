@@ -60,8 +60,8 @@ parts_at text = do
   if length d.1 == 0 then Some (a.0, b.0, c.0, d.0) else None
 
 -- how a text is written, if it is written as a value
-abbrev pub form_at : List ℕ → Option ValueForm
-form_at text =
+abbrev pub value_form_at : List ℕ → Option ValueForm
+value_form_at text =
     if is_run_of classes.Digit 1 20 text then Some Decimal else (if is_hex_text text then Some Hex else (if is_some (parts_at text) then Some Dotted else None))
 
 -- a number of at most 255
@@ -125,7 +125,7 @@ lawful U64 Dotted text = None
 
 -- the value of the kind that a text is one of
 abbrev pub value_at : Kind → List ℕ → Option Value
-value_at kind text = option_and_then (λ form. lawful kind form text) (form_at text)
+value_at kind text = option_and_then (λ form. lawful kind form text) (value_form_at text)
 
 -- the four parts of a dotted text, each of one to three digits
 pub record AreParts (text a b c d : List ℕ) : Type 0 where

@@ -5,7 +5,7 @@ ghost use Rattle.cf_row.specs.Expr.{suits_kind as suits_kind_of};
 ghost use Rattle.cf_filter.specs.Reading.{seen_by, begins_with, attr_named, name_at, op_named, token_at, op_at, bounds_from, atom_at, joint_at};
 
 use crate::bytes::{Class, strip, unspaced};
-use crate::fault::{Offence, Stop};
+use crate::fault::{Offence, OffenceAt};
 use crate::range::bounds_of;
 use cf_row::{Atom, Attr, Kind, Op, Value};
 
@@ -36,13 +36,13 @@ pub(crate) fn attr_of(attrs: &[Attr], name: &[u8]) -> Option<(u8, Kind)>
 }
 
 // The attribute named at the front, and what follows it.
-fn name_of<'a>(attrs: &[Attr], text: &'a [u8]) -> Result<((u8, Kind), &'a [u8]), Stop>
+fn name_of<'a>(attrs: &[Attr], text: &'a [u8]) -> Result<((u8, Kind), &'a [u8]), OffenceAt>
     requires { length attrs.now ≤ 24 }
     ensures { seen_by (λ x. (x.0, x.1.now)) result ≡ name_at attrs.now text.now }
 {
     let text = unspaced(text);
     if !Class::Letter.begins(text) {
-        return Err(Stop {
+        return Err(OffenceAt {
             offence: Offence::Syntax,
             left: text.len(),
         });
@@ -50,7 +50,7 @@ fn name_of<'a>(attrs: &[Attr], text: &'a [u8]) -> Result<((u8, Kind), &'a [u8]),
     let (name, rest) = Class::Name.split(text);
     match attr_of(attrs, name) {
         Some(attr) => Ok((attr, rest)),
-        None => Err(Stop {
+        None => Err(OffenceAt {
             offence: Offence::UnknownName,
             left: text.len(),
         }),
@@ -105,13 +105,13 @@ fn token_of(text: &[u8]) -> (&[u8], &[u8])
     Class::Operator.split(text)
 }
 
-fn op_of(kind: Kind, text: &[u8]) -> Result<(Op, &[u8]), Stop>
+fn op_of(kind: Kind, text: &[u8]) -> Result<(Op, &[u8]), OffenceAt>
     ensures { seen_by (λ x. (x.0, x.1.now)) result ≡ op_at kind text.now }
 {
     let text = unspaced(text);
     let (word, rest) = token_of(text);
     if word.is_empty() {
-        return Err(Stop {
+        return Err(OffenceAt {
             offence: Offence::Syntax,
             left: text.len(),
         });
@@ -121,20 +121,20 @@ fn op_of(kind: Kind, text: &[u8]) -> Result<(Op, &[u8]), Stop>
     {
         return Ok((op, rest));
     }
-    Err(Stop {
+    Err(OffenceAt {
         offence: Offence::BadOperator,
         left: text.len(),
     })
 }
 
-fn ends_of(kind: Kind, op: Op, text: &[u8]) -> Result<((Value, Value), &[u8]), Stop>
+fn ends_of(kind: Kind, op: Op, text: &[u8]) -> Result<((Value, Value), &[u8]), OffenceAt>
     ensures { seen_by (λ x. (x.0, x.1.now)) result ≡ bounds_from kind op text.now }
 {
     let text = unspaced(text);
     let (word, rest) = Class::Value.split(text);
     match bounds_of(kind, op, word) {
         Ok(ends) => Ok((ends, rest)),
-        Err(offence) => Err(Stop {
+        Err(offence) => Err(OffenceAt {
             offence,
             left: text.len(),
         }),
@@ -143,7 +143,7 @@ fn ends_of(kind: Kind, op: Op, text: &[u8]) -> Result<((Value, Value), &[u8]), S
 
 /// The atom at the front, and what follows it.
 #[tactic(auto, unfolding(crate::specs::Reading::atom_at))]
-pub(crate) fn atom_of<'a>(attrs: &[Attr], text: &'a [u8]) -> Result<(Atom, &'a [u8]), Stop>
+pub(crate) fn atom_of<'a>(attrs: &[Attr], text: &'a [u8]) -> Result<(Atom, &'a [u8]), OffenceAt>
     requires { length attrs.now ≤ 24 }
     ensures { seen_by (λ x. (x.0, x.1.now)) result ≡ atom_at attrs.now text.now }
 {
@@ -168,7 +168,7 @@ pub(crate) enum Joint {
 }
 
 /// The connective or the end of the text at the front, and what follows it.
-pub(crate) fn joint_of(text: &[u8]) -> Result<(Joint, &[u8]), Stop>
+pub(crate) fn joint_of(text: &[u8]) -> Result<(Joint, &[u8]), OffenceAt>
     ensures { seen_by (λ x. (x.0, x.1.now)) result ≡ joint_at text.now }
 {
     let text = unspaced(text);
@@ -181,7 +181,7 @@ pub(crate) fn joint_of(text: &[u8]) -> Result<(Joint, &[u8]), Stop>
     if let Some(rest) = strip(text, b"||") {
         return Ok((Joint::Or, rest));
     }
-    Err(Stop {
+    Err(OffenceAt {
         offence: Offence::Syntax,
         left: text.len(),
     })

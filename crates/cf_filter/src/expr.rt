@@ -4,19 +4,23 @@ ghost use Rattle.cf_filter.specs.Exprs.{conjunctions_at, star_at, expr_at, fault
 ghost use Rattle.cf_filter.specs.Outcome.{Answers};
 ghost use Rattle.cf_filter.specs.Grammar.{ExprRead, Only};
 ghost use Rattle.cf_row.specs.Expr.{IsOfSchema};
-ghost use Rattle.cf_filter.specs.declared.fault.Stop.{Stop};
+ghost use Rattle.cf_filter.specs.declared.fault.OffenceAt.{OffenceAt};
 ghost use Rattle.cf_row.specs.declared.expr.Atom.{Atom};
 ghost use Rattle.cf_row.specs.declared.schema.Attr.{Attr};
 ghost use Rattle.cf_filter.specs.Reading.{attr_named};
 
 use crate::atom::{Joint, atom_of, attr_of, joint_of};
 use crate::bytes::{strip, unspaced};
-use crate::fault::{FilterFault, Offence, Stop};
+use crate::fault::{FilterFault, Offence, OffenceAt};
 use cf_row::{Attr, Conjunction, Expr, Kind, Memory, Schema};
 use std::alloc::Global;
 
 // The conjunctions of the text, of at most 32 atoms in all.
-fn conjunctions_of(alloc: Global, attrs: &[Attr], text: &[u8]) -> Result<Result<Expr, Stop>, Memory>
+fn conjunctions_of(
+    alloc: Global,
+    attrs: &[Attr],
+    text: &[u8],
+) -> Result<Result<Expr, OffenceAt>, Memory>
     requires { length attrs.now ≤ 24 }
     ensures { IfOk result (λ read. read ≡ conjunctions_at attrs.now 32 text.now) }
 {
@@ -46,19 +50,19 @@ fn conjunctions_of(alloc: Global, attrs: &[Attr], text: &[u8]) -> Result<Result<
         }
         rest = after;
     }
-    Ok(Err(Stop {
+    Ok(Err(OffenceAt {
         offence: Offence::TooLong,
         left: unspaced(rest).len(),
     }))
 }
 
 // One empty conjunction, if nothing follows the star.
-fn star_of(alloc: Global, rest: &[u8]) -> Result<Result<Expr, Stop>, Memory>
+fn star_of(alloc: Global, rest: &[u8]) -> Result<Result<Expr, OffenceAt>, Memory>
     ensures { IfOk result (λ read. read ≡ star_at rest.now) }
 {
     let rest = unspaced(rest);
     if !rest.is_empty() {
-        return Ok(Err(Stop {
+        return Ok(Err(OffenceAt {
             offence: Offence::Syntax,
             left: rest.len(),
         }));
@@ -69,7 +73,7 @@ fn star_of(alloc: Global, rest: &[u8]) -> Result<Result<Expr, Stop>, Memory>
 }
 
 // A star alone, or conjunctions.
-fn expr_of(alloc: Global, attrs: &[Attr], text: &[u8]) -> Result<Result<Expr, Stop>, Memory>
+fn expr_of(alloc: Global, attrs: &[Attr], text: &[u8]) -> Result<Result<Expr, OffenceAt>, Memory>
     requires { length attrs.now ≤ 24 }
     ensures { IfOk result (λ read. read ≡ expr_at attrs.now text.now) }
 {
@@ -79,7 +83,7 @@ fn expr_of(alloc: Global, attrs: &[Attr], text: &[u8]) -> Result<Result<Expr, St
     }
 }
 
-impl Stop {
+impl OffenceAt {
     // The fault in a text of that many bytes.
     fn fault(self, len: usize) -> FilterFault
         requires { len < 2 ^ 32 }
@@ -110,8 +114,8 @@ fn read_expr(alloc: Global, schema: &Schema, bytes: &[u8]) -> Result<Expr, Filte
 /// The expression of the schema that the bytes are the text of, as `parse_expr`.
 pub fn parse_bytes(alloc: Global, schema: &Schema, bytes: &[u8]) -> Result<Expr, FilterFault>
     requires { length bytes.now < 2 ^ 32 }
-    ensures found { (read : Result (List (List Atom)) Stop) × ExprRead schema.now bytes.now read × Answers (length bytes.now) result read }
-    ensures only { (read : Result (List (List Atom)) Stop) → ExprRead schema.now bytes.now read → Answers (length bytes.now) result read }
+    ensures found { (read : Result (List (List Atom)) OffenceAt) × ExprRead schema.now bytes.now read × Answers (length bytes.now) result read }
+    ensures only { (read : Result (List (List Atom)) OffenceAt) → ExprRead schema.now bytes.now read → Answers (length bytes.now) result read }
     ensures of_schema { IfOk result (IsOfSchema schema.now) }
 {
     read_expr(alloc, schema, bytes)
@@ -131,9 +135,9 @@ pub fn find_attr(schema: &Schema, name: &[u8]) -> Option<(u8, Kind)>
 pub fn parse_expr(alloc: Global, schema: &Schema, text: &str) -> Result<Expr, FilterFault>
     requires { length text.now < 2 ^ 32 }
     // The answer is what the text is by the grammar.
-    ensures found { (read : Result (List (List Atom)) Stop) × ExprRead schema.now text.now read × Answers (length text.now) result read }
+    ensures found { (read : Result (List (List Atom)) OffenceAt) × ExprRead schema.now text.now read × Answers (length text.now) result read }
     // What the text is by the grammar is the answer, unless memory runs out.
-    ensures only { (read : Result (List (List Atom)) Stop) → ExprRead schema.now text.now read → Answers (length text.now) result read }
+    ensures only { (read : Result (List (List Atom)) OffenceAt) → ExprRead schema.now text.now read → Answers (length text.now) result read }
     ensures of_schema { IfOk result (IsOfSchema schema.now) }
 {
     parse_bytes(alloc, schema, text.as_bytes())

@@ -19,7 +19,7 @@ pub enum Offence {
 
 /// The first offending token, told by how many bytes are left where it begins.
 #[derive(Clone, Copy, Debug, PartialEq, Eq)]
-pub struct Stop {
+pub struct OffenceAt {
     pub offence: Offence,
     pub left: usize,
 }

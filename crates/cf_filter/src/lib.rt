@@ -16,5 +16,5 @@ mod value;
 pub use atom::named_op;
 pub use bytes::{Class, strip, unspaced};
 pub use expr::{find_attr, one_outcome, parse_bytes, parse_expr};
-pub use fault::{FilterFault, Offence, Stop};
+pub use fault::{FilterFault, Offence, OffenceAt};
 pub use value::read_value;

@@ -6,14 +6,14 @@ ghost use Rattle.cf_filter.specs.Ranges.{dots_len as dots_len_of, are_dots as ar
 
 use crate::bytes::{Class, strip};
 use crate::fault::Offence;
-use crate::value::{address_of, form_of, is_dotted, is_run_of, lawful_value, number_of};
+use crate::value::{address_of, is_dotted, is_run_of, lawful_value, number_of, value_form_of};
 use cf_row::{Kind, Op, Value};
 
 // The value of the text.
 fn value_of(kind: Kind, text: &[u8]) -> Result<Value, Offence>
     ensures { result ≡ sized_at kind text.now }
 {
-    let Some(form) = form_of(text) else {
+    let Some(form) = value_form_of(text) else {
         return Err(Offence::Syntax);
     };
     let Some(value) = lawful_value(kind, form, text) else {
@@ -56,10 +56,10 @@ fn cut(text: &[u8]) -> Option<(&[u8], &[u8])>
 fn between(kind: Kind, low: &[u8], high: &[u8]) -> Result<(Value, Value), Offence>
     ensures { result ≡ between_at kind low.now high.now }
 {
-    let Some(low_form) = form_of(low) else {
+    let Some(low_form) = value_form_of(low) else {
         return Err(Offence::Syntax);
     };
-    let Some(high_form) = form_of(high) else {
+    let Some(high_form) = value_form_of(high) else {
         return Err(Offence::Syntax);
     };
     let Some(first) = lawful_value(kind, low_form, low) else {

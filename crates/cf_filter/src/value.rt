@@ -5,7 +5,7 @@ ghost use Rattle.std.specs.Option.{option_map, option_copied};
 ghost use Rattle.std.specs.Str.Parse.{digits_value};
 ghost use Rattle.cf_row.specs.Row.{is_of_kind as is_of_kind_of};
 ghost use Rattle.cf_filter.specs.Tokens.{passes};
-ghost use Rattle.cf_filter.specs.Values.{digit_of as digit_number, is_run_of as is_run_of_class, is_hex_text, form_at, parts_at, part_at, byte_at, address_at, value_at, number_at, of_kind, lawful, pair_at, pairs};
+ghost use Rattle.cf_filter.specs.Values.{digit_of as digit_number, is_run_of as is_run_of_class, is_hex_text, value_form_at, parts_at, part_at, byte_at, address_at, value_at, number_at, of_kind, lawful, pair_at, pairs};
 ghost use Rattle.cf_filter.specs.Grammar.{ValueText};
 ghost use Rattle.cf_row.specs.declared.row.Value.{Value};
 
@@ -118,8 +118,8 @@ pub(crate) fn is_dotted(text: &[u8]) -> bool
 }
 
 // How the text is written, if it is a value's.
-pub(crate) fn form_of(text: &[u8]) -> Option<ValueForm>
-    ensures { result ≡ form_at text.now }
+pub(crate) fn value_form_of(text: &[u8]) -> Option<ValueForm>
+    ensures { result ≡ value_form_at text.now }
 {
     if is_run_of(Class::Digit, 1, 20, text) {
         return Some(ValueForm::Decimal);
@@ -247,7 +247,7 @@ pub(crate) fn lawful_value(kind: Kind, form: ValueForm, text: &[u8]) -> Option<V
 fn value_of(kind: Kind, text: &[u8]) -> Option<Value>
     ensures { result ≡ value_at kind text.now }
 {
-    let form = form_of(text)?;
+    let form = value_form_of(text)?;
     lawful_value(kind, form, text)
 }
 

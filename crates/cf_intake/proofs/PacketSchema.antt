@@ -5,8 +5,8 @@ use Rattle.cf_packet6.specs.declared.PacketSchema.{PacketSchema}
 use Rattle.cf_packet6.specs.Schema6.{attrs_by}
 use Rattle.cf_setup.specs.declared.source.Source.TheVariants.{Packets, Records}
 use Rattle.cf_setup.specs.Drafts.{DraftValue, nothing_stated}
-use Rattle.cf_setup.specs.Forms.{Form}
-use Rattle.cf_setup.specs.Forms.Form.{packet_schema, record_schema, bucket_width, new_index, new_filter, new_aggregate, new_tally, new_trigger, ask_list, ask_find, ask_buckets, ask_fired, ask_top, ask_total, ask_live}
+use Rattle.cf_setup.specs.Forms.{StatementFormValue}
+use Rattle.cf_setup.specs.Forms.StatementFormValue.{packet_schema, record_schema, bucket_width, new_index, new_filter, new_aggregate, new_tally, new_trigger, ask_list, ask_find, ask_buckets, ask_fired, ask_top, ask_total, ask_live}
 use Rattle.cf_setup.specs.Adds.{Adds}
 use Rattle.cf_setup.specs.Setups.{SetupValue, settled}
 use Rattle.cf_setup.specs.SetupText.{SetupText, LineSaid, AllSaid}
@@ -24,7 +24,7 @@ packets_same a b h = cc
 records_none : (which : PacketSchema) → Records ≡ Packets which → ⊥
 records_none which h = cc
 
-adds_keep : (line : ℕ) (before new : DraftValue) (form : Form) → Adds line before form new → KeepsPackets before → KeepsPackets new
+adds_keep : (line : ℕ) (before new : DraftValue) (form : StatementFormValue) → Adds line before form new → KeepsPackets before → KeepsPackets new
 adds_keep line before new (packet_schema which) adds kept =
     subst KeepsPackets (sym adds) (λ other h. ap (λ (s : PacketSchema). Some (attrs_by s)) (packets_same which other h))
 adds_keep line before new (record_schema list) adds kept = subst KeepsPackets (sym adds.2) (λ which h. absurd (records_none which h))

@@ -9,20 +9,20 @@ use Rattle.cf_row.specs.declared.expr.Atom.{Atom}
 use Rattle.cf_plain.specs.declared.ask.Ask.TheVariants as asks
 use Rattle.cf_filter.specs.declared.fault.Offence.{Offence}
 use Rattle.cf_filter.specs.declared.fault.Offence.TheVariants.{Syntax, UnknownName, BadOperator, ValueRange, TooLong}
-use Rattle.cf_filter.specs.declared.fault.Stop.{Stop}
+use Rattle.cf_filter.specs.declared.fault.OffenceAt.{OffenceAt}
 use Rattle.cf_filter.specs.Reading.{attr_named}
 use Rattle.cf_filter.specs.Exprs.{expr_at}
 use Rattle.cf_filter.specs.Grammar.{ValueText, ExprRead}
 use Rattle.cf_setup.specs.declared.source.Source.TheVariants.{Records}
 use Rattle.cf_setup.specs.Drafts.{DraftValue, attrs_of, with_lane, with_ask, index_over, filter_by}
-use Rattle.cf_setup.specs.Forms.{Form}
-use Rattle.cf_setup.specs.Forms.Form.{packet_schema, record_schema, bucket_width, new_index, new_filter, new_aggregate, new_tally, new_trigger, ask_list, ask_find, ask_buckets, ask_fired, ask_top, ask_total, ask_live}
+use Rattle.cf_setup.specs.Forms.{StatementFormValue}
+use Rattle.cf_setup.specs.Forms.StatementFormValue.{packet_schema, record_schema, bucket_width, new_index, new_filter, new_aggregate, new_tally, new_trigger, ask_list, ask_find, ask_buckets, ask_fired, ask_top, ask_total, ask_live}
 use Rattle.cf_setup.specs.Named.{place_in, is_index, is_filter, is_aggregate, is_tally, is_of, family_of, lane_named, trigger_named, index_kind}
 use Rattle.cf_lines.specs.Schemas.{schema_at}
 use Rattle.cf_setup.specs.Rules.{Broken, rules, expr_rules, IsBroken}
 use Rattle.cf_setup.specs.Rules.Rule.{schema_list, a_number, a_number_from, a_key}
 use Rattle.cf_setup.specs.Adds.{Adds, with_schema}
-use Rattle.cf_setup.specs.Reading.{number_of, number_from, key_in, key_of, expr_in, expr_of, added}
+use Rattle.cf_setup.specs.Reading.{number_of, number_from, key_in, key_written, expr_in, expr_of, added}
 use Rattle.cf_lines.proofs.SchemaLaws.{schema_only, schema_found}
 use Rattle.cf_setup.proofs.RuleLaws.{number_only, number_found, from_only, from_found, expr_err, expr_ok, expr_is, broken_from}
 
@@ -55,15 +55,15 @@ some_same e = cc
 expr_some : (before : DraftValue) (text : List ℕ) (expr : List (List Atom)) → expr_of before text ≡ Some expr → ExprRead (attrs_of before) text (Ok expr)
 expr_some before text expr h = by (expr_at (attrs_of before) text) refl h
   where
-    by : (r : Result (List (List Atom)) Stop) → expr_at (attrs_of before) text ≡ r → expr_in r ≡ Some expr → ExprRead (attrs_of before) text (Ok expr)
+    by : (r : Result (List (List Atom)) OffenceAt) → expr_at (attrs_of before) text ≡ r → expr_in r ≡ Some expr → ExprRead (attrs_of before) text (Ok expr)
     by (Ok found) e k = let same : found ≡ expr = cc in expr_ok (attrs_of before) text expr (e ∙ ap Ok same)
     by (Err stop) e k = cc
 
 expr_known : (before : DraftValue) (text : List ℕ) (expr : List (List Atom)) → ExprRead (attrs_of before) text (Ok expr) → expr_of before text ≡ Some expr
 expr_known before text expr h = ap expr_in (expr_is (attrs_of before) text (Ok expr) h)
 
-offence_breaks : (before : DraftValue) (text : List ℕ) (stop : Stop) (offence : Offence) → ExprRead (attrs_of before) text (Err stop) → stop.offence ≡ offence
-    → (code : ℕ) × IsBroken before code (expr_rules text)
+offence_breaks : (before : DraftValue) (text : List ℕ) (stop : OffenceAt) (offence : Offence) → ExprRead (attrs_of before) text (Err stop)
+    → stop.offence ≡ offence → (code : ℕ) × IsBroken before code (expr_rules text)
 offence_breaks before text stop Syntax h e = (10, inl (refl, (stop, h, e)))
 offence_breaks before text stop UnknownName h e = (11, inr (inl (refl, (stop, h, e))))
 offence_breaks before text stop BadOperator h e = (12, inr (inr (inl (refl, (stop, h, e)))))
@@ -73,14 +73,14 @@ offence_breaks before text stop TooLong h e = (14, inr (inr (inr (inr (inl (refl
 expr_breaks : (before : DraftValue) (text : List ℕ) → expr_of before text ≡ None → (code : ℕ) × IsBroken before code (expr_rules text)
 expr_breaks before text h = by (expr_at (attrs_of before) text) refl h
   where
-    by : (r : Result (List (List Atom)) Stop) → expr_at (attrs_of before) text ≡ r → expr_in r ≡ None → (code : ℕ) × IsBroken before code (expr_rules text)
+    by : (r : Result (List (List Atom)) OffenceAt) → expr_at (attrs_of before) text ≡ r → expr_in r ≡ None → (code : ℕ) × IsBroken before code (expr_rules text)
     by (Ok found) e k = cc
     by (Err stop) e k = offence_breaks before text stop stop.offence (expr_err (attrs_of before) text stop e) refl
 
 -- where no rule is broken something is added
 
 module _ (line : ℕ) (before : DraftValue) where
-  abbrev sound : Form → Type 0
+  abbrev sound : StatementFormValue → Type 0
   sound form = (code : ℕ) → IsBroken before code (rules form) → ⊥
 
   number_none : (text : List ℕ) → number_of U64 text ≡ None → Broken before (a_number text)
@@ -89,10 +89,10 @@ module _ (line : ℕ) (before : DraftValue) where
   from_none : (low high : ℕ) (text : List ℕ) → number_from low high text ≡ None → Broken before (a_number_from low high text)
   from_none low high text e = broken_from before (a_number_from low high text) (ap is_none e)
 
-  key_none : (index text : List ℕ) → key_of before index text ≡ None → Broken before (a_key index text)
+  key_none : (index text : List ℕ) → key_written before index text ≡ None → Broken before (a_key index text)
   key_none index text e = broken_from before (a_key index text) (ap is_none e)
 
-  pub never : (form : Form) → sound form → added line before form ≡ None → ⊥
+  pub never : (form : StatementFormValue) → sound form → added line before form ≡ None → ⊥
   never (packet_schema which) s h = cc
   never (record_schema list) s h =
       s 4 (inl (refl, broken_from before (schema_list list) (ap is_none (map_none (with_schema line before Records) (schema_at list) h))))
@@ -116,8 +116,8 @@ module _ (line : ℕ) (before : DraftValue) where
       s broken.0 (inr (inr broken.1))
   never (ask_find name index low high) s h =
       no_then _ (lane_named is_index before index) h (λ e. s 6 (inr (inl (refl, e)))) (λ lane k.
-      no_then _ (key_of before index low) k (λ e. s 7 (inr (inr (inl (refl, key_none index low e))))) (λ first l.
-      no_then _ (key_of before index high) l (λ e. s 7 (inr (inr (inr (inl (refl, key_none index high e)))))) (λ last m. some_none m)))
+      no_then _ (key_written before index low) k (λ e. s 7 (inr (inr (inl (refl, key_none index low e))))) (λ first l.
+      no_then _ (key_written before index high) l (λ e. s 7 (inr (inr (inr (inl (refl, key_none index high e)))))) (λ last m. some_none m)))
   never (ask_buckets what name lane low high) s h =
       no_then _ (lane_named (is_of (family_of what)) before lane) h (λ e. s 6 (inr (inl (refl, e)))) (λ found k.
       no_then _ (number_of U64 low) k (λ e. s 7 (inr (inr (inl (refl, number_none low e))))) (λ first l.
@@ -133,18 +133,18 @@ module _ (line : ℕ) (before : DraftValue) where
 
   -- what is added is what the statement says
 
-  key_found : (index text : List ℕ) (kind : Kind) (n : ℕ) → index_kind before index ≡ Some kind → key_of before index text ≡ Some n
+  key_found : (index text : List ℕ) (kind : Kind) (n : ℕ) → index_kind before index ≡ Some kind → key_written before index text ≡ Some n
       → ValueText kind text (Num n)
   key_found index text kind n k h = number_found kind text n (ap (λ o. key_in o text) (sym k) ∙ h)
 
-  key_kind : (index text : List ℕ) (n : ℕ) → key_of before index text ≡ Some n → (kind : Kind) × (index_kind before index ≡ Some kind)
+  key_kind : (index text : List ℕ) (n : ℕ) → key_written before index text ≡ Some n → (kind : Kind) × (index_kind before index ≡ Some kind)
   key_kind index text n h = by (index_kind before index) refl h
     where
       by : (o : Option Kind) → index_kind before index ≡ o → key_in o text ≡ Some n → (kind : Kind) × (index_kind before index ≡ Some kind)
       by None e k = cc
       by (Some kind) e k = (kind, e)
 
-  pub adds_found : (form : Form) (new : DraftValue) → added line before form ≡ Some new → Adds line before form new
+  pub adds_found : (form : StatementFormValue) (new : DraftValue) → added line before form ≡ Some new → Adds line before form new
   adds_found (packet_schema which) new h = some_same h
   adds_found (record_schema list) new h = let m = map_some (with_schema line before Records) (schema_at list) new h in (m.0, schema_found list m.0 m.1, m.2)
   adds_found (bucket_width number) new h = let m = map_some (λ n. record before { width = Some n }) (number_from 1 (2 ^ 63) number) new h in let w =
@@ -166,8 +166,8 @@ module _ (line : ℕ) (before : DraftValue) where
       (m.0, expr_some before expr m.0 m.1, m.2)
   adds_found (ask_find name index low high) new h =
       option_and_then_some _ (lane_named is_index before index) new h (λ lane e k.
-      option_and_then_some _ (key_of before index low) new k (λ first f l.
-      option_and_then_some _ (key_of before index high) new l (λ last g m.
+      option_and_then_some _ (key_written before index low) new k (λ first f l.
+      option_and_then_some _ (key_written before index high) new l (λ last g m.
       let kind = key_kind index low first f in (
         lane,
         kind.0,
@@ -196,10 +196,11 @@ module _ (line : ℕ) (before : DraftValue) where
 
   -- what the statement says is what is added
 
-  key_only : (index text : List ℕ) (kind : Kind) (n : ℕ) → index_kind before index ≡ Some kind → ValueText kind text (Num n) → key_of before index text ≡ Some n
+  key_only : (index text : List ℕ) (kind : Kind) (n : ℕ) → index_kind before index ≡ Some kind → ValueText kind text (Num n)
+      → key_written before index text ≡ Some n
   key_only index text kind n k h = ap (λ o. key_in o text) k ∙ number_only kind text n h
 
-  pub adds_only : (form : Form) (new : DraftValue) → Adds line before form new → added line before form ≡ Some new
+  pub adds_only : (form : StatementFormValue) (new : DraftValue) → Adds line before form new → added line before form ≡ Some new
   adds_only (packet_schema which) new h = ap Some (sym h)
   adds_only (record_schema list) new h = ap (option_map (with_schema line before Records)) (schema_only list h.0 h.1) ∙ ap Some (sym h.2)
   adds_only (bucket_width number) new h = ap (option_map (λ n. record before { width = Some n })) (from_only 1 (2 ^ 63) number h.0 h.1 h.2 h.3)

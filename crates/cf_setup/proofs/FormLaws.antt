@@ -14,29 +14,29 @@ use Rattle.cf_setup.specs.declared.statement.Question.{Question}
 use Rattle.cf_setup.specs.declared.statement.Question.TheVariants as questions
 use Rattle.cf_setup.specs.declared.ask_buckets.Buckets.TheVariants as buckets
 use Rattle.cf_lines.specs.Lines.{is_blank, next_word, last_word, new_name}
-use Rattle.cf_setup.specs.Forms.{Form, is_schema_form, part_named, sign_named, question_named, schema_words, three_words, ranking_words, question_form, form_at}
-use Rattle.cf_setup.specs.Forms.Form.{packet_schema, record_schema, bucket_width, new_index, new_filter, new_aggregate, new_tally, new_trigger, ask_list, ask_find, ask_buckets, ask_fired, ask_top, ask_total, ask_live}
+use Rattle.cf_setup.specs.Forms.{StatementFormValue, is_schema_form, part_named, sign_named, question_named, schema_words, three_words, ranking_words, question_form, form_at}
+use Rattle.cf_setup.specs.Forms.StatementFormValue.{packet_schema, record_schema, bucket_width, new_index, new_filter, new_aggregate, new_tally, new_trigger, ask_list, ask_find, ask_buckets, ask_fired, ask_top, ask_total, ask_live}
 use Rattle.cf_setup.specs.Drafts.{DraftValue}
 use Rattle.cf_setup.specs.SetupText.{is_schema_statement, is_later, is_in_place}
 
 -- a trigger's operator is one of the six
-abbrev pub has_sign : Form → Bool
+abbrev pub has_sign : StatementFormValue → Bool
 has_sign (new_trigger name aggregate part op number) = not (is_within op)
 has_sign _ = true
 
-pub record Fits (statement : Statement) (form : Form) : Type 0 where
+pub record Fits (statement : Statement) (form : StatementFormValue) : Type 0 where
   pub kind : is_schema_form form ≡ is_schema_statement statement
   pub sign : has_sign form ≡ true
 
-some_same : {x y : Form} → Some x ≡ Some y → y ≡ x
+some_same : {x y : StatementFormValue} → Some x ≡ Some y → y ≡ x
 some_same e = cc
 
-mapped : {A : Type 0} (f : A → Form) (o : Option A) (form : Form) → option_map f o ≡ Some form → (x : A) × (form ≡ f x)
+mapped : {A : Type 0} (f : A → StatementFormValue) (o : Option A) (form : StatementFormValue) → option_map f o ≡ Some form → (x : A) × (form ≡ f x)
 mapped f None form h = cc
 mapped f (Some x) form h = (x, some_same h)
 
-fits_as : (statement : Statement) (form other : Form) → form ≡ other → is_schema_form other ≡ is_schema_statement statement → has_sign other ≡ true
-    → Fits statement form
+fits_as : (statement : Statement) (form other : StatementFormValue) → form ≡ other → is_schema_form other ≡ is_schema_statement statement
+    → has_sign other ≡ true → Fits statement form
 fits_as statement form other e k s = record { kind = ap is_schema_form e ∙ k; sign = ap has_sign e ∙ s }
 
 sign_is : (word : List ℕ) (op : Op) → sign_named word ≡ Some op → not (is_within op) ≡ true
@@ -46,7 +46,7 @@ sign_is word op h = option_and_then_some _ (op_named word) op h (λ found e k. b
     by found true b k = cc
     by found false b k = let same : found ≡ op = cc in subst (λ (x : Op). not (is_within x) ≡ true) same (ap not b)
 
-schema_fits : (word rest : List ℕ) (form : Form) → schema_words word rest ≡ Some form → Fits statements.Schema form
+schema_fits : (word rest : List ℕ) (form : StatementFormValue) → schema_words word rest ≡ Some form → Fits statements.Schema form
 schema_fits word rest form h = by (bytes_eq word (codes "packet")) (bytes_eq word (codes "packet6")) (is_blank rest) (bytes_eq word (codes "records")) h
   where
     by : (p q b r : Bool) → cond p (cond b (Some (packet_schema Packet)) None) (cond q (cond b (Some (packet_schema Packet6)) None)
@@ -59,7 +59,7 @@ schema_fits word rest form h = by (bytes_eq word (codes "packet")) (bytes_eq wor
     by false false b true k = let m = mapped record_schema (last_word rest) form k in fits_as statements.Schema form (record_schema m.0) m.1 refl refl
     by false false b false k = cc
 
-question_fits : (question : Question) (name text : List ℕ) (form : Form) → question_form question name text ≡ Some form → Fits statements.Ask form
+question_fits : (question : Question) (name text : List ℕ) (form : StatementFormValue) → question_form question name text ≡ Some form → Fits statements.Ask form
 question_fits questions.List name text form h = fits_as statements.Ask form (ask_list name text) (some_same h) refl refl
 question_fits questions.Find name text form h = let m = mapped (λ words. ask_find name words.0 words.1 words.2) (three_words text) form h in
     fits_as statements.Ask form (ask_find name m.0.0 m.0.1 m.0.2) m.1 refl refl
@@ -76,7 +76,7 @@ question_fits questions.Top name text form h = let m = mapped (λ words. ask_top
 question_fits questions.Total name text form h = let m = mapped (λ attr. ask_total name attr.0 attr.1) (next_word text) form h in
     fits_as statements.Ask form (ask_total name m.0.0 m.0.1) m.1 refl refl
 
-pub form_fits : (statement : Statement) (text : List ℕ) (form : Form) → form_at statement text ≡ Some form → Fits statement form
+pub form_fits : (statement : Statement) (text : List ℕ) (form : StatementFormValue) → form_at statement text ≡ Some form → Fits statement form
 form_fits statements.Schema text form h = option_and_then_some _ (next_word text) form h (λ word e k. schema_fits word.0 word.1 form k)
 form_fits statements.Width text form h = let m = mapped bucket_width (last_word text) form h in fits_as statements.Width form (bucket_width m.0) m.1 refl refl
 form_fits statements.Index text form h =
@@ -112,7 +112,7 @@ form_fits statements.Ask text form h =
 form_fits statements.Live text form h = let m = mapped ask_live (last_word text) form h in fits_as statements.Live form (ask_live m.0) m.1 refl refl
 
 -- after the schema's statement the schema is stated
-pub stated_before : (before : DraftValue) (statement : Statement) (text : List ℕ) (form : Form) → form_at statement text ≡ Some form
+pub stated_before : (before : DraftValue) (statement : Statement) (text : List ℕ) (form : StatementFormValue) → form_at statement text ≡ Some form
     → is_in_place before statement ≡ true → is_schema_form form ≡ false → is_some before.schema ≡ true
 stated_before before statement text form h place other = by (is_some before.schema) place
   where

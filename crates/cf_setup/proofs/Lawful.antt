@@ -36,8 +36,8 @@ use Rattle.cf_lines.specs.Lines.{is_silent, word_at}
 use Rattle.cf_setup.specs.Drafts.{DraftValue, nothing_stated, attrs_of, with_lane, with_trigger, with_ask, index_over, filter_by, aggregate_by, tally_by}
 use Rattle.cf_setup.specs.Setups.{settled, shaped, IsSetup, IsDraft}
 use Rattle.cf_setup.specs.Few.{IsFew}
-use Rattle.cf_setup.specs.Forms.{Form, is_schema_form}
-use Rattle.cf_setup.specs.Forms.Form.{packet_schema, record_schema, bucket_width, new_index, new_filter, new_aggregate, new_tally, new_trigger, ask_list, ask_find, ask_buckets, ask_fired, ask_top, ask_total, ask_live}
+use Rattle.cf_setup.specs.Forms.{StatementFormValue, is_schema_form}
+use Rattle.cf_setup.specs.Forms.StatementFormValue.{packet_schema, record_schema, bucket_width, new_index, new_filter, new_aggregate, new_tally, new_trigger, ask_list, ask_find, ask_buckets, ask_fired, ask_top, ask_total, ask_live}
 use Rattle.cf_setup.specs.Named.{place_in, is_index, is_filter, is_aggregate, is_tally, is_of, family_of, asked_of, lane_named, trigger_named}
 use Rattle.cf_setup.specs.Rules.{rules, IsBroken}
 use Rattle.cf_setup.specs.Adds.{Adds, with_schema}
@@ -394,11 +394,12 @@ draft_of line source attrs schema =
 
 -- a statement after the schema
 
-abbrev sound : DraftValue → Form → Type 0
+abbrev sound : DraftValue → StatementFormValue → Type 0
 sound before form = (code : ℕ) → IsBroken before code (rules form) → ⊥
 
-later : (line : ℕ) (before : DraftValue) (form : Form) (new : DraftValue) (attrs : List Attr) → before.schema ≡ Some attrs → IsSetup (settled before attrs)
-    → is_schema_form form ≡ false → has_sign form ≡ true → sound before form → Adds line before form new → (new.schema ≡ Some attrs)
+later : (line : ℕ) (before : DraftValue) (form : StatementFormValue) (new : DraftValue) (attrs : List Attr) → before.schema ≡ Some attrs
+    → IsSetup (settled before attrs) → is_schema_form form ≡ false → has_sign form ≡ true → sound before form → Adds line before form new
+    → (new.schema ≡ Some attrs)
     × IsSetup (settled new attrs)
 later line before (packet_schema which) new attrs e is k sign s h = absurd (false≢true (sym k))
 later line before (record_schema list) new attrs e is k sign s h = absurd (false≢true (sym k))
@@ -499,7 +500,7 @@ later line before (ask_live ask) new attrs e is k sign s h =
 
 -- the schema's statement
 
-started : (line : ℕ) (form : Form) (new : DraftValue) → is_schema_form form ≡ true → Adds line nothing_stated form new → IsDraft new
+started : (line : ℕ) (form : StatementFormValue) (new : DraftValue) → is_schema_form form ≡ true → Adds line nothing_stated form new → IsDraft new
 started line (packet_schema which) new k h = subst IsDraft (sym h) (draft_of line (Packets which) (attrs_by which) (packets_are which))
 started line (record_schema list) new k h = let l = h.1 in subst IsDraft (sym h.2) (draft_of line Records h.0 l.schema)
 started line (bucket_width number) new k h = absurd (false≢true k)

@@ -8,7 +8,7 @@ use Rattle.cf_filter.specs.Grammar.{Only}
 use Rattle.cf_setup.specs.declared.statement.Statement.{Statement}
 use Rattle.cf_lines.specs.Lines.{word_at}
 use Rattle.cf_setup.specs.Drafts.{DraftValue}
-use Rattle.cf_setup.specs.Forms.{Form, statement_named, form_at}
+use Rattle.cf_setup.specs.Forms.{StatementFormValue, statement_named, form_at}
 use Rattle.cf_setup.specs.Rules.{rules, IsBroken}
 use Rattle.cf_setup.specs.SetupText.{is_in_place, Breaks, LineRead}
 use Rattle.cf_setup.specs.SetupText.Breaks.{not_text, unknown, misplaced, misformed, ruled}
@@ -26,11 +26,11 @@ module _ (number : ℕ) (before : DraftValue) (line : List ℕ) where
   same_statement : (s t : Statement) → statement_named word ≡ Some s → statement_named word ≡ Some t → s ≡ t
   same_statement s t e f = let both : Some s ≡ Some t = sym e ∙ f in cc
 
-  same_form : (s : Statement) (v w : Form) → form_at s rest ≡ Some v → form_at s rest ≡ Some w → v ≡ w
+  same_form : (s : Statement) (v w : StatementFormValue) → form_at s rest ≡ Some v → form_at s rest ≡ Some w → v ≡ w
   same_form s v w e f = let both : Some v ≡ Some w = sym e ∙ f in cc
 
   -- what a line breaks that is a text, of a known statement in its place and form
-  only_rules : (s : Statement) (form : Form) (code : ℕ) → list_all (passes classes.Text) line ≡ true → statement_named word ≡ Some s
+  only_rules : (s : Statement) (form : StatementFormValue) (code : ℕ) → list_all (passes classes.Text) line ≡ true → statement_named word ≡ Some s
       → is_in_place before s ≡ true → form_at s rest ≡ Some form → Breaks before line code → IsBroken before code (rules form)
   only_rules s form code text known place is (not_text c h) = absurd (false≢true (sym h ∙ text))
   only_rules s form code text known place is (unknown c h) = cc
@@ -42,10 +42,11 @@ module _ (number : ℕ) (before : DraftValue) (line : List ℕ) where
       let same = same_statement t s h known in
       let some : form_at s rest ≡ Some other = ap (λ x. form_at x rest) (sym same) ∙ f in
       let one = same_form s other form some is in
-      subst (λ (x : Form). IsBroken before code (rules x)) one b
+      subst (λ (x : StatementFormValue). IsBroken before code (rules x)) one b
 
-  ruled_holds : (s : Statement) (form : Form) → list_all (passes classes.Text) line ≡ true → statement_named word ≡ Some s → is_in_place before s ≡ true
-      → form_at s rest ≡ Some form → (o : Option ℕ) → first_broken before (rules form) ≡ o → (a : Option DraftValue) → added number before form ≡ a
+  ruled_holds : (s : Statement) (form : StatementFormValue) → list_all (passes classes.Text) line ≡ true → statement_named word ≡ Some s
+      → is_in_place before s ≡ true → form_at s rest ≡ Some form → (o : Option ℕ) → first_broken before (rules form) ≡ o
+      → (a : Option DraftValue) → added number before form ≡ a
       → LineRead number before line (coded_or o a)
   ruled_holds s form text known place is None o (Some new) a =
       record {
@@ -88,8 +89,8 @@ module _ (number : ℕ) (before : DraftValue) (line : List ℕ) where
   at_least_1 code (misformed t c h f) = omega (arith, c)
   at_least_1 code (ruled t form h f b) = let more = above before 4 code (rules form) (ascends form) b in omega (arith, more)
 
-  form_holds : (s : Statement) → list_all (passes classes.Text) line ≡ true → statement_named word ≡ Some s → is_in_place before s ≡ true → (o : Option Form)
-      → form_at s rest ≡ o → LineRead number before line (form_read number before o)
+  form_holds : (s : Statement) → list_all (passes classes.Text) line ≡ true → statement_named word ≡ Some s → is_in_place before s ≡ true
+      → (o : Option StatementFormValue) → form_at s rest ≡ o → LineRead number before line (form_read number before o)
   unfolding ruled_of
   form_holds s text known place None o = record { breaks = misformed s refl known o; least = λ other b. at_least_3 s other text known place b }
   form_holds s text known place (Some form) o = ruled_holds s form text known place o (first_broken before (rules form)) refl (added number before form) refl

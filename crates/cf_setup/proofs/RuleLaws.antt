@@ -11,7 +11,7 @@ use Rattle.cf_row.specs.declared.expr.Atom.{Atom}
 use Rattle.cf_shape.specs.Lanes.{is_number, is_narrow}
 use Rattle.cf_filter.specs.declared.fault.Offence.{Offence}
 use Rattle.cf_filter.specs.declared.fault.Offence.TheVariants.{Syntax, UnknownName, BadOperator, ValueRange, TooLong}
-use Rattle.cf_filter.specs.declared.fault.Stop.{Stop}
+use Rattle.cf_filter.specs.declared.fault.OffenceAt.{OffenceAt}
 use Rattle.cf_filter.specs.Values.{value_at}
 use Rattle.cf_filter.specs.Reading.{attr_named}
 use Rattle.cf_filter.specs.Exprs.{expr_at}
@@ -19,13 +19,13 @@ use Rattle.cf_filter.specs.Grammar.{ValueText, ExprRead}
 use Rattle.cf_filter.proofs.ValueLaws.{value_only, value_found}
 use Rattle.cf_filter.proofs.ExprLaws.{expr_only}
 use Rattle.cf_setup.specs.Drafts.{DraftValue, attrs_of}
-use Rattle.cf_setup.specs.Forms.{Form}
-use Rattle.cf_setup.specs.Forms.Form.{packet_schema, record_schema, bucket_width, new_index, new_filter, new_aggregate, new_tally, new_trigger, ask_list, ask_find, ask_buckets, ask_fired, ask_top, ask_total, ask_live}
+use Rattle.cf_setup.specs.Forms.{StatementFormValue}
+use Rattle.cf_setup.specs.Forms.StatementFormValue.{packet_schema, record_schema, bucket_width, new_index, new_filter, new_aggregate, new_tally, new_trigger, ask_list, ask_find, ask_buckets, ask_fired, ask_top, ask_total, ask_live}
 use Rattle.cf_setup.specs.Named.{place_in, is_of, lane_named, trigger_named, index_kind}
 use Rattle.cf_lines.specs.Schemas.{schema_at}
 use Rattle.cf_setup.specs.Rules.{Rule, Broken, rules, expr_rules, IsBroken}
 use Rattle.cf_setup.specs.Rules.Rule.{schema_list, free_name, live_once, known_attr, known_lane, known_trigger, known_ask, a_number, a_number_from, a_key, number_attr, narrow_attr, lane_room, trigger_room, ask_room, no_offence}
-use Rattle.cf_setup.specs.Reading.{number_in_value, number_of, number_from, key_in, key_of, is_live, fails, same_offence, offends, is_broken, first_broken}
+use Rattle.cf_setup.specs.Reading.{number_in_value, number_of, number_from, key_in, key_written, is_live, fails, same_offence, offends, is_broken, first_broken}
 use Rattle.cf_lines.proofs.SchemaLaws.{schema_only, schema_found}
 
 -- options
@@ -71,13 +71,13 @@ from_found low high text n h = by (number_of U64 text) refl h
 
 -- expressions
 
-pub expr_err : (attrs : List Attr) (text : List ℕ) (stop : Stop) → expr_at attrs text ≡ Err stop → ExprRead attrs text (Err stop)
+pub expr_err : (attrs : List Attr) (text : List ℕ) (stop : OffenceAt) → expr_at attrs text ≡ Err stop → ExprRead attrs text (Err stop)
 expr_err attrs text stop e = let law = expr_only attrs text in subst (ExprRead attrs text) e law.holds
 
 pub expr_ok : (attrs : List Attr) (text : List ℕ) (expr : List (List Atom)) → expr_at attrs text ≡ Ok expr → ExprRead attrs text (Ok expr)
 expr_ok attrs text expr e = let law = expr_only attrs text in subst (ExprRead attrs text) e law.holds
 
-pub expr_is : (attrs : List Attr) (text : List ℕ) (read : Result (List (List Atom)) Stop) → ExprRead attrs text read → expr_at attrs text ≡ read
+pub expr_is : (attrs : List Attr) (text : List ℕ) (read : Result (List (List Atom)) OffenceAt) → ExprRead attrs text read → expr_at attrs text ≡ read
 expr_is attrs text read h = let law = expr_only attrs text in sym (law.only read h)
 
 same_is : (a b : Offence) → same_offence a b ≡ true → b ≡ a
@@ -144,8 +144,8 @@ broken_from before (known_ask name) h = none_is (place_in before.ask_names name)
 broken_from before (a_number text) h = λ n v. let none = none_is (number_of U64 text) h in let some = number_only U64 text n v in cc
 broken_from before (a_number_from low high text) h = λ n v least most. let none = none_is (number_from low high text) h in let some =
     from_only low high text n v least most in cc
-broken_from before (a_key index text) h = λ kind e n v. let none = none_is (key_of before index text) h in let some : key_of before index text ≡ Some n =
-    ap (λ o. key_in o text) e ∙ number_only kind text n v in cc
+broken_from before (a_key index text) h = λ kind e n v. let none = none_is (key_written before index text) h in
+    let some : key_written before index text ≡ Some n = ap (λ o. key_in o text) e ∙ number_only kind text n v in cc
 broken_from before (number_attr name) h = fails_from is_number (attr_named (attrs_of before) name) h
 broken_from before (narrow_attr name) h = fails_from is_narrow (attr_named (attrs_of before) name) h
 broken_from before lane_room h = leb-true 16 (length before.lanes) h
@@ -153,7 +153,7 @@ broken_from before trigger_room h = leb-true 16 (length before.triggers) h
 broken_from before ask_room h = leb-true 32 (length before.asks) h
 broken_from before (no_offence offence text) h = by (expr_at (attrs_of before) text) refl h
   where
-    by : (r : Result (List (List Atom)) Stop) → expr_at (attrs_of before) text ≡ r → offends offence r ≡ true → Broken before (no_offence offence text)
+    by : (r : Result (List (List Atom)) OffenceAt) → expr_at (attrs_of before) text ≡ r → offends offence r ≡ true → Broken before (no_offence offence text)
     by (Ok expr) e k = absurd (false≢true k)
     by (Err stop) e k = (stop, expr_err (attrs_of before) text stop e, same_is offence stop.offence k)
 
@@ -243,7 +243,7 @@ module _ (before : DraftValue) where
 expr_ascends : (text : List ℕ) → Ascends 9 (expr_rules text)
 expr_ascends text = (omega arith, (omega arith, (omega arith, (omega arith, (omega arith, tt)))))
 
-pub ascends : (form : Form) → Ascends 4 (rules form)
+pub ascends : (form : StatementFormValue) → Ascends 4 (rules form)
 ascends (packet_schema which) = tt
 ascends (record_schema list) = (omega arith, tt)
 ascends (bucket_width number) = (omega arith, tt)

@@ -5,7 +5,7 @@ use Rattle.cf_row.specs.declared.row.Value.{Value}
 use Rattle.cf_row.specs.declared.expr.Atom.{Atom}
 use Rattle.cf_filter.specs.declared.fault.Offence.{Offence}
 use Rattle.cf_filter.specs.declared.fault.Offence.TheVariants.{Syntax, UnknownName, BadOperator, ValueRange, TooLong}
-use Rattle.cf_filter.specs.declared.fault.Stop.{Stop}
+use Rattle.cf_filter.specs.declared.fault.OffenceAt.{OffenceAt}
 use Rattle.cf_filter.specs.Values.{value_at}
 use Rattle.cf_filter.specs.Exprs.{expr_at}
 use Rattle.cf_filter.specs.Grammar.{ValueText}
@@ -26,8 +26,8 @@ value_is kind text None h n found = by (value_at kind text) refl
     by None e = sym e
     by (Some value) e = absurd (n value (found value e))
 
-offence_found : (before : DraftValue) (text : List ℕ) (stop : Stop) (offence : Offence) → stop.offence ≡ offence → expr_at (attrs_of before) text ≡ Err stop
-    → first_broken before (expr_rules text) ≡ Some (code_number (code_of offence))
+offence_found : (before : DraftValue) (text : List ℕ) (stop : OffenceAt) (offence : Offence) → stop.offence ≡ offence
+    → expr_at (attrs_of before) text ≡ Err stop → first_broken before (expr_rules text) ≡ Some (code_number (code_of offence))
 offence_found before text stop Syntax o e = rw (e, o) refl
 offence_found before text stop UnknownName o e = rw (e, o) refl
 offence_found before text stop BadOperator o e = rw (e, o) refl

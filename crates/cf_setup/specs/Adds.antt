@@ -14,8 +14,8 @@ use Rattle.cf_filter.specs.Grammar.{ValueText, ExprRead}
 use Rattle.cf_setup.specs.declared.source.Source.{Source}
 use Rattle.cf_setup.specs.declared.source.Source.TheVariants.{Packets, Records}
 use Rattle.cf_setup.specs.Drafts.{DraftValue, attrs_of, with_lane, with_trigger, with_ask, index_over, filter_by, aggregate_by, tally_by}
-use Rattle.cf_setup.specs.Forms.{Form}
-use Rattle.cf_setup.specs.Forms.Form.{packet_schema, record_schema, bucket_width, new_index, new_filter, new_aggregate, new_tally, new_trigger, ask_list, ask_find, ask_buckets, ask_fired, ask_top, ask_total, ask_live}
+use Rattle.cf_setup.specs.Forms.{StatementFormValue}
+use Rattle.cf_setup.specs.Forms.StatementFormValue.{packet_schema, record_schema, bucket_width, new_index, new_filter, new_aggregate, new_tally, new_trigger, ask_list, ask_find, ask_buckets, ask_fired, ask_top, ask_total, ask_live}
 use Rattle.cf_setup.specs.Named.{place_in, is_index, is_filter, is_aggregate, is_tally, is_of, family_of, asked_of, lane_named, trigger_named, index_kind}
 use Rattle.cf_lines.specs.Schemas.{ListText}
 
@@ -29,7 +29,7 @@ pub record AreEnds (kind : Kind) (low high : List ℕ) (first last : ℕ) : Type
   pub high_is : ValueText kind high (Num last)
 
 -- the statement at that line adds this
-abbrev pub Adds : ℕ → DraftValue → Form → DraftValue → Type 0
+abbrev pub Adds : ℕ → DraftValue → StatementFormValue → DraftValue → Type 0
 Adds line before (packet_schema which) new = new ≡ with_schema line before (Packets which) (attrs_by which)
 Adds line before (record_schema list) new = (attrs : List Attr) × ListText list attrs × (new ≡ with_schema line before Records attrs)
 Adds line before (bucket_width number) new = (n : ℕ) × ValueText U64 number (Num n) × (1 ≤ n) × (n ≤ 2 ^ 63) × (new ≡ record before { width = Some n })

@@ -16,27 +16,27 @@ use Rattle.cf_setup.specs.declared.statement.Question.{Question}
 use Rattle.cf_setup.specs.declared.statement.Question.TheVariants as questions
 use Rattle.cf_setup.specs.declared.ask_buckets.Buckets.{Buckets}
 use Rattle.cf_setup.specs.declared.ask_buckets.Buckets.TheVariants as buckets
-use Rattle.cf_setup.specs.declared.form.Form.{Form as Read}
-use Rattle.cf_setup.specs.declared.form.Form.TheVariants as reads
+use Rattle.cf_setup.specs.declared.form.StatementForm.{StatementForm as Read}
+use Rattle.cf_setup.specs.declared.form.StatementForm.TheVariants as reads
 use Rattle.cf_lines.specs.Lines.{is_blank, next_word, last_word, new_name}
 
 -- a statement in its form, with its words
-pub data Form : Type 0 where
-  packet_schema : (which : PacketSchema) → Form
-  record_schema : (list : List ℕ) → Form
-  bucket_width : (number : List ℕ) → Form
-  new_index : (name attr : List ℕ) → Form
-  new_filter : (name expr : List ℕ) → Form
-  new_aggregate : (name filter attr : List ℕ) → Form
-  new_tally : (name attr measure expr : List ℕ) → Form
-  new_trigger : (name aggregate : List ℕ) (part : Part) (op : Op) (number : List ℕ) → Form
-  ask_list : (name expr : List ℕ) → Form
-  ask_find : (name index low high : List ℕ) → Form
-  ask_buckets : (what : Buckets) (name lane low high : List ℕ) → Form
-  ask_fired : (name trigger : List ℕ) → Form
-  ask_top : (name tally : List ℕ) (part : Part) (count : List ℕ) → Form
-  ask_total : (name attr expr : List ℕ) → Form
-  ask_live : (ask : List ℕ) → Form
+pub data StatementFormValue : Type 0 where
+  packet_schema : (which : PacketSchema) → StatementFormValue
+  record_schema : (list : List ℕ) → StatementFormValue
+  bucket_width : (number : List ℕ) → StatementFormValue
+  new_index : (name attr : List ℕ) → StatementFormValue
+  new_filter : (name expr : List ℕ) → StatementFormValue
+  new_aggregate : (name filter attr : List ℕ) → StatementFormValue
+  new_tally : (name attr measure expr : List ℕ) → StatementFormValue
+  new_trigger : (name aggregate : List ℕ) (part : Part) (op : Op) (number : List ℕ) → StatementFormValue
+  ask_list : (name expr : List ℕ) → StatementFormValue
+  ask_find : (name index low high : List ℕ) → StatementFormValue
+  ask_buckets : (what : Buckets) (name lane low high : List ℕ) → StatementFormValue
+  ask_fired : (name trigger : List ℕ) → StatementFormValue
+  ask_top : (name tally : List ℕ) (part : Part) (count : List ℕ) → StatementFormValue
+  ask_total : (name attr expr : List ℕ) → StatementFormValue
+  ask_live : (ask : List ℕ) → StatementFormValue
 
 -- the statement that the first word begins
 abbrev pub statement_named : List ℕ → Option Statement
@@ -77,35 +77,35 @@ sign_named word = do
   if is_within op then None else Some op
 
 -- packet; packet6; records LIST
-abbrev pub schema_words : List ℕ → List ℕ → Option Form
+abbrev pub schema_words : List ℕ → List ℕ → Option StatementFormValue
 schema_words word rest =
     if bytes_eq word (codes "packet") then (if is_blank rest then Some (packet_schema Packet) else None) else (
     if bytes_eq word (codes "packet6") then (if is_blank rest then Some (packet_schema Packet6) else None) else (
     if bytes_eq word (codes "records") then option_map record_schema (last_word rest) else None))
 
 -- schema, and then which
-abbrev pub schema_form : List ℕ → Option Form
+abbrev pub schema_form : List ℕ → Option StatementFormValue
 schema_form text = do
   word ← next_word text
   schema_words word.0 word.1
 
 -- width W
-abbrev pub width_form : List ℕ → Option Form
+abbrev pub width_form : List ℕ → Option StatementFormValue
 width_form text = option_map bucket_width (last_word text)
 
 -- index NAME ATTRIBUTE
-abbrev pub index_form : List ℕ → Option Form
+abbrev pub index_form : List ℕ → Option StatementFormValue
 index_form text = do
   name ← new_name text
   attr ← last_word name.1
   Some (new_index name.0 attr)
 
 -- filter NAME EXPRESSION
-abbrev pub filter_form : List ℕ → Option Form
+abbrev pub filter_form : List ℕ → Option StatementFormValue
 filter_form text = option_map (λ name. new_filter name.0 name.1) (new_name text)
 
 -- aggregate NAME FILTER ATTRIBUTE
-abbrev pub aggregate_form : List ℕ → Option Form
+abbrev pub aggregate_form : List ℕ → Option StatementFormValue
 aggregate_form text = do
   name ← new_name text
   filter ← next_word name.1
@@ -113,7 +113,7 @@ aggregate_form text = do
   Some (new_aggregate name.0 filter.0 attr)
 
 -- tally NAME ATTRIBUTE MEASURE EXPRESSION
-abbrev pub tally_form : List ℕ → Option Form
+abbrev pub tally_form : List ℕ → Option StatementFormValue
 tally_form text = do
   name ← new_name text
   attr ← next_word name.1
@@ -121,7 +121,7 @@ tally_form text = do
   Some (new_tally name.0 attr.0 measure.0 measure.1)
 
 -- trigger NAME AGGREGATE PART OPERATOR NUMBER
-abbrev pub trigger_form : List ℕ → Option Form
+abbrev pub trigger_form : List ℕ → Option StatementFormValue
 trigger_form text = do
   name ← new_name text
   aggregate ← next_word name.1
@@ -151,7 +151,7 @@ ranking_words text = do
 
 -- list EXPRESSION; find INDEX LOW HIGH; between FILTER LOW HIGH; measure AGGREGATE LOW HIGH; fired TRIGGER;
 -- top TALLY PART COUNT; total ATTRIBUTE EXPRESSION
-abbrev pub question_form : Question → List ℕ → List ℕ → Option Form
+abbrev pub question_form : Question → List ℕ → List ℕ → Option StatementFormValue
 question_form questions.List name text = Some (ask_list name text)
 question_form questions.Find name text = option_map (λ words. ask_find name words.0 words.1 words.2) (three_words text)
 question_form questions.Between name text = option_map (λ words. ask_buckets buckets.Between name words.0 words.1 words.2) (three_words text)
@@ -161,7 +161,7 @@ question_form questions.Top name text = option_map (λ words. ask_top name words
 question_form questions.Total name text = option_map (λ attr. ask_total name attr.0 attr.1) (next_word text)
 
 -- ask NAME, and then a question
-abbrev pub ask_form : List ℕ → Option Form
+abbrev pub ask_form : List ℕ → Option StatementFormValue
 ask_form text = do
   name ← new_name text
   word ← next_word name.1
@@ -169,11 +169,11 @@ ask_form text = do
   question_form question name.0 word.1
 
 -- live ASK
-abbrev pub live_form : List ℕ → Option Form
+abbrev pub live_form : List ℕ → Option StatementFormValue
 live_form text = option_map ask_live (last_word text)
 
 -- what follows the first word, if it has the statement's form
-abbrev pub form_at : Statement → List ℕ → Option Form
+abbrev pub form_at : Statement → List ℕ → Option StatementFormValue
 form_at statements.Schema text = schema_form text
 form_at statements.Width text = width_form text
 form_at statements.Index text = index_form text
@@ -185,7 +185,7 @@ form_at statements.Ask text = ask_form text
 form_at statements.Live text = live_form text
 
 -- a form, with the bytes of its words
-abbrev pub form_value : Read → Form
+abbrev pub form_value : Read → StatementFormValue
 form_value (reads.PacketSchema which) = packet_schema which
 form_value (reads.RecordSchema list) = record_schema list.now
 form_value (reads.Width number) = bucket_width number.now
@@ -203,7 +203,7 @@ form_value (reads.Total name attr expr) = ask_total name.now attr.now expr.now
 form_value (reads.Live ask) = ask_live ask.now
 
 -- it states the schema
-abbrev pub is_schema_form : Form → Bool
+abbrev pub is_schema_form : StatementFormValue → Bool
 is_schema_form (packet_schema which) = true
 is_schema_form (record_schema list) = true
 is_schema_form _ = false
@@ -213,7 +213,7 @@ abbrev pub IsAscii : List ℕ → Type 0
 IsAscii name = All (λ b. b < 128) name
 
 -- its new name is ASCII, and its expression has fewer than 2^32 bytes
-abbrev pub HasWords : Form → Type 0
+abbrev pub HasWords : StatementFormValue → Type 0
 HasWords (packet_schema which) = Unit {0}
 HasWords (record_schema list) = Unit {0}
 HasWords (bucket_width number) = Unit {0}

@@ -14,7 +14,7 @@ use Rattle.cf_plain.specs.declared.ask.Ask.TheVariants as asks
 use Rattle.cf_filter.specs.declared.bytes.Class.TheVariants as classes
 use Rattle.cf_filter.specs.declared.fault.Offence.{Offence}
 use Rattle.cf_filter.specs.declared.fault.Offence.TheVariants.{Syntax, UnknownName, BadOperator, ValueRange, TooLong}
-use Rattle.cf_filter.specs.declared.fault.Stop.{Stop}
+use Rattle.cf_filter.specs.declared.fault.OffenceAt.{OffenceAt}
 use Rattle.cf_filter.specs.Tokens.{passes, unspaced}
 use Rattle.cf_filter.specs.Values.{◌>>=◌, value_at}
 use Rattle.cf_filter.specs.Reading.{attr_named}
@@ -30,8 +30,8 @@ use Rattle.cf_setup.specs.declared.source.Source.TheVariants.{Packets, Records}
 use Rattle.cf_setup.specs.Codes.{code_number}
 use Rattle.cf_lines.specs.Lines.{lines_of, is_silent, word_at}
 use Rattle.cf_setup.specs.Drafts.{DraftValue, nothing_stated, attrs_of, with_lane, with_trigger, with_ask, index_over, filter_by, aggregate_by, tally_by}
-use Rattle.cf_setup.specs.Forms.{Form, statement_named, form_at}
-use Rattle.cf_setup.specs.Forms.Form.{packet_schema, record_schema, bucket_width, new_index, new_filter, new_aggregate, new_tally, new_trigger, ask_list, ask_find, ask_buckets, ask_fired, ask_top, ask_total, ask_live}
+use Rattle.cf_setup.specs.Forms.{StatementFormValue, statement_named, form_at}
+use Rattle.cf_setup.specs.Forms.StatementFormValue.{packet_schema, record_schema, bucket_width, new_index, new_filter, new_aggregate, new_tally, new_trigger, ask_list, ask_find, ask_buckets, ask_fired, ask_top, ask_total, ask_live}
 use Rattle.cf_setup.specs.Named.{is_taken, place_in, is_index, is_filter, is_aggregate, is_tally, is_of, family_of, asked_of, lane_named, trigger_named, index_kind}
 use Rattle.cf_lines.specs.Schemas.{schema_at}
 use Rattle.cf_setup.specs.Rules.{Rule, rules, expr_rules}
@@ -61,8 +61,8 @@ key_in None text = None
 key_in (Some kind) text = number_of kind text
 
 -- the value of the index's attribute that a text is
-abbrev pub key_of : DraftValue → List ℕ → List ℕ → Option ℕ
-key_of before index text = key_in (index_kind before index) text
+abbrev pub key_written : DraftValue → List ℕ → List ℕ → Option ℕ
+key_written before index text = key_in (index_kind before index) text
 
 -- the ask at that place is live
 abbrev pub is_live : DraftValue → Option ℕ → Bool
@@ -84,7 +84,7 @@ same_offence TooLong TooLong = true
 same_offence _ _ = false
 
 -- the expression has that offence
-abbrev pub offends : Offence → Result (List (List Atom)) Stop → Bool
+abbrev pub offends : Offence → Result (List (List Atom)) OffenceAt → Bool
 offends offence (Ok expr) = false
 offends offence (Err stop) = same_offence offence stop.offence
 
@@ -99,7 +99,7 @@ is_broken before (known_trigger name) = is_none (trigger_named before name)
 is_broken before (known_ask name) = is_none (place_in before.ask_names name)
 is_broken before (a_number text) = is_none (number_of U64 text)
 is_broken before (a_number_from low high text) = is_none (number_from low high text)
-is_broken before (a_key index text) = is_none (key_of before index text)
+is_broken before (a_key index text) = is_none (key_written before index text)
 is_broken before (number_attr name) = fails is_number (attr_named (attrs_of before) name)
 is_broken before (narrow_attr name) = fails is_narrow (attr_named (attrs_of before) name)
 is_broken before lane_room = nat_le 16 (length before.lanes)
@@ -113,7 +113,7 @@ first_broken before [] = None
 first_broken before (rule ∷ rest) = if is_broken before rule.1 then Some rule.0 else first_broken before rest
 
 -- the expression that is read
-abbrev pub expr_in : Result (List (List Atom)) Stop → Option (List (List Atom))
+abbrev pub expr_in : Result (List (List Atom)) OffenceAt → Option (List (List Atom))
 expr_in (Ok expr) = Some expr
 expr_in (Err stop) = None
 
@@ -122,7 +122,7 @@ abbrev pub expr_of : DraftValue → List ℕ → Option (List (List Atom))
 expr_of before text = expr_in (expr_at (attrs_of before) text)
 
 -- what is stated after a lawful statement
-abbrev pub added : ℕ → DraftValue → Form → Option DraftValue
+abbrev pub added : ℕ → DraftValue → StatementFormValue → Option DraftValue
 added line before (packet_schema which) = Some (with_schema line before (Packets which) (attrs_by which))
 added line before (record_schema list) = option_map (with_schema line before Records) (schema_at list)
 added line before (bucket_width number) = option_map (λ n. record before { width = Some n }) (number_from 1 (2 ^ 63) number)
@@ -144,8 +144,8 @@ added line before (new_trigger name aggregate part op number) = do
 added line before (ask_list name expr) = option_map (λ read. with_ask before name (asks.List read)) (expr_of before expr)
 added line before (ask_find name index low high) = do
   lane ← lane_named is_index before index
-  first ← key_of before index low
-  last ← key_of before index high
+  first ← key_written before index low
+  last ← key_written before index high
   Some (with_ask before name (asks.Find lane.0 first last))
 added line before (ask_buckets what name lane low high) = do
   found ← lane_named (is_of (family_of what)) before lane
@@ -170,11 +170,11 @@ coded_or None None = Err 0
 coded_or None (Some new) = Ok new
 
 -- the code of the first broken rule, or what is stated then
-unfoldable pub ruled : ℕ → DraftValue → Form → Result DraftValue ℕ
+unfoldable pub ruled : ℕ → DraftValue → StatementFormValue → Result DraftValue ℕ
 ruled line before form = coded_or (first_broken before (rules form)) (added line before form)
 
 -- what a statement in its form states
-abbrev pub form_read : ℕ → DraftValue → Option Form → Result DraftValue ℕ
+abbrev pub form_read : ℕ → DraftValue → Option StatementFormValue → Result DraftValue ℕ
 form_read line before None = Err 3
 form_read line before (Some form) = ruled line before form
 
@@ -237,9 +237,9 @@ code_of ValueRange = codes_of.ValueRange
 code_of TooLong = codes_of.TooLong
 
 -- an expression, or the code of its offence
-abbrev pub ExprCoded : Result (List (List Atom)) Stop → Result (List (List Atom)) LineFault → Type 0
+abbrev pub ExprCoded : Result (List (List Atom)) OffenceAt → Result (List (List Atom)) LineFault → Type 0
 ExprCoded read (Ok expr) = read ≡ Ok expr
-ExprCoded read (Err (Breaks code)) = (stop : Stop) × (read ≡ Err stop) × (code ≡ code_of stop.offence)
+ExprCoded read (Err (Breaks code)) = (stop : OffenceAt) × (read ≡ Err stop) × (code ≡ code_of stop.offence)
 ExprCoded read (Err LineMemory) = Unit {0}
 
 -- what an expression that is taken says of its rules

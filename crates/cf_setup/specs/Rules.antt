@@ -8,14 +8,14 @@ use Rattle.cf_row.specs.declared.row.Value.TheVariants.{Num}
 use Rattle.cf_shape.specs.Lanes.{is_number, is_narrow}
 use Rattle.cf_filter.specs.declared.fault.Offence.{Offence}
 use Rattle.cf_filter.specs.declared.fault.Offence.TheVariants.{Syntax, UnknownName, BadOperator, ValueRange, TooLong}
-use Rattle.cf_filter.specs.declared.fault.Stop.{Stop}
+use Rattle.cf_filter.specs.declared.fault.OffenceAt.{OffenceAt}
 use Rattle.cf_filter.specs.Reading.{attr_named}
 use Rattle.cf_filter.specs.Grammar.{ValueText, ExprRead}
 use Rattle.cf_setup.specs.declared.draft.Family.{Family}
 use Rattle.cf_setup.specs.declared.draft.Family.TheVariants as families
 use Rattle.cf_setup.specs.Drafts.{DraftValue, attrs_of}
-use Rattle.cf_setup.specs.Forms.{Form}
-use Rattle.cf_setup.specs.Forms.Form.{packet_schema, record_schema, bucket_width, new_index, new_filter, new_aggregate, new_tally, new_trigger, ask_list, ask_find, ask_buckets, ask_fired, ask_top, ask_total, ask_live}
+use Rattle.cf_setup.specs.Forms.{StatementFormValue}
+use Rattle.cf_setup.specs.Forms.StatementFormValue.{packet_schema, record_schema, bucket_width, new_index, new_filter, new_aggregate, new_tally, new_trigger, ask_list, ask_find, ask_buckets, ask_fired, ask_top, ask_total, ask_live}
 use Rattle.cf_setup.specs.Named.{is_taken, place_in, is_of, family_of, lane_named, trigger_named, index_kind}
 use Rattle.cf_lines.specs.Schemas.{ListText}
 
@@ -55,7 +55,7 @@ Broken before (narrow_attr name) = (found : ℕ × Kind) × (attr_named (attrs_o
 Broken before lane_room = 16 ≤ length before.lanes
 Broken before trigger_room = 16 ≤ length before.triggers
 Broken before ask_room = 32 ≤ length before.asks
-Broken before (no_offence offence text) = (stop : Stop) × ExprRead (attrs_of before) text (Err stop) × (stop.offence ≡ offence)
+Broken before (no_offence offence text) = (stop : OffenceAt) × ExprRead (attrs_of before) text (Err stop) × (stop.offence ≡ offence)
 
 -- each offence of an expression has its code
 abbrev pub expr_rules : List ℕ → List (ℕ × Rule)
@@ -68,7 +68,7 @@ expr_rules text =
     ∷ []
 
 -- the rules of a statement in its form, each with its code, which ascend
-abbrev pub rules : Form → List (ℕ × Rule)
+abbrev pub rules : StatementFormValue → List (ℕ × Rule)
 rules (packet_schema which) = []
 rules (record_schema list) = (4, schema_list list) ∷ []
 rules (bucket_width number) = (7, a_number_from 1 (2 ^ 63) number) ∷ []

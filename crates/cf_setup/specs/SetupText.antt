@@ -8,7 +8,7 @@ use Rattle.cf_setup.specs.declared.statement.Statement.{Statement}
 use Rattle.cf_setup.specs.declared.statement.Statement.TheVariants as statements
 use Rattle.cf_lines.specs.Lines.{lines_of, is_silent, word_at}
 use Rattle.cf_setup.specs.Drafts.{DraftValue, nothing_stated}
-use Rattle.cf_setup.specs.Forms.{Form, statement_named, form_at}
+use Rattle.cf_setup.specs.Forms.{StatementFormValue, statement_named, form_at}
 use Rattle.cf_setup.specs.Rules.{rules, IsBroken}
 use Rattle.cf_setup.specs.Adds.{Adds}
 use Rattle.cf_setup.specs.Setups.{SetupValue, settled}
@@ -36,8 +36,8 @@ pub data Breaks (before : DraftValue) (line : List ℕ) (code : ℕ) : Type 0 wh
       → Breaks before line code
   misformed : (statement : Statement) → code ≡ 3 → statement_named (word_at line).0 ≡ Some statement → form_at statement (word_at line).1 ≡ None
       → Breaks before line code
-  ruled : (statement : Statement) (form : Form) → statement_named (word_at line).0 ≡ Some statement → form_at statement (word_at line).1 ≡ Some form
-      → IsBroken before code (rules form) → Breaks before line code
+  ruled : (statement : Statement) (form : StatementFormValue) → statement_named (word_at line).0 ≡ Some statement
+      → form_at statement (word_at line).1 ≡ Some form → IsBroken before code (rules form) → Breaks before line code
 
 -- the least code of a rule that the line breaks
 pub record HasCode (before : DraftValue) (line : List ℕ) (code : ℕ) : Type 0 where
@@ -48,7 +48,7 @@ pub record HasCode (before : DraftValue) (line : List ℕ) (code : ℕ) : Type 0
 pub record States (number : ℕ) (before : DraftValue) (line : List ℕ) (new : DraftValue) : Type 0 where
   pub lawful : (code : ℕ) → Breaks before line code → ⊥
   pub statement : Statement
-  pub form : Form
+  pub form : StatementFormValue
   pub statement_is : statement_named (word_at line).0 ≡ Some statement
   pub form_is : form_at statement (word_at line).1 ≡ Some form
   pub adds : Adds number before form new

@@ -4,7 +4,7 @@ ghost use Rattle.std.specs.Option.{option_map};
 ghost use Rattle.cf_setup.specs.Forms.{ask_form as ask_form_of, question_form as question_form_of, ranking_words, three_words, form_value, HasWords};
 
 use crate::ask_buckets::Buckets;
-use crate::form::Form;
+use crate::form::StatementForm;
 use crate::statement::{Question, question_of};
 use crate::trigger::part_of;
 use cf_fold::Part;
@@ -48,44 +48,48 @@ fn ranking_of(text: &[u8]) -> Option<Ranking>
 }
 
 // What follows the kind of the question.
-fn question_form<'a>(question: Question, name: &'a [u8], text: &'a [u8]) -> Option<Form<'a>>
+fn question_form<'a>(
+    question: Question,
+    name: &'a [u8],
+    text: &'a [u8],
+) -> Option<StatementForm<'a>>
     requires ascii { All (λ b. b < 128) name.now }
     requires size { length text.now < 2 ^ 32 }
     ensures form { option_map form_value result ≡ question_form_of question name.now text.now }
     ensures words { IfSome result (λ form. HasWords (form_value form)) }
 {
     match question {
-        Question::List => Some(Form::List { name, expr: text }),
-        Question::Find => Some(Form::Find {
+        Question::List => Some(StatementForm::List { name, expr: text }),
+        Question::Find => Some(StatementForm::Find {
             name,
             over: range_of(text)?,
         }),
-        Question::Between => Some(Form::Buckets {
+        Question::Between => Some(StatementForm::Buckets {
             name,
             what: Buckets::Between,
             over: range_of(text)?,
         }),
-        Question::Measure => Some(Form::Buckets {
+        Question::Measure => Some(StatementForm::Buckets {
             name,
             what: Buckets::Measure,
             over: range_of(text)?,
         }),
-        Question::Fired => Some(Form::Fired {
+        Question::Fired => Some(StatementForm::Fired {
             name,
             trigger: last_word(text)?,
         }),
-        Question::Top => Some(Form::Top {
+        Question::Top => Some(StatementForm::Top {
             name,
             by: ranking_of(text)?,
         }),
         Question::Total => {
             let (attr, expr) = next_word(text)?;
-            Some(Form::Total { name, attr, expr })
+            Some(StatementForm::Total { name, attr, expr })
         }
     }
 }
 
-pub(crate) fn ask_form<'a>(text: &'a [u8]) -> Option<Form<'a>>
+pub(crate) fn ask_form<'a>(text: &'a [u8]) -> Option<StatementForm<'a>>
     requires { length text.now < 2 ^ 32 }
     ensures form { option_map form_value result ≡ ask_form_of text.now }
     ensures words { IfSome result (λ form. HasWords (form_value form)) }

@@ -1,7 +1,7 @@
 // `ask NAME between FILTER LOW HIGH` and `ask NAME measure AGGREGATE LOW HIGH`.
 ghost use Rattle.std.specs.Prelude.{◌≡◌, ◌<◌, All};
 ghost use Rattle.cf_setup.specs.Few.{IsFew};
-ghost use Rattle.cf_setup.specs.Forms.Form.{ask_buckets};
+ghost use Rattle.cf_setup.specs.Forms.StatementFormValue.{ask_buckets};
 ghost use Rattle.cf_setup.specs.Named.{family_of, asked_of};
 ghost use Rattle.cf_setup.specs.Reading.{ruled, Takes};
 

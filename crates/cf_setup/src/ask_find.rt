@@ -1,13 +1,13 @@
 // `ask NAME find INDEX LOW HIGH`.
 ghost use Rattle.std.specs.Prelude.{◌<◌, All};
 ghost use Rattle.cf_setup.specs.Few.{IsFew};
-ghost use Rattle.cf_setup.specs.Forms.Form.{ask_find};
+ghost use Rattle.cf_setup.specs.Forms.StatementFormValue.{ask_find};
 ghost use Rattle.cf_setup.specs.Reading.{ruled, Takes};
 
 use crate::ask::Range;
 use crate::draft::{Draft, Family};
 use crate::fault::LineFault;
-use crate::values::key_of;
+use crate::values::key_written;
 use cf_plain::Ask;
 use std::alloc::Global;
 
@@ -27,8 +27,8 @@ pub(crate) fn add_find(
     draft.must_be_free(name)?;
     let (place, lane) = draft.lane(Family::Index, over.lane)?;
     let kind = draft.kind_of_key(lane.key);
-    let low = key_of(kind, over.low)?;
-    let high = key_of(kind, over.high)?;
+    let low = key_written(kind, over.low)?;
+    let high = key_written(kind, over.high)?;
     draft.ask_room()?;
     Ok(draft.with_ask(alloc, name, Ask::Find(place, low, high))?)
 }

@@ -1,6 +1,6 @@
 // `ask NAME fired TRIGGER`.
 ghost use Rattle.std.specs.Prelude.{◌<◌, All};
-ghost use Rattle.cf_setup.specs.Forms.Form.{ask_fired};
+ghost use Rattle.cf_setup.specs.Forms.StatementFormValue.{ask_fired};
 ghost use Rattle.cf_setup.specs.Reading.{ruled, Takes};
 
 use crate::draft::Draft;

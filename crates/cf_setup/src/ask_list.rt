@@ -1,6 +1,6 @@
 // `ask NAME list EXPRESSION`.
 ghost use Rattle.std.specs.Prelude.{◌≡◌, ◌<◌, ◌^◌, length, is_some, true, All};
-ghost use Rattle.cf_setup.specs.Forms.Form.{ask_list};
+ghost use Rattle.cf_setup.specs.Forms.StatementFormValue.{ask_list};
 ghost use Rattle.cf_setup.specs.Reading.{ruled, Takes};
 
 use crate::draft::Draft;

@@ -1,7 +1,7 @@
 // `ask NAME top TALLY PART COUNT`.
 ghost use Rattle.std.specs.Prelude.{◌<◌, All};
 ghost use Rattle.cf_setup.specs.Few.{IsFew};
-ghost use Rattle.cf_setup.specs.Forms.Form.{ask_top};
+ghost use Rattle.cf_setup.specs.Forms.StatementFormValue.{ask_top};
 ghost use Rattle.cf_setup.specs.Reading.{ruled, Takes};
 
 use crate::ask::Ranking;

@@ -4,25 +4,25 @@ ghost use Rattle.std.specs.Option.{option_map};
 ghost use Rattle.cf_filter.specs.Outcome.{Answers};
 ghost use Rattle.cf_filter.specs.Exprs.{expr_at};
 ghost use Rattle.cf_setup.specs.Forms.{filter_form as filter_form_of, form_value, HasWords};
-ghost use Rattle.cf_setup.specs.Forms.Form.{new_filter};
+ghost use Rattle.cf_setup.specs.Forms.StatementFormValue.{new_filter};
 ghost use Rattle.cf_setup.specs.Reading.{ruled, Takes, ExprCoded, ExprTaken};
 
 use crate::draft::Draft;
 use crate::fault::{Code, LineFault};
-use crate::form::Form;
+use crate::form::StatementForm;
 use cf_filter::{FilterFault, parse_bytes};
 use cf_lines::new_name;
 use cf_row::{Expr, Schema};
 use cf_shape::{Key, Lane};
 use std::alloc::Global;
 
-pub(crate) fn filter_form<'a>(text: &'a [u8]) -> Option<Form<'a>>
+pub(crate) fn filter_form<'a>(text: &'a [u8]) -> Option<StatementForm<'a>>
     requires { length text.now < 2 ^ 32 }
     ensures form { option_map form_value result ≡ filter_form_of text.now }
     ensures words { IfSome result (λ form. HasWords (form_value form)) }
 {
     let (name, expr) = new_name(text)?;
-    Some(Form::Filter { name, expr })
+    Some(StatementForm::Filter { name, expr })
 }
 
 fn parse_over(alloc: Global, schema: &Schema, text: &[u8]) -> Result<Expr, FilterFault>

@@ -18,7 +18,7 @@ use cf_packet6::PacketSchema;
 
 /// A statement in its form, with its words. What its rules are and what it adds stands in the file of each statement.
 #[derive(Clone, Copy, Debug)]
-pub(crate) enum Form<'a> {
+pub(crate) enum StatementForm<'a> {
     PacketSchema {
         which: PacketSchema,
     },
@@ -81,7 +81,7 @@ pub(crate) enum Form<'a> {
 }
 
 /// The statement that follows its first word, if it is in its form.
-pub(crate) fn form_of<'a>(statement: Statement, text: &'a [u8]) -> Option<Form<'a>>
+pub(crate) fn form_of<'a>(statement: Statement, text: &'a [u8]) -> Option<StatementForm<'a>>
     requires { length text.now < 2 ^ 32 }
     ensures form { option_map form_value result ≡ form_at statement text.now }
     ensures words { IfSome result (λ form. HasWords (form_value form)) }

@@ -2,25 +2,25 @@
 ghost use Rattle.std.specs.Prelude.{◌≡◌, ◌<◌, [], ◌∷◌, All, IfSome, IfOk};
 ghost use Rattle.std.specs.Option.{option_map};
 ghost use Rattle.cf_setup.specs.Forms.{index_form as index_form_of, form_value, HasWords};
-ghost use Rattle.cf_setup.specs.Forms.Form.{new_index};
+ghost use Rattle.cf_setup.specs.Forms.StatementFormValue.{new_index};
 ghost use Rattle.cf_setup.specs.Reading.{ruled, Takes};
 
 use crate::draft::Draft;
 use crate::fault::LineFault;
-use crate::form::Form;
+use crate::form::StatementForm;
 use crate::values::must_be_number;
 use cf_lines::{last_word, new_name};
 use cf_row::{Conjunction, Expr, Memory};
 use cf_shape::{Key, Lane};
 use std::alloc::Global;
 
-pub(crate) fn index_form<'a>(text: &'a [u8]) -> Option<Form<'a>>
+pub(crate) fn index_form<'a>(text: &'a [u8]) -> Option<StatementForm<'a>>
     ensures form { option_map form_value result ≡ index_form_of text.now }
     ensures words { IfSome result (λ form. HasWords (form_value form)) }
 {
     let (name, rest) = new_name(text)?;
     let attr = last_word(rest)?;
-    Some(Form::Index { name, attr })
+    Some(StatementForm::Index { name, attr })
 }
 
 // The expression of all rows.

@@ -1,32 +1,32 @@
 // `schema packet`, `schema packet6` and `schema records LIST`.
 ghost use Rattle.std.specs.Prelude.{◌≡◌, IfSome, Some, None, cond};
 ghost use Rattle.cf_lines.specs.Lines.{is_blank as is_blank_text};
-ghost use Rattle.cf_setup.specs.declared.form.Form.TheVariants.{PacketSchema as PacketsForm};
+ghost use Rattle.cf_setup.specs.declared.form.StatementForm.TheVariants.{PacketSchema as PacketsForm};
 ghost use Rattle.std.specs.Option.{option_map};
 ghost use Rattle.cf_setup.specs.Forms.{schema_form as schema_form_of, form_value, HasWords};
-ghost use Rattle.cf_setup.specs.Forms.Form.{packet_schema as packet_schema_form, record_schema};
+ghost use Rattle.cf_setup.specs.Forms.StatementFormValue.{packet_schema as packet_schema_form, record_schema};
 ghost use Rattle.cf_setup.specs.Reading.{ruled, Takes};
 
 use crate::draft::Draft;
 use crate::fault::{Code, LineFault};
-use crate::form::Form;
+use crate::form::StatementForm;
 use crate::source::Source;
 use cf_lines::{is_blank, last_word, next_word, schema_of};
 use cf_packet6::PacketSchema;
 use std::alloc::Global;
 
 // A schema of packets, which no word follows.
-fn packets_form<'a>(rest: &'a [u8], which: PacketSchema) -> Option<Form<'a>>
+fn packets_form<'a>(rest: &'a [u8], which: PacketSchema) -> Option<StatementForm<'a>>
     ensures { result ≡ cond (is_blank_text rest.now) (Some (PacketsForm which)) None }
 {
     if is_blank(rest) {
-        Some(Form::PacketSchema { which })
+        Some(StatementForm::PacketSchema { which })
     } else {
         None
     }
 }
 
-pub(crate) fn schema_form<'a>(text: &'a [u8]) -> Option<Form<'a>>
+pub(crate) fn schema_form<'a>(text: &'a [u8]) -> Option<StatementForm<'a>>
     ensures form { option_map form_value result ≡ schema_form_of text.now }
     ensures words { IfSome result (λ form. HasWords (form_value form)) }
 {
@@ -41,7 +41,7 @@ pub(crate) fn schema_form<'a>(text: &'a [u8]) -> Option<Form<'a>>
         return None;
     }
     let list = last_word(rest)?;
-    Some(Form::RecordSchema { list })
+    Some(StatementForm::RecordSchema { list })
 }
 
 /// A schema of packets.

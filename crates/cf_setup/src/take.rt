@@ -15,7 +15,7 @@ use crate::ask_total::add_total;
 use crate::draft::Draft;
 use crate::fault::{Code, LineFault};
 use crate::filter::add_filter;
-use crate::form::{Form, form_of};
+use crate::form::{StatementForm, form_of};
 use crate::index::add_index;
 use crate::live::add_live;
 use crate::schema::{add_packet_schema, add_record_schema};
@@ -51,30 +51,34 @@ fn is_in_place(draft: &Draft, statement: Statement) -> bool
 }
 
 // Adds what the statement says, if it breaks none of its rules.
-fn add(alloc: Global, line: u32, draft: Draft, form: Form) -> Result<Draft, LineFault>
+fn add(alloc: Global, line: u32, draft: Draft, form: StatementForm) -> Result<Draft, LineFault>
     requires few { IsFew draft }
     requires words { HasWords (form_value form) }
     requires stated { is_schema_form (form_value form) ≡ false → is_some draft.schema ≡ true }
     ensures { Takes result (ruled line draft (form_value form.entry)) }
 {
     match form {
-        Form::PacketSchema { which } => add_packet_schema(alloc, line, draft, which),
-        Form::RecordSchema { list } => add_record_schema(alloc, line, draft, list),
-        Form::Width { number } => add_width(line, draft, number),
-        Form::Index { name, attr } => add_index(alloc, line, draft, name, attr),
-        Form::Filter { name, expr } => add_filter(alloc, line, draft, name, expr),
-        Form::Aggregate { name, filter, attr } => {
+        StatementForm::PacketSchema { which } => add_packet_schema(alloc, line, draft, which),
+        StatementForm::RecordSchema { list } => add_record_schema(alloc, line, draft, list),
+        StatementForm::Width { number } => add_width(line, draft, number),
+        StatementForm::Index { name, attr } => add_index(alloc, line, draft, name, attr),
+        StatementForm::Filter { name, expr } => add_filter(alloc, line, draft, name, expr),
+        StatementForm::Aggregate { name, filter, attr } => {
             add_aggregate(alloc, line, draft, name, filter, attr)
         }
-        Form::Tally { name, by } => add_tally(alloc, line, draft, name, by),
-        Form::Trigger { name, on } => add_trigger(alloc, line, draft, name, on),
-        Form::List { name, expr } => add_list(alloc, line, draft, name, expr),
-        Form::Find { name, over } => add_find(alloc, line, draft, name, over),
-        Form::Buckets { name, what, over } => add_buckets(alloc, line, draft, name, what, over),
-        Form::Fired { name, trigger } => add_fired(alloc, line, draft, name, trigger),
-        Form::Top { name, by } => add_top(alloc, line, draft, name, by),
-        Form::Total { name, attr, expr } => add_total(alloc, line, draft, name, attr, expr),
-        Form::Live { ask } => add_live(line, draft, ask),
+        StatementForm::Tally { name, by } => add_tally(alloc, line, draft, name, by),
+        StatementForm::Trigger { name, on } => add_trigger(alloc, line, draft, name, on),
+        StatementForm::List { name, expr } => add_list(alloc, line, draft, name, expr),
+        StatementForm::Find { name, over } => add_find(alloc, line, draft, name, over),
+        StatementForm::Buckets { name, what, over } => add_buckets(
+            alloc, line, draft, name, what, over,
+        ),
+        StatementForm::Fired { name, trigger } => add_fired(alloc, line, draft, name, trigger),
+        StatementForm::Top { name, by } => add_top(alloc, line, draft, name, by),
+        StatementForm::Total { name, attr, expr } => add_total(
+            alloc, line, draft, name, attr, expr,
+        ),
+        StatementForm::Live { ask } => add_live(line, draft, ask),
     }
 }
 

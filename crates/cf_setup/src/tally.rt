@@ -2,13 +2,13 @@
 ghost use Rattle.std.specs.Prelude.{◌≡◌, ◌<◌, ◌^◌, length, is_some, true, All, IfSome};
 ghost use Rattle.std.specs.Option.{option_map};
 ghost use Rattle.cf_setup.specs.Forms.{tally_form as tally_form_of, form_value, HasWords};
-ghost use Rattle.cf_setup.specs.Forms.Form.{new_tally};
+ghost use Rattle.cf_setup.specs.Forms.StatementFormValue.{new_tally};
 ghost use Rattle.cf_setup.specs.Reading.{ruled, Takes};
 
 use crate::draft::Draft;
 use crate::fault::LineFault;
 use crate::filter::expr_of;
-use crate::form::Form;
+use crate::form::StatementForm;
 use crate::values::{must_be_narrow, must_be_number};
 use cf_lines::{new_name, next_word};
 use cf_shape::{Key, Lane};
@@ -22,7 +22,7 @@ pub(crate) struct Grouping<'a> {
     pub(crate) expr: &'a [u8],
 }
 
-pub(crate) fn tally_form<'a>(text: &'a [u8]) -> Option<Form<'a>>
+pub(crate) fn tally_form<'a>(text: &'a [u8]) -> Option<StatementForm<'a>>
     requires { length text.now < 2 ^ 32 }
     ensures form { option_map form_value result ≡ tally_form_of text.now }
     ensures words { IfSome result (λ form. HasWords (form_value form)) }
@@ -35,7 +35,7 @@ pub(crate) fn tally_form<'a>(text: &'a [u8]) -> Option<Form<'a>>
         measure,
         expr,
     };
-    Some(Form::Tally { name, by })
+    Some(StatementForm::Tally { name, by })
 }
 
 /// A lane of the rows of an expression, by the values of an attribute of numbers, that measures one of at most 32 bits.

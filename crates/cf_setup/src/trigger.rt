@@ -4,12 +4,12 @@ ghost use Rattle.std.specs.Option.{option_map};
 ghost use Rattle.cf_row.specs.Expr.{is_within as is_within_of};
 ghost use Rattle.cf_setup.specs.Few.{IsFew};
 ghost use Rattle.cf_setup.specs.Forms.{trigger_form as trigger_form_of, part_named, sign_named, form_value, HasWords};
-ghost use Rattle.cf_setup.specs.Forms.Form.{new_trigger};
+ghost use Rattle.cf_setup.specs.Forms.StatementFormValue.{new_trigger};
 ghost use Rattle.cf_setup.specs.Reading.{ruled, Takes};
 
 use crate::draft::{Draft, Family};
 use crate::fault::LineFault;
-use crate::form::Form;
+use crate::form::StatementForm;
 use crate::values::number_of;
 use cf_filter::named_op;
 use cf_fold::{Part, Trigger};
@@ -65,7 +65,7 @@ fn sign_of(word: &[u8]) -> Option<Op>
     Some(op)
 }
 
-pub(crate) fn trigger_form<'a>(text: &'a [u8]) -> Option<Form<'a>>
+pub(crate) fn trigger_form<'a>(text: &'a [u8]) -> Option<StatementForm<'a>>
     ensures form { option_map form_value result ≡ trigger_form_of text.now }
     ensures words { IfSome result (λ form. HasWords (form_value form)) }
 {
@@ -82,7 +82,7 @@ pub(crate) fn trigger_form<'a>(text: &'a [u8]) -> Option<Form<'a>>
         op,
         number,
     };
-    Some(Form::Trigger { name, on })
+    Some(StatementForm::Trigger { name, on })
 }
 
 /// A trigger on an aggregate.

@@ -58,7 +58,7 @@ pub(crate) fn count_of(text: &[u8]) -> Result<u32, Code>
 }
 
 /// The value of that kind that the text is.
-pub(crate) fn key_of(kind: Option<Kind>, text: &[u8]) -> Result<u64, Code>
+pub(crate) fn key_written(kind: Option<Kind>, text: &[u8]) -> Result<u64, Code>
     ensures found { IfOk result (λ n. key_in kind text.now ≡ Some n) }
     ensures none { IfErr result (λ code. (key_in kind text.now ≡ None) × (code ≡ BadNumber)) }
 {

@@ -2,20 +2,20 @@
 ghost use Rattle.std.specs.Prelude.{◌≡◌, IfSome};
 ghost use Rattle.std.specs.Option.{option_map};
 ghost use Rattle.cf_setup.specs.Forms.{width_form as width_form_of, form_value, HasWords};
-ghost use Rattle.cf_setup.specs.Forms.Form.{bucket_width};
+ghost use Rattle.cf_setup.specs.Forms.StatementFormValue.{bucket_width};
 ghost use Rattle.cf_setup.specs.Reading.{ruled, Takes};
 
 use crate::draft::Draft;
 use crate::fault::LineFault;
-use crate::form::Form;
+use crate::form::StatementForm;
 use crate::values::number_from;
 use cf_lines::last_word;
 
-pub(crate) fn width_form<'a>(text: &'a [u8]) -> Option<Form<'a>>
+pub(crate) fn width_form<'a>(text: &'a [u8]) -> Option<StatementForm<'a>>
     ensures form { option_map form_value result ≡ width_form_of text.now }
     ensures words { IfSome result (λ form. HasWords (form_value form)) }
 {
-    Some(Form::Width {
+    Some(StatementForm::Width {
         number: last_word(text)?,
     })
 }
