@@ -58,7 +58,8 @@ returns-then-branch c =
     let own : c.in_ok-own_word.field-0 ≡ own_word (layout c.args.self.now.shape) c.in-Some-flying.book.now c.in-Some-flying.ticket.now.row
     (use_at c.args.self.now.shape c.args.index) =
     (let raw : c.in_ok-own_word.field-0 ≡ own_word (layout c.shape-shape.result.now) c.in-Some-flying.book.now c.row-row.result.now
-    (use_at c.shape-shape.result.now c.args.index) = search (rules, c.in_ok-own_word.ensures) in rw (c.shape-shape.ensures.shape, c.row-row.ensures) at raw) in (
+    (use_at c.shape-shape.result.now c.args.index) = search (rules, c.in_ok-own_word.ensures) in
+    rw (c.shape-shape.ensures.shape, c.row-row.ensures) at raw) in (
       refl,
       λ y does.
           (let o = cell_only c.args.self.now c.args.number c.args.offset c.args.index c.args.value c.in-Some-flying.place c.in-Some.pass.now

@@ -17,7 +17,8 @@ store_as-requires-clause-lawful g c =
     rw c.pass.view_is
     (calls_head s p g.lane c.args.node c.args.nibble c.args.offset c.writer.result c.place_head-word.result r.1.1.0.0 r.1.1.0.1 r.1.1.0.2
     (c.writer.ensures.writer)
-    (subst (λ (x : ShapeValue). c.place_head-word.result ≡ place_of x (head c.args.node c.args.nibble c.writer.result)) shape c.place_head-word.ensures) r.1.1.1)
+    (subst (λ (x : ShapeValue). c.place_head-word.result ≡ place_of x (head c.args.node c.args.nibble c.writer.result)) shape c.place_head-word.ensures)
+    r.1.1.1)
 
 pub invariant_of-pass : goal.invariant_of-pass
 invariant_of-pass g c =
