@@ -6,7 +6,7 @@ use Rattle.std.proofs.lemmas.Bool.Decides.{nat_tests}
 use Rattle.cf_row.specs.Row.{RowValue}
 use Rattle.cf_row.specs.Words.{word_count}
 use Rattle.cf_shape.specs.declared.lane.Lane.{Lane}
-use Rattle.cf_shape.specs.Lanes.{ShapeValue, IsShape, no_lane, lane_at, selected_by}
+use Rattle.cf_shape.specs.Lanes.{ShapeValue, IsShape, no_lane, lane_at, key_of, selected_by}
 use Rattle.cf_shape.specs.Nodes.{levels_of}
 use Rattle.cf_shape.specs.Uses.{Use, use_at, cell_words, cell_count, ticket_words, is_measured}
 use Rattle.cf_shape.specs.Uses.Use.{version}
@@ -15,20 +15,22 @@ use Rattle.cf_shape.proofs.Counts.{count_cons, count_none}
 use Rattle.cf_shape.proofs.Used.{version_at, before_fits}
 use Rattle.cf_words.specs.Words.{Spot, spot, fresh_ticket, has, same_path, version_word, link_to_newest}
 use Rattle.cf_words.specs.Law.{IsWhole, Skips}
-use Rattle.cf_law.specs.Passes.{Book, Flight, Pass}
+use Rattle.cf_law.specs.Passes.{Own, Book, Flight, Pass}
 use Rattle.cf_law.specs.Steps.{Knows, IsNext, ticket_of, book_with_flight, book_with_head, book_with_record, own_word, own_lane_word, mine_chain, pass_with_head}
 use Rattle.cf_law.specs.Steps.Act.{store_cell, store_head, finish_record}
 use Rattle.cf_law.specs.Readers.{own_top}
 use Rattle.cf_law.specs.Events.{no_book}
 use Rattle.cf_law.specs.Shapes.{layout, path_in}
-use Rattle.cf_law.proofs.Shapes.{layout_law}
+use Rattle.cf_law.proofs.Shapes.{layout_law, three_words}
 use Rattle.cf_table.specs.Values.{PassValue, book_of, flight_or}
 use Rattle.cf_table.specs.Effects.{IsLawfulStep, HasStepped, HasSteppedUnseen, store_effect, walk_effect, head_effect, finish_effect}
 use Rattle.cf_table.proofs.Mays.{the_book, may_store, may_head, may_finish}
 use Rattle.cf_append.specs.Appends.{with_own}
-use Rattle.cf_append.specs.Paths.{KeepsSeen}
-use Rattle.cf_append.specs.Linking.{HasFilled, HasLinked, IsBookOf, IsPassedOver, with_flight, cell_from, linked_to}
+use Rattle.cf_append.specs.Paths.{KeepsSeen, IsFiledIn}
+use Rattle.cf_append.specs.declared.paths.Filing.{Filing}
+use Rattle.cf_append.specs.Linking.{HasFilled, HasLinked, IsBookOf, IsPassedOver, with_flight, cell_from, key_path, leaf_chain, row_chain, linked_to}
 use Rattle.cf_append.proofs.Walking.{strides_by}
+use Rattle.cf_append.proofs.Pathing.{filed_some}
 use Rattle.cf_law.proofs.Paths.{path_none, skips_any, some_path}
 
 -- Where the cells stand.
@@ -358,6 +360,38 @@ word_filled shape p n o i value row F stored = record {
 pub filled_mine : (s : ShapeValue) (o : ℕ) (row : RowValue) (k : ℕ) (m n : PassValue) → HasFilled s o row k m n → (book_of n.view).mine ≡ (book_of m.view).mine
 filled_mine s o row k m n F = ap (λ (b : Book). b.mine) (the_book n.view (with_flight o row F.filled [] (book_of m.view)) F.books)
 
+-- The three words of a measured lane's cell are stored, one after the other, by a pass that was p before the first.
+pub three_low : (s : ShapeValue) (l i : ℕ) → (l < length s.lanes) × (is_measured s l ≡ true) → i ≡ cell_from s l → i + 3 < ticket_words s
+three_low s l i lane at =
+    let three = three_words s l lane.1 in
+    omega (arith, at, three, cell_low s l lane.0)
+
+pub may_next : (s : ShapeValue) (p m : PassValue) (o l h i value : ℕ) (row : RowValue) → HasFilled s o row i p m
+    → (l < length s.lanes) × (is_measured s l ≡ true) → h < 3 → i ≡ cell_from s l + h → path_in s row l ≡ Some (key_path s l (key_of s l row))
+    → value ≡ version_word (layout s) l h (row_chain s l row (book_of p.view)) row → IsLawfulStep s m.view (store_cell o i value) (store_effect m.view o i value)
+may_next s p m o l h i value row F lane low at leads is =
+    let three = three_words s l lane.1 in
+    let q : List ℕ = key_path s l (key_of s l row) in
+    may_word s m o l h i value row q (filled_self s o row i p m F) lane.0 (omega (arith, low, three)) at leads
+    (is ∙ ap (λ (xs : List Own). version_word (layout s) l h (mine_chain (layout s) (spot l q) xs) row) (sym (filled_mine s o row i p m F)))
+
+pub next_filled : (s : ShapeValue) (p m n : PassValue) (o i j value : ℕ) (row : RowValue) → suc i ≡ j → HasFilled s o row i p m
+    → HasSteppedUnseen s (store_effect m.view o i value) m n → HasFilled s o row j p n
+next_filled s p m n o i j value row next F stored =
+    filled_at s o row (suc i) j p n next
+    (filled_then s o row i (suc i) p m n F (word_filled s m n o i value row (filled_self s o row i p m F) stored))
+
+pub first_filled : (s : ShapeValue) (p m : PassValue) (o l i value : ℕ) (row : RowValue) → i ≡ cell_from s l → HasFilled s o row (cell_from s l) p p
+    → HasSteppedUnseen s (store_effect p.view o i value) p m → HasFilled s o row (i + 1) p m
+first_filled s p m o l i value row at F stored =
+    next_filled s p p m o i (i + 1) value row (omega arith) (filled_at s o row (cell_from s l) i p p (sym at) F) stored
+
+pub second_filled : (s : ShapeValue) (p m n : PassValue) (o l i first sum : ℕ) (row : RowValue) → i ≡ cell_from s l
+    → HasFilled s o row (cell_from s l) p p → HasSteppedUnseen s (store_effect p.view o i first) p m
+    → HasSteppedUnseen s (store_effect m.view o (i + 1) sum) m n → HasFilled s o row (i + 2) p n
+second_filled s p m n o l i first sum row at F stored stored1 =
+    next_filled s p m n o (i + 1) (i + 2) sum row (omega arith) (first_filled s p m o l i first row at F stored) stored1
+
 pub filled_kept : (shape : ShapeValue) (o : ℕ) (row : RowValue) (k : ℕ) (m n : PassValue) → HasFilled shape o row k m m → (n.view).books ≡ (m.view).books
     → HasFilled shape o row k m n
 filled_kept shape o row k m n F kept = record { filled = F.filled; books = kept ∙ F.books; from = F.from; passed = F.passed }
@@ -376,6 +410,14 @@ head_chain shape m n o k v row q F kept is =
     is ∙ (ap (λ (c : Book). own_top (layout shape) c q) (the_book m.view (with_flight o row F.filled [] (book_of m.view)) F.books)
     ∙ (own_plain_top shape (book_of m.view) o row F.filled q
     ∙ ap (λ (bs : List Book). link_to_newest (mine_chain (layout shape) q (get_or bs 0 (no_book 0)).mine)) (sym kept)))
+
+-- the newest own record in the leaf in which a row is filed, by the own head
+pub filed_newest : (s : ShapeValue) (row : RowValue) (m n : PassValue) (o l v : ℕ) (filing : Option Filing) (f : Filing) → filing ≡ Some f
+    → IsFiledIn s row m.view l filing → HasFilled s o row (cell_from s l) m m → (n.view).books ≡ (m.view).books
+    → v ≡ own_top (layout s) (book_of m.view) (spot l (key_path s l f.key)) → v ≡ link_to_newest (leaf_chain s l (key_of s l row) (book_of n.view))
+filed_newest s row m n o l v filing f is filed F kept head =
+    subst (λ (k : ℕ). v ≡ link_to_newest (leaf_chain s l k (book_of n.view))) (filed_some s row m.view l filing f is filed).key
+    (head_chain s m n o (cell_from s l) v row (spot l (key_path s l f.key)) F kept head)
 
 pub book_same : (shape : ShapeValue) (m n : PassValue) → IsBookOf shape (book_of m.view) → (n.view).books ≡ (m.view).books → IsBookOf shape (book_of n.view)
 book_same shape m n own kept = subst (λ (bs : List Book). IsBookOf shape (get_or bs 0 (no_book 0))) (sym kept) own

@@ -15,7 +15,8 @@ use Rattle.cf_shape.proofs.Measured.{measure_low}
 use Rattle.cf_shape.proofs.Used.{before_fits, version_at}
 use Rattle.cf_row.specs.Words.{word_count}
 use Rattle.cf_table.specs.Values.{PassValue}
-use Rattle.cf_table.specs.Effects.{HasStepped, cell_effect}
+use Rattle.cf_table.specs.Effects.{HasStepped, IsLawfulStep, cell_effect}
+use Rattle.cf_table.proofs.Mays.{may_cell}
 use Rattle.cf_append.specs.Paths.{KeepsSeen}
 use Rattle.cf_append.proofs.Walking.{strides_by}
 use Rattle.cf_shape.specs.Uses.{is_measured, cell_words, cells_before}
@@ -24,7 +25,9 @@ use Rattle.cf_words.proofs.Chains.{same_path_true}
 use Rattle.cf_words.proofs.Cells.{version_to_cell, cell_to_version}
 use Rattle.cf_law.specs.Passes.{Own, Book, Pass}
 use Rattle.cf_law.specs.Steps.{IsOwn, mine_chain, pass_with_cell}
+use Rattle.cf_law.specs.Steps.Act.{load_cell}
 use Rattle.cf_law.specs.Shapes.{layout}
+use Rattle.cf_law.proofs.Shapes.{three_words}
 use Rattle.cf_append.specs.Linking.{IsNewest, IsBookOf, IsCell, amounts_in_chain}
 use Rattle.cf_law.proofs.Owned.{chain_nil, chain_cons, chain_few}
 
@@ -154,7 +157,40 @@ read_word shape m n b q o l h found made one N there low =
     made.told.tells.own_cell 0 N.place i l h q b N.own (ap (λ (k : ℕ). cell k i) (sym N.offset)) (ap (λ (bs : List Book). slice_get bs 0) one) N.at
     (omega (arith, fits, low)) (version_at shape l h there low) N.leads
 
-pub quad_there : (shape : ShapeValue) (b : Book) (q : List ℕ) (o l : ℕ) (words : CellWords) → IsShape shape → l < length shape.lanes
+-- The words of the newest one's cell are read, one after the other, in a measured lane.
+pub cell_place : (shape : ShapeValue) (b : Book) (q : List ℕ) (o l h : ℕ) → IsBookOf shape b → (l < length shape.lanes) × (is_measured shape l ≡ true)
+    → IsNewest (layout shape) (spot l q) b.mine o → h < 3 → (o < shape.capacity) × (l < length shape.lanes) × (h < cell_words (lane_at shape l))
+cell_place shape b q o l h own lane N low =
+    let at = (own.rows N.place N.own N.at).1 in
+    let is = N.offset in
+    let three = three_words shape l lane.1 in
+    (omega (arith, at, is), lane.0, omega (arith, low, three))
+
+pub may_read : (shape : ShapeValue) (m : PassValue) (b : Book) (q : List ℕ) (o l h : ℕ) → (m.view).books ≡ b ∷ [] → IsBookOf shape b
+    → (l < length shape.lanes) × (is_measured shape l ≡ true) → IsNewest (layout shape) (spot l q) b.mine o → h < 3
+    → IsLawfulStep shape m.view (load_cell o l h) (cell_effect shape m.view o l h)
+may_read shape m b q o l h one own lane N low =
+    let at = (own.rows N.place N.own N.at).1 in
+    let is = N.offset in
+    let three = three_words shape l lane.1 in
+    may_cell shape m.view o l h (omega (arith, at, is)) lane.0 (omega (arith, low, three)) (inl (own_at shape m.view b (spot l q) o one N))
+
+cell_read : (shape : ShapeValue) (m m1 m2 m3 : PassValue) (b : Book) (q : List ℕ) (o l first sum ends : ℕ) → (m.view).books ≡ b ∷ []
+    → (l < length shape.lanes) × (is_measured shape l ≡ true) → (N : IsNewest (layout shape) (spot l q) b.mine o)
+    → HasStepped shape (cell_effect shape m.view o l 0) m first m1 → HasStepped shape (cell_effect shape m1.view o l 1) m1 sum m2
+    → HasStepped shape (cell_effect shape m2.view o l 2) m2 ends m3
+    → IsCell shape l (mine_chain (layout shape) (spot l q) (take N.place b.mine)) N.own.row first sum ends
+cell_read shape m m1 m2 m3 b q o l first sum ends one lane N made made1 made2 =
+    let three = three_words shape l lane.1 in
+    let one1 = read_books shape m m1 o l 0 first made ∙ one in
+    let one2 = read_books shape m1 m2 o l 1 sum made1 ∙ one1 in
+    record {
+      first_is = read_word shape m m1 b q o l 0 first made one N lane.0 (omega (arith, three));
+      sum_is = read_word shape m1 m2 b q o l 1 sum made1 one1 N lane.0 (omega (arith, three));
+      ends_is = read_word shape m2 m3 b q o l 2 ends made2 one2 N lane.0 (omega (arith, three));
+    }
+
+quad_there : (shape : ShapeValue) (b : Book) (q : List ℕ) (o l : ℕ) (words : CellWords) → IsShape shape → l < length shape.lanes
     → is_measured shape l ≡ true → IsBookOf shape b → (N : IsNewest (layout shape) (spot l q) b.mine o)
     → IsCell shape l (mine_chain (layout shape) (spot l q) (take N.place b.mine)) N.own.row words.first words.sum words.ends
     → AreWordsOf words (link_to_newest (mine_chain (layout shape) (spot l q) (take N.place b.mine)))
@@ -170,6 +206,16 @@ quad_there shape b q o l words lawful there takes own N w =
     subst (λ (d : List (ℕ × RowValue)). AreWordsOf words (link_to_newest c) (quad_of (amounts_in_chain shape l d))) (sym N.chain)
     (version_to_cell sh l c N.own.row words takes (omega (arith, small, room)) (quad_is_lawful (measure_of shape l N.own.row ∷ amounts_in_chain shape l c) low)
     w.first_is w.sum_is w.ends_is)
+
+pub quad_read : (shape : ShapeValue) (m m1 m2 m3 : PassValue) (b : Book) (q : List ℕ) (o l first sum ends : ℕ) → IsShape shape → (m.view).books ≡ b ∷ []
+    → IsBookOf shape b → (l < length shape.lanes) × (is_measured shape l ≡ true) → (N : IsNewest (layout shape) (spot l q) b.mine o)
+    → HasStepped shape (cell_effect shape m.view o l 0) m first m1 → HasStepped shape (cell_effect shape m1.view o l 1) m1 sum m2
+    → HasStepped shape (cell_effect shape m2.view o l 2) m2 ends m3
+    → AreWordsOf (record { first = first; sum = sum; ends = ends }) (link_to_newest (mine_chain (layout shape) (spot l q) (take N.place b.mine)))
+    (quad_of (amounts_in_chain shape l (mine_chain (layout shape) (spot l q) b.mine)))
+quad_read shape m m1 m2 m3 b q o l first sum ends lawful one own lane N made made1 made2 =
+    quad_there shape b q o l (record { first = first; sum = sum; ends = ends }) lawful lane.0 lane.1 own N
+    (cell_read shape m m1 m2 m3 b q o l first sum ends one lane N made made1 made2)
 
 -- the words of a new cell
 pub quad_cell : (shape : ShapeValue) (l : ℕ) (c : List (ℕ × RowValue)) (row : RowValue) (q : QuadValue) (previous : ℕ) (words : CellWords)

@@ -1,14 +1,18 @@
-use Rattle.std.proofs.Common.{◌∙◌, inr, length, map, List, ap, sym, arith}
+use Rattle.std.proofs.Common.{◌∙◌, ◌+◌, ◌-◌, ◌*◌, ◌≤◌, inr, length, map, List, ap, sym, arith}
+use Rattle.cf_row.specs.Words.{word_count}
 use Rattle.cf_row.specs.declared.row.Entry.{Entry}
 use Rattle.cf_shape.specs.Lanes.{ShapeValue}
 use Rattle.cf_append.specs.Appends.{HasMade}
+use Rattle.cf_append.specs.Paths.{KeepsSeen}
 use Rattle.cf_append.proofs.Appending.{may_begin}
 use Rattle.cf_append.proofs.Pathing.{filings_still, filings_leaves, leaf_of, remembers_still}
 use Rattle.cf_append.proofs.Cells.{may_close}
 use Rattle.cf_append.proofs.Settling.{knows_still, goes_then}
 use Rattle.cf_append.proofs.Walking.{strides_then}
 use Rattle.cf_append.proofs.Whole.{goes_by, HasBegun, HasCells, HasEnded, begun_book, begun_self, begun_filings, cells_self, cells_writer, ended_strides, appended, appended_stops, late, late_strides, all_steps, path_within}
+use Rattle.cf_append.proofs.appends.append_near.Given.{Over}
 use Rattle.cf_append.proofs.appends.append_near.Goals as goal
+use Rattle.cf_append.proofs.appends.append_near.Goals.{After-fill, After-fill_cells}
 
 pub returns-in_default-clause-steps : goal.returns-in_default-clause-steps
 returns-in_default-clause-steps g c =
@@ -50,104 +54,97 @@ returns-then-found-from-clause-steps g c =
     let one = c.take_ticket-found.ensures.steps in
     omega (arith, some, one, path_within s (length s.lanes))
 
+-- the ticket was taken and filled
+begun : (g : Over) (c : After-fill g)
+    → HasBegun c.args.log.now.shape c.args.row.now c.make_paths.new.pass c.take_ticket-found.new.pass c.fill.new.pass c.take_ticket-found.result
+begun g c =
+    let low = c.if-found-from.false in
+    let wide = c.from.ensures in
+    let room = c.capacity.ensures.capacity ∙ ap (λ (x : ShapeValue). x.capacity) c.shape.ensures.shape in
+    record { room = omega (arith, low, wide, room); took = c.take_ticket-found.ensures.made; is = c.fill.ensures.pass }
+
 pub fill_cells-requires-clause-book : goal.fill_cells-requires-clause-book
 fill_cells-requires-clause-book g c =
     let s = c.args.log.now.shape in
     let row = c.args.row.now in
-    let low = c.if-found-from.false in
-    let wide = c.from.ensures in
-    let room = c.capacity.ensures.capacity ∙ ap (λ (x : ShapeValue). x.capacity) c.shape.ensures.shape in
-    let B : HasBegun s row c.make_paths.new.pass c.take_ticket-found.new.pass c.fill.new.pass c.take_ticket-found.result =
-    record { room = omega (arith, low, wide, room); took = c.take_ticket-found.ensures.made; is = c.fill.ensures.pass } in
-    begun_book s row c.make_paths.new.pass c.take_ticket-found.new.pass c.fill.new.pass c.take_ticket-found.result B
+    begun_book s row c.make_paths.new.pass c.take_ticket-found.new.pass c.fill.new.pass c.take_ticket-found.result
+    (begun g (goal.at.fill_cells-requires-clause-book g c).After-fill)
 
 pub fill_cells-requires-clause-filled : goal.fill_cells-requires-clause-filled
 fill_cells-requires-clause-filled g c =
     let s = c.args.log.now.shape in
     let row = c.args.row.now in
-    let low = c.if-found-from.false in
-    let wide = c.from.ensures in
-    let room = c.capacity.ensures.capacity ∙ ap (λ (x : ShapeValue). x.capacity) c.shape.ensures.shape in
-    let B : HasBegun s row c.make_paths.new.pass c.take_ticket-found.new.pass c.fill.new.pass c.take_ticket-found.result =
-    record { room = omega (arith, low, wide, room); took = c.take_ticket-found.ensures.made; is = c.fill.ensures.pass } in
-    begun_self s row c.make_paths.new.pass c.take_ticket-found.new.pass c.fill.new.pass c.take_ticket-found.result B
+    begun_self s row c.make_paths.new.pass c.take_ticket-found.new.pass c.fill.new.pass c.take_ticket-found.result
+    (begun g (goal.at.fill_cells-requires-clause-filled g c).After-fill)
 
 pub fill_cells-requires-clause-filed : goal.fill_cells-requires-clause-filed
 fill_cells-requires-clause-filed g c =
     let s = c.args.log.now.shape in
     let row = c.args.row.now in
+    begun_filings s row c.make_paths.new.pass c.take_ticket-found.new.pass c.fill.new.pass c.take_ticket-found.result c.in-Some.filed
+    (length s.lanes) (begun g (goal.at.fill_cells-requires-clause-filed g c).After-fill) c.in-Some.ensures.answer
+
+-- and its cells
+cells : (g : Over) (c : After-fill_cells g)
+    → HasCells c.args.log.now.shape c.args.row.now c.make_paths.new.pass c.take_ticket-found.new.pass c.fill.new.pass c.fill_cells.new.pass
+    c.take_ticket-found.result
+cells g c =
     let low = c.if-found-from.false in
     let wide = c.from.ensures in
     let room = c.capacity.ensures.capacity ∙ ap (λ (x : ShapeValue). x.capacity) c.shape.ensures.shape in
-    let B : HasBegun s row c.make_paths.new.pass c.take_ticket-found.new.pass c.fill.new.pass c.take_ticket-found.result =
-    record { room = omega (arith, low, wide, room); took = c.take_ticket-found.ensures.made; is = c.fill.ensures.pass } in
-    begun_filings s row c.make_paths.new.pass c.take_ticket-found.new.pass c.fill.new.pass c.take_ticket-found.result c.in-Some.filed
-    (length s.lanes) B c.in-Some.ensures.answer
+    record {
+      begun = record { room = omega (arith, low, wide, room); took = c.take_ticket-found.ensures.made; is = c.fill.ensures.pass };
+      strides = c.fill_cells.ensures.strides;
+      filled = c.fill_cells.ensures.filled;
+    }
 
 pub link_all-requires-clause-writer : goal.link_all-requires-clause-writer
 link_all-requires-clause-writer g c =
     let s = c.args.log.now.shape in
     let row = c.args.row.now in
-    let low = c.if-found-from.false in
-    let wide = c.from.ensures in
-    let room = c.capacity.ensures.capacity ∙ ap (λ (x : ShapeValue). x.capacity) c.shape.ensures.shape in
-    let C : HasCells s row c.make_paths.new.pass c.take_ticket-found.new.pass c.fill.new.pass c.fill_cells.new.pass c.take_ticket-found.result = record {
-      begun = record { room = omega (arith, low, wide, room); took = c.take_ticket-found.ensures.made; is = c.fill.ensures.pass };
-      strides = c.fill_cells.ensures.strides;
-      filled = c.fill_cells.ensures.filled;
-    } in
-    cells_writer s row c.make_paths.new.pass c.take_ticket-found.new.pass c.fill.new.pass c.fill_cells.new.pass c.take_ticket-found.result C
+    cells_writer s row c.make_paths.new.pass c.take_ticket-found.new.pass c.fill.new.pass c.fill_cells.new.pass c.take_ticket-found.result
+    (cells g (goal.at.link_all-requires-clause-writer g c).After-fill_cells)
 
 pub link_all-requires-clause-linked : goal.link_all-requires-clause-linked
 link_all-requires-clause-linked g c =
     let s = c.args.log.now.shape in
     let row = c.args.row.now in
-    let low = c.if-found-from.false in
-    let wide = c.from.ensures in
-    let room = c.capacity.ensures.capacity ∙ ap (λ (x : ShapeValue). x.capacity) c.shape.ensures.shape in
-    let C : HasCells s row c.make_paths.new.pass c.take_ticket-found.new.pass c.fill.new.pass c.fill_cells.new.pass c.take_ticket-found.result = record {
-      begun = record { room = omega (arith, low, wide, room); took = c.take_ticket-found.ensures.made; is = c.fill.ensures.pass };
-      strides = c.fill_cells.ensures.strides;
-      filled = c.fill_cells.ensures.filled;
-    } in
-    cells_self s row c.make_paths.new.pass c.take_ticket-found.new.pass c.fill.new.pass c.fill_cells.new.pass c.take_ticket-found.result C
+    cells_self s row c.make_paths.new.pass c.take_ticket-found.new.pass c.fill.new.pass c.fill_cells.new.pass c.take_ticket-found.result
+    (cells g (goal.at.link_all-requires-clause-linked g c).After-fill_cells)
 
 pub link_all-requires-clause-filed : goal.link_all-requires-clause-filed
 link_all-requires-clause-filed g c =
     let s = c.args.log.now.shape in
     let row = c.args.row.now in
-    let low = c.if-found-from.false in
-    let wide = c.from.ensures in
-    let room = c.capacity.ensures.capacity ∙ ap (λ (x : ShapeValue). x.capacity) c.shape.ensures.shape in
-    let B : HasBegun s row c.make_paths.new.pass c.take_ticket-found.new.pass c.fill.new.pass c.take_ticket-found.result =
-    record { room = omega (arith, low, wide, room); took = c.take_ticket-found.ensures.made; is = c.fill.ensures.pass } in
     filings_still s row c.fill.new.pass c.fill_cells.new.pass c.in-Some.filed (length s.lanes) c.fill_cells.ensures.strides
     (begun_filings s row c.make_paths.new.pass c.take_ticket-found.new.pass c.fill.new.pass c.take_ticket-found.result c.in-Some.filed
-    (length s.lanes) B c.in-Some.ensures.answer)
+    (length s.lanes) (cells g (goal.at.link_all-requires-clause-filed g c).After-fill_cells).begun c.in-Some.ensures.answer)
 
 pub finish_record-requires-clause-lawful : goal.finish_record-requires-clause-lawful
 finish_record-requires-clause-lawful g c =
     may_close c.args.log.now.shape c.fill_cells.new.pass c.link_all.new.pass c.take_ticket-found.result c.args.row.now c.shape.ensures.lawful
     c.link_all.ensures.linked
 
-pub returns-clause-answer : goal.returns-clause-answer
-returns-clause-answer g c =
+-- the record was finished
+made : (g : Over) (c : goal.After-move_tail g) → HasMade c.args.log.now.shape c.args.row.now c.args.pass.now c.make_paths.new.pass
+made g c =
     let s = c.args.log.now.shape in
-    let row = c.args.row.now in
-    let m = c.args.pass.now in
-    let p = c.make_paths.new.pass in
-    let o = c.take_ticket-found.result in
-    let low = c.if-found-from.false in
-    let wide = c.from.ensures in
-    let room = c.capacity.ensures.capacity ∙ ap (λ (x : ShapeValue). x.capacity) c.shape.ensures.shape in
-    let P : HasMade s row m p =
     record {
       strides = c.make_paths.ensures.strides;
       used = c.make_paths.ensures.used;
       leaves = map leaf_of c.in-Some.filed;
-      whole = filings_leaves s row p.view c.in-Some.filed (length s.lanes) c.shape.ensures.lawful (omega arith) c.in-Some.ensures.answer;
-    } in
-    let E : HasEnded s row p c.take_ticket-found.new.pass c.fill.new.pass c.fill_cells.new.pass c.link_all.new.pass c.finish_record.new.pass o = record {
+      whole = filings_leaves s c.args.row.now c.make_paths.new.pass.view c.in-Some.filed (length s.lanes) c.shape.ensures.lawful (omega arith)
+          c.in-Some.ensures.answer;
+    }
+
+ended : (g : Over) (c : goal.After-move_tail g)
+    → HasEnded c.args.log.now.shape c.args.row.now c.make_paths.new.pass c.take_ticket-found.new.pass c.fill.new.pass c.fill_cells.new.pass
+    c.link_all.new.pass c.finish_record.new.pass c.take_ticket-found.result
+ended g c =
+    let low = c.if-found-from.false in
+    let wide = c.from.ensures in
+    let room = c.capacity.ensures.capacity ∙ ap (λ (x : ShapeValue). x.capacity) c.shape.ensures.shape in
+    record {
       cells = record {
         begun = record { room = omega (arith, low, wide, room); took = c.take_ticket-found.ensures.made; is = c.fill.ensures.pass };
         strides = c.fill_cells.ensures.strides;
@@ -156,39 +153,39 @@ returns-clause-answer g c =
       strides = c.link_all.ensures.strides;
       linked = c.link_all.ensures.linked;
       finishes = c.finish_record.ensures.made;
-    } in
-    appended s row m p c.take_ticket-found.new.pass c.fill.new.pass c.fill_cells.new.pass c.link_all.new.pass c.finish_record.new.pass c.move_tail.new.pass o
-    (sym c.over.ensures ∙ c.if-over.false) P E c.move_tail.ensures.books c.move_tail.ensures.stops
+    }
+
+went : (g : Over) (c : goal.After-move_tail g) → KeepsSeen c.make_paths.new.pass c.finish_record.new.pass
+went g c =
+    ended_strides c.args.log.now.shape c.args.row.now c.make_paths.new.pass c.take_ticket-found.new.pass c.fill.new.pass c.fill_cells.new.pass
+    c.link_all.new.pass c.finish_record.new.pass c.take_ticket-found.result (ended g c)
+
+-- the steps since the paths were made
+stepped : (g : Over) (c : goal.After-move_tail g)
+    → c.move_tail.new.steps ≤ c.make_paths.new.steps + word_count c.args.log.now.shape.schema + 3 + 8 * length c.args.log.now.shape.lanes
+    + 2 * (length (c.move_tail.new.pass.view).seen - length (c.args.pass.now.view).seen + 1)
+stepped g c =
+    let before = ap (λ (es : List Entry). length es) c.make_paths.ensures.strides.seen in
+    let after = ap (λ (es : List Entry). length es) (went g c).seen in
+    let two = c.take_ticket-found.ensures.steps in
+    let three = c.fill.ensures.steps in
+    let four = c.fill_cells.ensures.steps in
+    let five = c.link_all.ensures.steps in
+    let six = c.finish_record.ensures.steps in
+    let seven = c.move_tail.ensures.steps in
+    omega (arith, before, after, two, three, four, five, six, seven)
+
+pub returns-clause-answer : goal.returns-clause-answer
+returns-clause-answer g c =
+    appended c.args.log.now.shape c.args.row.now c.args.pass.now c.make_paths.new.pass c.take_ticket-found.new.pass c.fill.new.pass c.fill_cells.new.pass
+    c.link_all.new.pass c.finish_record.new.pass c.move_tail.new.pass c.take_ticket-found.result
+    (sym c.over.ensures ∙ c.if-over.false) (made g c) (ended g c) c.move_tail.ensures.books c.move_tail.ensures.stops
 
 pub returns-clause-stops : goal.returns-clause-stops
 returns-clause-stops g c =
-    let s = c.args.log.now.shape in
-    let row = c.args.row.now in
-    let m = c.args.pass.now in
-    let p = c.make_paths.new.pass in
-    let o = c.take_ticket-found.result in
-    let low = c.if-found-from.false in
-    let wide = c.from.ensures in
-    let room = c.capacity.ensures.capacity ∙ ap (λ (x : ShapeValue). x.capacity) c.shape.ensures.shape in
-    let P : HasMade s row m p =
-    record {
-      strides = c.make_paths.ensures.strides;
-      used = c.make_paths.ensures.used;
-      leaves = map leaf_of c.in-Some.filed;
-      whole = filings_leaves s row p.view c.in-Some.filed (length s.lanes) c.shape.ensures.lawful (omega arith) c.in-Some.ensures.answer;
-    } in
-    let E : HasEnded s row p c.take_ticket-found.new.pass c.fill.new.pass c.fill_cells.new.pass c.link_all.new.pass c.finish_record.new.pass o = record {
-      cells = record {
-        begun = record { room = omega (arith, low, wide, room); took = c.take_ticket-found.ensures.made; is = c.fill.ensures.pass };
-        strides = c.fill_cells.ensures.strides;
-        filled = c.fill_cells.ensures.filled;
-      };
-      strides = c.link_all.ensures.strides;
-      linked = c.link_all.ensures.linked;
-      finishes = c.finish_record.ensures.made;
-    } in
-    appended_stops s row m p c.take_ticket-found.new.pass c.fill.new.pass c.fill_cells.new.pass c.link_all.new.pass c.finish_record.new.pass
-    c.move_tail.new.pass o P E c.move_tail.ensures.stops
+    appended_stops c.args.log.now.shape c.args.row.now c.args.pass.now c.make_paths.new.pass c.take_ticket-found.new.pass c.fill.new.pass
+    c.fill_cells.new.pass c.link_all.new.pass c.finish_record.new.pass c.move_tail.new.pass c.take_ticket-found.result (made g c) (ended g c)
+    c.move_tail.ensures.stops
 
 pub returns-then-found-from-clause-goes_on : goal.returns-then-found-from-clause-goes_on
 returns-then-found-from-clause-goes_on g c =
@@ -201,27 +198,10 @@ returns-then-found-from-clause-goes_on g c =
 
 pub returns-clause-goes_on : goal.returns-clause-goes_on
 returns-clause-goes_on g c =
-    let s = c.args.log.now.shape in
-    let row = c.args.row.now in
-    let p = c.make_paths.new.pass in
-    let o = c.take_ticket-found.result in
-    let d = c.finish_record.new.pass in
-    let low = c.if-found-from.false in
-    let wide = c.from.ensures in
-    let room = c.capacity.ensures.capacity ∙ ap (λ (x : ShapeValue). x.capacity) c.shape.ensures.shape in
-    let E : HasEnded s row p c.take_ticket-found.new.pass c.fill.new.pass c.fill_cells.new.pass c.link_all.new.pass c.finish_record.new.pass o = record {
-      cells = record {
-        begun = record { room = omega (arith, low, wide, room); took = c.take_ticket-found.ensures.made; is = c.fill.ensures.pass };
-        strides = c.fill_cells.ensures.strides;
-        filled = c.fill_cells.ensures.filled;
-      };
-      strides = c.link_all.ensures.strides;
-      linked = c.link_all.ensures.linked;
-      finishes = c.finish_record.ensures.made;
-    } in
     let m = c.args.pass.now in
-    let went = ended_strides s row p c.take_ticket-found.new.pass c.fill.new.pass c.fill_cells.new.pass c.link_all.new.pass d o E in
-    goes_then m d c.move_tail.new.pass (goes_by m d (strides_then m p d c.make_paths.ensures.strides went)) c.move_tail.ensures.goes_on
+    let d = c.finish_record.new.pass in
+    goes_then m d c.move_tail.new.pass (goes_by m d (strides_then m c.make_paths.new.pass d c.make_paths.ensures.strides (went g c)))
+    c.move_tail.ensures.goes_on
 
 pub returns-then-found-from-clause-near : goal.returns-then-found-from-clause-near
 returns-then-found-from-clause-near g c =
@@ -235,58 +215,17 @@ returns-then-found-from-clause-near g c =
 pub returns-clause-near : goal.returns-clause-near
 returns-clause-near g c =
     let s = c.args.log.now.shape in
-    let row = c.args.row.now in
-    let p = c.make_paths.new.pass in
-    let o = c.take_ticket-found.result in
     let d = c.finish_record.new.pass in
-    let low = c.if-found-from.false in
-    let wide = c.from.ensures in
-    let room = c.capacity.ensures.capacity ∙ ap (λ (x : ShapeValue). x.capacity) c.shape.ensures.shape in
-    let E : HasEnded s row p c.take_ticket-found.new.pass c.fill.new.pass c.fill_cells.new.pass c.link_all.new.pass c.finish_record.new.pass o = record {
-      cells = record {
-        begun = record { room = omega (arith, low, wide, room); took = c.take_ticket-found.ensures.made; is = c.fill.ensures.pass };
-        strides = c.fill_cells.ensures.strides;
-        filled = c.fill_cells.ensures.filled;
-      };
-      strides = c.link_all.ensures.strides;
-      linked = c.link_all.ensures.linked;
-      finishes = c.finish_record.ensures.made;
-    } in
-    let went = ended_strides s row p c.take_ticket-found.new.pass c.fill.new.pass c.fill_cells.new.pass c.link_all.new.pass d o E in
     remembers_still s d.view c.move_tail.new.pass.view c.make_paths.new.leaves (knows_still d.view c.move_tail.new.pass.view c.move_tail.ensures.known)
-    (remembers_still s p.view d.view c.make_paths.new.leaves went.knows c.make_paths.ensures.near)
+    (remembers_still s c.make_paths.new.pass.view d.view c.make_paths.new.leaves (went g c).knows c.make_paths.ensures.near)
 
 pub returns-clause-steps : goal.returns-clause-steps
 returns-clause-steps g c =
     let s = c.args.log.now.shape in
-    let row = c.args.row.now in
-    let p = c.make_paths.new.pass in
-    let o = c.take_ticket-found.result in
-    let low = c.if-found-from.false in
-    let wide = c.from.ensures in
-    let room = c.capacity.ensures.capacity ∙ ap (λ (x : ShapeValue). x.capacity) c.shape.ensures.shape in
-    let E : HasEnded s row p c.take_ticket-found.new.pass c.fill.new.pass c.fill_cells.new.pass c.link_all.new.pass c.finish_record.new.pass o = record {
-      cells = record {
-        begun = record { room = omega (arith, low, wide, room); took = c.take_ticket-found.ensures.made; is = c.fill.ensures.pass };
-        strides = c.fill_cells.ensures.strides;
-        filled = c.fill_cells.ensures.filled;
-      };
-      strides = c.link_all.ensures.strides;
-      linked = c.link_all.ensures.linked;
-      finishes = c.finish_record.ensures.made;
-    } in
-    let before = ap (λ (es : List Entry). length es) c.make_paths.ensures.strides.seen in
-    let after = ap (λ (es : List Entry). length es)
-    (ended_strides s row p c.take_ticket-found.new.pass c.fill.new.pass c.fill_cells.new.pass c.link_all.new.pass c.finish_record.new.pass o E).seen in
-    let one = c.make_paths.ensures.steps in
-    let two = c.take_ticket-found.ensures.steps in
-    let three = c.fill.ensures.steps in
-    let four = c.fill_cells.ensures.steps in
-    let five = c.link_all.ensures.steps in
-    let six = c.finish_record.ensures.steps in
-    let seven = c.move_tail.ensures.steps in
+    let some = c.make_paths.ensures.steps in
+    let rest = stepped g c in
     let all = all_steps s (length s.lanes) c.shape.ensures.lawful (omega arith) in
-    omega (arith, before, after, one, two, three, four, five, six, seven, all)
+    omega (arith, some, rest, all)
 
 pub returns-in_default-clause-near_steps : goal.returns-in_default-clause-near_steps
 returns-in_default-clause-near_steps g c = λ kept. (let some = c.make_paths.ensures.near_steps kept in omega (arith, some))
@@ -299,31 +238,6 @@ returns-then-found-from-clause-near_steps g c = λ kept.
 
 pub returns-clause-near_steps : goal.returns-clause-near_steps
 returns-clause-near_steps g c = λ kept.
-    let s = c.args.log.now.shape in
-    let row = c.args.row.now in
-    let p = c.make_paths.new.pass in
-    let o = c.take_ticket-found.result in
-    let low = c.if-found-from.false in
-    let wide = c.from.ensures in
-    let room = c.capacity.ensures.capacity ∙ ap (λ (x : ShapeValue). x.capacity) c.shape.ensures.shape in
-    let E : HasEnded s row p c.take_ticket-found.new.pass c.fill.new.pass c.fill_cells.new.pass c.link_all.new.pass c.finish_record.new.pass o = record {
-      cells = record {
-        begun = record { room = omega (arith, low, wide, room); took = c.take_ticket-found.ensures.made; is = c.fill.ensures.pass };
-        strides = c.fill_cells.ensures.strides;
-        filled = c.fill_cells.ensures.filled;
-      };
-      strides = c.link_all.ensures.strides;
-      linked = c.link_all.ensures.linked;
-      finishes = c.finish_record.ensures.made;
-    } in
-    let before = ap (λ (es : List Entry). length es) c.make_paths.ensures.strides.seen in
-    let after = ap (λ (es : List Entry). length es)
-    (ended_strides s row p c.take_ticket-found.new.pass c.fill.new.pass c.fill_cells.new.pass c.link_all.new.pass c.finish_record.new.pass o E).seen in
-    let one = c.make_paths.ensures.near_steps kept in
-    let two = c.take_ticket-found.ensures.steps in
-    let three = c.fill.ensures.steps in
-    let four = c.fill_cells.ensures.steps in
-    let five = c.link_all.ensures.steps in
-    let six = c.finish_record.ensures.steps in
-    let seven = c.move_tail.ensures.steps in
-    omega (arith, before, after, one, two, three, four, five, six, seven)
+    let some = c.make_paths.ensures.near_steps kept in
+    let rest = stepped g c in
+    omega (arith, some, rest)

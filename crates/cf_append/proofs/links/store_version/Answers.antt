@@ -12,11 +12,11 @@ use Rattle.cf_words.specs.Words.{spot, link_to_newest}
 use Rattle.cf_law.specs.Passes.{Book}
 use Rattle.cf_law.specs.Shapes.{path_in}
 use Rattle.cf_table.specs.Values.{book_of}
-use Rattle.cf_append.specs.Linking.{amounts_in_chain, key_path, leaf_chain, cell_from}
+use Rattle.cf_append.specs.Linking.{amounts_in_chain, key_path, leaf_chain}
 use Rattle.cf_append.proofs.Newest.{amounts_few, top_few, quad_cell}
 use Rattle.cf_shape.proofs.KeyLevels.{levels_two}
 use Rattle.cf_append.proofs.Pathing.{filed_some, filed_none, filed_path}
-use Rattle.cf_append.proofs.Cells.{cell_next, cell_low, unmeasured_next, head_chain, book_same, filled_skip, filled_more, may_version, store_strides}
+use Rattle.cf_append.proofs.Cells.{cell_next, cell_low, unmeasured_next, filed_newest, book_same, filled_skip, filled_more, may_version, store_strides}
 use Rattle.cf_append.proofs.links.store_version.Goals as goal
 use Rattle.cf_law.proofs.Shapes.{three_words}
 
@@ -113,33 +113,21 @@ returns-clause-filled g c =
 
 pub quad_with-quad-requires-clause-previous : goal.quad_with-quad-requires-clause-previous
 quad_with-quad-requires-clause-previous g c =
-    let s = c.args.log.now.shape in
-    let l = c.args.cell.lane in
-    let row = c.args.row.now in
-    let filed = filed_some s row c.args.pass.now.view l c.args.filing c.in-Some.at c.in-Some.is c.requires.filing in
-    let key = key_of s l row in
-    let m = c.args.pass.now in
-    let n = c.own_head-previous.new.pass in
-    let previous =
-    subst (λ (k : ℕ). c.own_head-previous.result ≡ link_to_newest (leaf_chain s l k (book_of n.view))) filed.key
-    (head_chain s m n c.args.cell.offset (cell_from s l) c.own_head-previous.result row
-    (spot l (key_path s l c.in-Some.at.key)) c.requires.filled c.own_head-previous.ensures.books c.own_head-previous.ensures.head) in
-    previous
+    filed_newest c.args.log.now.shape c.args.row.now c.args.pass.now c.own_head-previous.new.pass c.args.cell.offset c.args.cell.lane
+    c.own_head-previous.result c.args.filing c.in-Some.at c.in-Some.is c.requires.filing c.requires.filled c.own_head-previous.ensures.books
+    c.own_head-previous.ensures.head
 
 pub of-words-requires-clause-link : goal.of-words-requires-clause-link
 of-words-requires-clause-link g c =
     let s = c.args.log.now.shape in
     let l = c.args.cell.lane in
-    let row = c.args.row.now in
-    let filed = filed_some s row c.args.pass.now.view l c.args.filing c.in-Some.at c.in-Some.is c.requires.filing in
-    let key = key_of s l row in
-    let m = c.args.pass.now in
+    let key = key_of s l c.args.row.now in
     let n = c.own_head-previous.new.pass in
     let previous =
-    subst (λ (k : ℕ). c.own_head-previous.result ≡ link_to_newest (leaf_chain s l k (book_of n.view))) filed.key
-    (head_chain s m n c.args.cell.offset (cell_from s l) c.own_head-previous.result row
-    (spot l (key_path s l c.in-Some.at.key)) c.requires.filled c.own_head-previous.ensures.books c.own_head-previous.ensures.head) in
-    let own = book_same s m n c.requires.book c.own_head-previous.ensures.books in
+    filed_newest c.args.log.now.shape c.args.row.now c.args.pass.now c.own_head-previous.new.pass c.args.cell.offset c.args.cell.lane
+    c.own_head-previous.result c.args.filing c.in-Some.at c.in-Some.is c.requires.filing c.requires.filled c.own_head-previous.ensures.books
+    c.own_head-previous.ensures.head in
+    let own = book_same s c.args.pass.now n c.requires.book c.own_head-previous.ensures.books in
     let room = c.shape-shape.ensures.lawful.capacity in
     let most = top_few s (spot l (key_path s l key)) (book_of n.view) own in
     omega (arith, room, previous, most)
@@ -172,15 +160,13 @@ store_three-requires-clause-words g c =
     let s = c.args.log.now.shape in
     let l = c.args.cell.lane in
     let row = c.args.row.now in
-    let filed = filed_some s row c.args.pass.now.view l c.args.filing c.in-Some.at c.in-Some.is c.requires.filing in
     let key = key_of s l row in
     let same = c.shape-shape.ensures.shape in
-    let m = c.args.pass.now in
     let n = c.own_head-previous.new.pass in
     let previous =
-    subst (λ (k : ℕ). c.own_head-previous.result ≡ link_to_newest (leaf_chain s l k (book_of n.view))) filed.key
-    (head_chain s m n c.args.cell.offset (cell_from s l) c.own_head-previous.result row
-    (spot l (key_path s l c.in-Some.at.key)) c.requires.filled c.own_head-previous.ensures.books c.own_head-previous.ensures.head) in
+    filed_newest c.args.log.now.shape c.args.row.now c.args.pass.now c.own_head-previous.new.pass c.args.cell.offset c.args.cell.lane
+    c.own_head-previous.result c.args.filing c.in-Some.at c.in-Some.is c.requires.filing c.requires.filled c.own_head-previous.ensures.books
+    c.own_head-previous.ensures.head in
     let z = c.quad_with-quad.new.pass in
     let measured : is_measured s l ≡ true = ap (λ (x : ShapeValue). is_measured x l) (sym same) ∙ (sym c.measures.ensures ∙ c.if-measures.true) in
     let kept = same_book n z c.quad_with-quad.ensures.books in
