@@ -4,7 +4,7 @@ use Rattle.cf_row.specs.Row.{RowValue}
 use Rattle.cf_shape.specs.Lanes.{ShapeValue}
 use Rattle.cf_law.specs.Passes.{Book, Pass}
 use Rattle.cf_law.specs.Events.{no_book}
-use Rattle.cf_table.specs.Values.{PassValue, LogValue, IsOf, book_of}
+use Rattle.cf_table.specs.Values.{PassValue, book_of}
 use Rattle.cf_append.specs.Appends.{Rests, HasAppendAnswer}
 use Rattle.cf_append.specs.declared.appends.AppendFault.{AppendFault}
 use Rattle.cf_append.specs.declared.appends.AppendFault.TheVariants.{Full, NodesFull}

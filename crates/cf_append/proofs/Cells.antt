@@ -1,6 +1,5 @@
 -- The cells and heads of a record in flight.
 use Rattle.std.proofs.Common.{◌≡◌, ℕ, ◌+◌, ◌-◌, ◌*◌, ◌^◌, ◌<◌, ◌≤◌, ◌==◌, zero, suc, inl, inr, List, [], ◌∷◌, length, take, set, get_or, Bool, true, false, cond, Option, Some, None, slice_get, refl, ap, sym, subst, ◌∙◌, arith}
-use Rattle.std.proofs.Math.Seq.{take-length}
 use Rattle.std.proofs.lemmas.Bool.{cases_lt, cases_eq, cases_Bool}
 use Rattle.std.proofs.lemmas.Bool.Decides.{nat_tests}
 use Rattle.cf_row.specs.Row.{RowValue}
@@ -10,13 +9,13 @@ use Rattle.cf_shape.specs.Lanes.{ShapeValue, IsShape, no_lane, lane_at, key_of, 
 use Rattle.cf_shape.specs.Nodes.{levels_of}
 use Rattle.cf_shape.specs.Uses.{Use, use_at, cell_words, cell_count, ticket_words, is_measured}
 use Rattle.cf_shape.specs.Uses.Use.{version}
-use Rattle.cf_shape.specs.Places.{place, sizes_of, head_slot}
+use Rattle.cf_shape.specs.Places.{sizes_of, head_slot}
 use Rattle.cf_shape.proofs.Counts.{count_cons, count_none}
 use Rattle.cf_shape.proofs.Used.{version_at, before_fits}
 use Rattle.cf_words.specs.Words.{Spot, spot, fresh_ticket, has, same_path, version_word, link_to_newest}
 use Rattle.cf_words.specs.Law.{IsWhole, Skips}
 use Rattle.cf_law.specs.Passes.{Own, Book, Flight, Pass}
-use Rattle.cf_law.specs.Steps.{Knows, IsNext, ticket_of, book_with_flight, book_with_head, book_with_record, own_word, own_lane_word, mine_chain, pass_with_head}
+use Rattle.cf_law.specs.Steps.{Knows, IsNext, ticket_of, book_with_flight, book_with_head, book_with_record, own_word, own_lane_word, mine_chain}
 use Rattle.cf_law.specs.Steps.Act.{store_cell, store_head, finish_record}
 use Rattle.cf_law.specs.Readers.{own_top}
 use Rattle.cf_law.specs.Events.{no_book}
@@ -41,9 +40,6 @@ count_more (x ∷ xs) (suc l) lt = omega (arith, count_cons x (take (suc l) xs),
 
 pub cell_first : (s : ShapeValue) → cell_from s 0 ≡ word_count s.schema + 1
 cell_first s = omega (arith, count_none)
-
-pub cell_last : (s : ShapeValue) → cell_from s (length s.lanes) ≡ word_count s.schema + 1 + cell_count s.lanes
-cell_last s = (let e = ap cell_count (take-length s.lanes) in omega (arith, e))
 
 pub cell_next : (s : ShapeValue) (l : ℕ) → l < length s.lanes → cell_from s (l + 1) ≡ cell_from s l + cell_words (lane_at s l)
 cell_next s l lt =
@@ -102,18 +98,6 @@ filled_at s o row j k m n e F = subst (λ (i : ℕ). HasFilled s o row i m n) e 
 pub filled_writer : (s : ShapeValue) (o : ℕ) (row : RowValue) (k : ℕ) (m n : PassValue) → HasFilled s o row k m n
     → (book_of n.view).writer ≡ (book_of m.view).writer
 filled_writer s o row k m n F = ap (λ (b : Book). b.writer) (the_book n.view (with_flight o row F.filled [] (book_of m.view)) F.books)
-
--- An own head was loaded.
-pub walk_strides : (shape : ShapeValue) (m n : PassValue) (s : Spot) (node d w found : ℕ) → HasStepped shape (walk_effect shape m.view s node d w) m found n
-    → KeepsSeen m n
-walk_strides shape m n s node d w found made =
-    strides_by m n
-    (pass_with_head (place (sizes_of shape) (head_slot (sizes_of shape) node d w)) w
-    (spot s.lane (d ∷ s.path)) m.view found) made.same made.told.is refl refl refl (λ r k h. h) (omega arith)
-
-pub walk_books : (shape : ShapeValue) (m n : PassValue) (s : Spot) (node d w found : ℕ) → HasStepped shape (walk_effect shape m.view s node d w) m found n
-    → (n.view).books ≡ (m.view).books
-walk_books shape m n s node d w found made = ap (λ (p : Pass). p.books) made.told.is
 
 pub walk_own : (shape : ShapeValue) (m n : PassValue) (s : Spot) (node d w found : ℕ) → HasStepped shape (walk_effect shape m.view s node d w) m found n
     → (m.view).books ≡ book_of m.view ∷ [] → w ≡ (book_of m.view).writer
@@ -257,10 +241,6 @@ may_top shape m o l node d row q L leads knows =
     may_head shape m.view b (flight_at o row L.filled (linked_to shape row l)) l node d o q L.books refl refl
     (whole_ticket shape o row L.filled (linked_to shape row l) b.writer L.whole) (not_linked shape row l l (omega arith)) leads knows
 
-pub head_strides : (shape : ShapeValue) (m n : PassValue) (l node d o : ℕ) → HasSteppedUnseen shape (head_effect shape m.view l node d o) m n → KeepsSeen m n
-head_strides shape m n l node d o stored =
-    strides_by m n ((head_effect shape m.view l node d o).after 0 []) stored.made.same stored.made.told.is refl refl refl (λ r k h. h) (omega arith)
-
 one_more : (l : ℕ) → suc l ≡ l + 1
 one_more l = omega arith
 
@@ -302,10 +282,6 @@ linked_then shape o row j k m n z K L = record {
       (the_book n.view (with_flight o row K.filled (linked_to shape row j) (book_of m.view)) K.books);
   whole = L.whole;
 }
-
-pub linked_writer : (shape : ShapeValue) (o : ℕ) (row : RowValue) (k : ℕ) (m n : PassValue) → HasLinked shape o row k m n
-    → (book_of n.view).writer ≡ (book_of m.view).writer
-linked_writer shape o row k m n L = ap (λ (b : Book). b.writer) (the_book n.view (with_flight o row L.filled (linked_to shape row k) (book_of m.view)) L.books)
 
 pub may_close : (shape : ShapeValue) (m n : PassValue) (o : ℕ) (row : RowValue) → IsShape shape → HasLinked shape o row (length shape.lanes) m n
     → IsLawfulStep shape n.view (finish_record o) (finish_effect shape n.view o)
@@ -368,7 +344,8 @@ three_low s l i lane at =
 
 pub may_next : (s : ShapeValue) (p m : PassValue) (o l h i value : ℕ) (row : RowValue) → HasFilled s o row i p m
     → (l < length s.lanes) × (is_measured s l ≡ true) → h < 3 → i ≡ cell_from s l + h → path_in s row l ≡ Some (key_path s l (key_of s l row))
-    → value ≡ version_word (layout s) l h (row_chain s l row (book_of p.view)) row → IsLawfulStep s m.view (store_cell o i value) (store_effect m.view o i value)
+    → value ≡ version_word (layout s) l h (row_chain s l row (book_of p.view)) row
+        → IsLawfulStep s m.view (store_cell o i value) (store_effect m.view o i value)
 may_next s p m o l h i value row F lane low at leads is =
     let three = three_words s l lane.1 in
     let q : List ℕ = key_path s l (key_of s l row) in
@@ -392,16 +369,8 @@ pub second_filled : (s : ShapeValue) (p m n : PassValue) (o l i first sum : ℕ)
 second_filled s p m n o l i first sum row at F stored stored1 =
     next_filled s p m n o (i + 1) (i + 2) sum row (omega arith) (first_filled s p m o l i first row at F stored) stored1
 
-pub filled_kept : (shape : ShapeValue) (o : ℕ) (row : RowValue) (k : ℕ) (m n : PassValue) → HasFilled shape o row k m m → (n.view).books ≡ (m.view).books
-    → HasFilled shape o row k m n
-filled_kept shape o row k m n F kept = record { filled = F.filled; books = kept ∙ F.books; from = F.from; passed = F.passed }
-
 pub unmeasured_next : (s : ShapeValue) (l : ℕ) → l < length s.lanes → is_measured s l ≡ false → cell_from s (l + 1) ≡ cell_from s l + 1
 unmeasured_next s l there bare = omega (arith, cell_next s l there, cell_one s l bare)
-
-skip_words : (b : Bool) → 0 < cond {A = ℕ} b 3 1
-skip_words true = omega arith
-skip_words false = omega arith
 
 -- an own head, where the ticket in flight isn't linked
 pub head_chain : (shape : ShapeValue) (m n : PassValue) (o k v : ℕ) (row : RowValue) (q : Spot) → HasFilled shape o row k m m

@@ -17,10 +17,6 @@ drop_front : (xs ys : List ℕ) → drop (length xs) (xs ++ ys) ≡ ys
 drop_front [] ys = refl
 drop_front (x ∷ xs) ys = drop_front xs ys
 
--- the node of a lane and of the first so many nibbles of a key
-node_at_level : ℕ → ℕ → ℕ → ℕ → Node
-node_at_level lane levels key level = record { lane = lane; level = level; front = key / 16 ^ (levels - level) }
-
 -- the row's node of that spot
 abbrev pub IsRowNode : ShapeValue → RowValue → Spot → Node → Type 0
 IsRowNode shape row s n = Has (nodes_for shape row) n × (s ≡ spot n.lane (nibbles n.level n.front))

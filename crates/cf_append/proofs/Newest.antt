@@ -8,7 +8,6 @@ use Rattle.cf_fold.specs.Cells.{AreWordsOf}
 use Rattle.cf_fold.specs.declared.cell.CellWords.{CellWords}
 use Rattle.cf_fold.proofs.Lawful.{AreLow, quad_is_lawful}
 use Rattle.cf_shape.specs.Lanes.{ShapeValue, IsShape, lane_at, measure_of}
-use Rattle.cf_shape.specs.Places.{place_of}
 use Rattle.cf_shape.specs.Places.Slot.{cell}
 use Rattle.cf_shape.specs.Places.WordName.{version}
 use Rattle.cf_shape.proofs.Measured.{measure_low}
@@ -17,14 +16,12 @@ use Rattle.cf_row.specs.Words.{word_count}
 use Rattle.cf_table.specs.Values.{PassValue}
 use Rattle.cf_table.specs.Effects.{HasStepped, IsLawfulStep, cell_effect}
 use Rattle.cf_table.proofs.Mays.{may_cell}
-use Rattle.cf_append.specs.Paths.{KeepsSeen}
-use Rattle.cf_append.proofs.Walking.{strides_by}
 use Rattle.cf_shape.specs.Uses.{is_measured, cell_words, cells_before}
 use Rattle.cf_words.specs.Words.{Spot, spot, Layout, same_path, link_to_newest, version_word}
 use Rattle.cf_words.proofs.Chains.{same_path_true}
 use Rattle.cf_words.proofs.Cells.{version_to_cell, cell_to_version}
 use Rattle.cf_law.specs.Passes.{Own, Book, Pass}
-use Rattle.cf_law.specs.Steps.{IsOwn, mine_chain, pass_with_cell}
+use Rattle.cf_law.specs.Steps.{IsOwn, mine_chain}
 use Rattle.cf_law.specs.Steps.Act.{load_cell}
 use Rattle.cf_law.specs.Shapes.{layout}
 use Rattle.cf_law.proofs.Shapes.{three_words}
@@ -110,11 +107,6 @@ pub top_most : (sh : Layout) (s : Spot) (mine : List Own) (n : ℕ) → ((j : �
 top_most sh s mine n low zero e = omega arith
 top_most sh s mine n low (suc o) e = (let r = newest sh s mine o e in let at = low r.place r.own r.at in let is = r.offset in omega (arith, at, is))
 
--- no record is in the leaf
-pub top_none : (c : List (ℕ × RowValue)) → link_to_newest c ≡ 0 → c ≡ []
-top_none [] e = refl
-top_none (x ∷ c) e = absurd (cc e)
-
 both_left : (a b : Bool) → Rattle.std.proofs.Common.◌&&◌ a b ≡ true → a ≡ true
 both_left true b h = refl
 both_left false b h = h
@@ -139,10 +131,6 @@ amounts_few shape l s b own =
 -- the cell of the newest
 pub own_at : (shape : ShapeValue) (p : Pass) (b : Book) (s : Spot) (o : ℕ) → p.books ≡ b ∷ [] → IsNewest (layout shape) s b.mine o → IsOwn p o
 own_at shape p b s o one N = (0, b, ap (λ (bs : List Book). slice_get bs 0) one, inl (N.place, N.own, N.at, N.offset))
-
-pub read_strides : (shape : ShapeValue) (m n : PassValue) (o l h found : ℕ) → HasStepped shape (cell_effect shape m.view o l h) m found n → KeepsSeen m n
-read_strides shape m n o l h found made =
-    strides_by m n (pass_with_cell (place_of shape (version o l h)) o l h m.view found) made.same made.told.is refl refl refl (λ s k e. e) (omega arith)
 
 pub read_books : (shape : ShapeValue) (m n : PassValue) (o l h found : ℕ) → HasStepped shape (cell_effect shape m.view o l h) m found n
     → (n.view).books ≡ (m.view).books

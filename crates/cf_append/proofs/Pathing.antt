@@ -103,17 +103,6 @@ whole_path shape row lane at w =
     ∙ (ap (λ (n : ℕ). key_of shape lane row % 16 ∷ nibbles n (key_of shape lane row / 16)) (sym w.level)
     ∙ ap (λ (k : ℕ). key_of shape lane row % 16 ∷ nibbles at.level k) (sym w.front)))
 
-pub whole_prefix : (shape : ShapeValue) (row : RowValue) (lane : ℕ) (at : Prefix) → lane < length shape.lanes → IsWhole shape row lane at → IsPrefix shape at
-whole_prefix shape row lane at low w =
-    let many = w.many in
-    let level = w.level in
-    let same = w.lane_is in
-    let levels = ap (levels_of shape) same in record {
-      lane = omega (arith, low, same);
-      some = omega (arith, many, level);
-      inner = omega (arith, many, level, levels);
-    }
-
 pub on_path : (shape : ShapeValue) (row : RowValue) (lane : ℕ) (at : Prefix) → IsWhole shape row lane at → (s : Spot) → IsAlong at s → IsOnPath shape row s
 on_path shape row lane at w s a = record {
   some = a.some;

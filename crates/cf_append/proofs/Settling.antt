@@ -87,14 +87,6 @@ stops_then shape m n o goes before after = elim before [
   | inr u ↦ stops_since shape m.view n.view o.view (let since = u.since in omega (arith, since)) after
 ]
 
--- as it does where it may have stayed
-pub stops_on : (shape : ShapeValue) (m n o : PassValue) → PassGoesOn n o → (n ≡ m) ⊎ Stops shape m.view n.view → Stops shape n.view o.view
-    → Stops shape m.view o.view
-stops_on shape m n o goes before after = elim before [
-  | inl same ↦ subst (λ (h : PassValue). Stops shape h.view o.view) same after
-  | inr stops ↦ stops_then shape m n o goes stops after
-]
-
 pub stops_still : (shape : ShapeValue) (m n o : PassValue) → PassGoesOn n o → Stops shape m.view n.view → (o ≡ n) ⊎ Stops shape n.view o.view
     → Stops shape m.view o.view
 stops_still shape m n o goes before after = elim after [

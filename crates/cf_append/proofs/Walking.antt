@@ -12,7 +12,6 @@ use Rattle.cf_law.proofs.Moves.{at_either}
 use Rattle.cf_table.specs.Values.{PassValue, book_of}
 use Rattle.cf_table.specs.Effects.{HasStepped, HasSteppedUnseen, child_effect, label_effect, link_effect}
 use Rattle.cf_table.proofs.Mays.{the_book}
-use Rattle.cf_table.specs.Moves.{SeenFirst}
 use Rattle.cf_append.specs.Appends.{Rests}
 use Rattle.cf_append.specs.Paths.{KeepsSeen, HasUsed, LacksNode, IsNodeOf, with_nodes}
 use Rattle.cf_append.proofs.Appending.{rests_by}
@@ -137,11 +136,6 @@ node_low shape n node nodes low free =
     let is = room.1 in
     omega (arith, most, is, mul_comm shape.nodes shape.writers)
 
--- what the load tells of the book's tickets
-pub load_first : (shape : ShapeValue) (m n : PassValue) (s : Spot) (t : Slot) (found : ℕ) → HasStepped shape (child_effect shape m.view s t) m found n
-    → SeenFirst n.view
-load_first shape m n s t found made k b held = made.told.mine k b held
-
 -- A label was stored.
 pub label_strides : (shape : ShapeValue) (m n : PassValue) (node value : ℕ) → HasSteppedUnseen shape (label_effect m.view node value) m n → KeepsSeen m n
 label_strides shape m n node value stored =
@@ -205,15 +199,6 @@ only : (s r : Spot) (j : ℕ) → slice_get (s ∷ []) j ≡ Some r → r ≡ s
 only s r zero at = cc at
 only s r (suc j) at = absurd (cc at)
 
-pub used_one : (m n o : PassValue) (s : Spot) (value : ℕ) → (n.view).books ≡ book_with_label value (book_of m.view) ∷ []
-    → (o.view).books ≡ book_with_node s (book_of n.view) ∷ [] → HasUsed (λ r. r ≡ s) m o
-used_one m n o s value labels links = record {
-  spots = s ∷ [];
-  label = 0;
-  books = links ∙ ap (λ (c : Book). book_with_node s c ∷ []) (the_book n.view (book_with_label value (book_of m.view)) labels);
-  on = λ j r at. only s r j at;
-}
-
 pub used_then : (On : Spot → Type 0) (m n o : PassValue) → HasUsed On m n → HasUsed On n o → HasUsed On m o
 used_then On m n o a b =
     let same : book_of n.view ≡ with_nodes a.spots a.label (book_of m.view) = the_book n.view (with_nodes a.spots a.label (book_of m.view)) a.books in record {
@@ -229,9 +214,6 @@ used_then On m n o a b =
 
 pub used_by : (P Q : Spot → Type 0) (m n : PassValue) → ((s : Spot) → P s → Q s) → HasUsed P m n → HasUsed Q m n
 used_by P Q m n more a = record { spots = a.spots; label = a.label; books = a.books; on = λ j s at. more s (a.on j s at) }
-
-pub rests_used : (On : Spot → Type 0) (m n : PassValue) → Rests m.view → HasUsed On m n → Rests n.view
-rests_used On m n rest used = rests_by n.view (with_nodes used.spots used.label (book_of m.view)) used.books rest.free
 
 -- Where no node was left.
 pub stuck_by : (shape : ShapeValue) (P Q : Spot → Type 0) (l m n : PassValue) → ((s : Spot) → P s → Q s) → KeepsSeen l m → LacksNode shape P m n

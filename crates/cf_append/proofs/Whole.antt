@@ -17,11 +17,11 @@ use Rattle.cf_table.specs.Values.{PassValue, book_of}
 use Rattle.cf_table.specs.Effects.{HasStepped, HasSteppedUnseen, take_effect, finish_effect}
 use Rattle.cf_table.proofs.Mays.{the_book}
 use Rattle.cf_table.specs.Moves.{SeenFirst, Stops}
-use Rattle.cf_append.specs.Appends.{PassGoesOn, Rests, HasMade, IsAppended, IsLate, with_own, flying, with_mark}
+use Rattle.cf_append.specs.Appends.{PassGoesOn, HasMade, IsAppended, IsLate, with_own, flying, with_mark}
 use Rattle.cf_append.specs.Paths.{KeepsSeen, HasFilings, with_nodes, path_steps}
 use Rattle.cf_append.specs.declared.paths.Filing.{Filing}
 use Rattle.cf_append.specs.Linking.{HasFilled, HasLinked, IsBookOf, lane_steps}
-use Rattle.cf_append.proofs.Appending.{began, rests_by}
+use Rattle.cf_append.proofs.Appending.{began}
 use Rattle.cf_append.proofs.Settling.{stops_since}
 use Rattle.cf_shape.proofs.KeyLevels.{levels_two}
 use Rattle.cf_append.proofs.Walking.{strides_by, strides_then}
@@ -218,9 +218,6 @@ pub late_strides : (shape : ShapeValue) (p n : PassValue) (found : ℕ) (row : R
 late_strides shape p n found row made =
     strides_by p n ((take_effect shape p.view row).after found []) made.same made.told.is refl refl refl (λ s k h. h) (omega arith)
 
-pub late_rests : (shape : ShapeValue) (row : RowValue) (m n : PassValue) → Rests m.view → IsLate shape row m n → Rests n.view
-late_rests shape row m n rest L = rests_by n.view (with_mark (with_nodes L.paths.used.spots L.paths.used.label (book_of m.view))) L.books rest.free
-
 pub took_first : (shape : ShapeValue) (p n : PassValue) (found : ℕ) (row : RowValue) → HasStepped shape (take_effect shape p.view row) p found n
     → SeenFirst n.view
 took_first shape p n found row made k b held = made.told.mine k b held
@@ -240,9 +237,6 @@ waited shape row m z w o all kept far =
       books = kept ∙ all.books;
       covered = inl far;
     }
-
-pub appended_rests : (shape : ShapeValue) (row : RowValue) (m z : PassValue) (o : ℕ) → IsAppended shape o row m z → Rests z.view
-appended_rests shape row m z o A = rests_by z.view (with_own o row (with_nodes A.paths.used.spots A.paths.used.label (book_of m.view))) A.books refl
 
 -- The steps.
 lane_steps_none : (shape : ShapeValue) → lane_steps shape 0 ≡ 0

@@ -25,9 +25,6 @@ pair atom rest = (atom, rest)
 abbrev pub joint_and_rest : Joint → List ℕ → Joint × List ℕ
 joint_and_rest joint rest = (joint, rest)
 
-preceded_start : (xs : List (List Atom)) → preceded [] [] xs ≡ xs
-preceded_start xs = refl
-
 pub read_start : (attrs : List Attr) (n : ℕ) (text : List ℕ) → read_on [] [] attrs n text ≡ conjunctions_at attrs n text
 read_start attrs n text = elim (conjunctions_at attrs n text) as (λ r. seen_by (preceded [] []) r ≡ r) [ Ok xs ↦ refl | Err e ↦ refl ]
 

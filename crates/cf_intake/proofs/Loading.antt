@@ -12,14 +12,13 @@ use Rattle.cf_records.specs.Records.{HasRecordsFault, IsRecordFile}
 use Rattle.cf_records.specs.declared.fault.RecordFault.{RecordFault}
 use Rattle.cf_records.specs.declared.fault.RecordFault.TheVariants as records
 use Rattle.cf_intake.specs.Devices.{IsFileRead, ReadsFile}
-use Rattle.cf_intake.specs.Faults.{HasLineFault, HasFaultBy, HasFaultTo, code_of, record_of, halt_of}
+use Rattle.cf_intake.specs.Faults.{HasLineFault, HasFaultBy, HasFaultTo}
 use Rattle.cf_intake.specs.Files.{HasFile, HasLeft, Grammar, captures, IsReadAs, IsFileRefused, Halts}
 use Rattle.cf_intake.specs.Files.IsFileRefused.{missing, broken}
 use Rattle.cf_intake.specs.Parts.{IsBad, captured}
 use Rattle.cf_intake.specs.Reading.{TakesPackets, ReadsRows}
 use Rattle.cf_intake.specs.Refusals.{unread}
 use Rattle.cf_intake.specs.Rows.{CaptureValue, AreRowsTo, IsTruncatedAt, limit_by}
-use Rattle.cf_intake.specs.declared.faults.Fault.TheVariants.{Lines}
 use Rattle.cf_intake.specs.declared.rows.Captured.{Captured}
 use Rattle.cf_intake.proofs.Capturing.{packets_end, packets_longer, truncated_end}
 use Rattle.cf_intake.proofs.Streams.{bad, told}
@@ -184,11 +183,3 @@ packets_kept schema truncated told name before mid now (Err (Refused why)) opene
     rows_unsaid (Packets schema) truncated (attrs_by schema) told name takes.0 before now (Refused why)
     (file_read told name (2 ^ 32) before mid now takes.0 opened takes.1) takes.2
 packets_kept schema truncated told name before mid now (Err (Stopped stop)) opened takes = file_stopped told name (2 ^ 32) before mid now opened takes
-
--- a fault of the bytes refuses them, and want of memory is none
-pub bad_records : (attrs : List Attr) (bytes : List ℕ) (fault : RecordFault) → (fault ≡ records.Memory) ⊎ HasRecordsFault attrs bytes fault
-    → IsBad (HasLineFault attrs bytes) (halt_of (Lines fault))
-bad_records attrs bytes fault has = elim has [
-  | inl want ↦ subst (λ (f : RecordFault). IsBad (HasLineFault attrs bytes) (halt_of (Lines f))) (sym want) tt
-  | inr found ↦ bad (HasLineFault attrs bytes) (record_of (Lines fault)) (code_of (Lines fault)) (told (HasRecordsFault attrs bytes) Lines fault found)
-]

@@ -1,9 +1,8 @@
 -- The rows of one more frame.
-use Rattle.std.proofs.Common.{◌≡◌, ℕ, zero, suc, ◌<◌, ◌+◌, List, [], ◌∷◌, ◌++◌, length, map, take, get_or, sym, ap, ap₂, ◌∙◌, arith, All, subst, refl, length-append}
-use Rattle.std.proofs.lemmas.List.{map-append, get_or-append-add}
-use Rattle.cf_row.specs.Row.{RowValue, Fits}
+use Rattle.std.proofs.Common.{◌≡◌, ℕ, zero, suc, ◌<◌, ◌+◌, List, [], ◌∷◌, ◌++◌, length, map, take, get_or, sym, ap, ap₂, ◌∙◌, arith}
+use Rattle.std.proofs.lemmas.List.{map-append}
+use Rattle.cf_row.specs.Row.{RowValue}
 use Rattle.cf_packet6.specs.declared.PacketSchema.{PacketSchema}
-use Rattle.cf_row.specs.declared.schema.Attr.{Attr}
 use Rattle.cf_pcap.specs.Capture.{FrameValue}
 use Rattle.cf_intake.specs.Rows.{packet_rows, row_by}
 
@@ -24,12 +23,3 @@ pub more_rows : (schema : PacketSchema) (frames : List FrameValue) (i : ℕ) (fr
     → frame ≡ get_or frames i frame → row ≡ row_by schema frame → rows ≡ packet_rows schema (take i frames) → now ≡ rows ++ (row ∷ [])
     → now ≡ packet_rows schema (take (i + 1) frames)
 more_rows schema frames i frame row rows now lt is row_is before grown = more (row_by schema) frames i frame row rows now lt is row_is before grown
-
--- one of them fits
-pub fits_within : (attrs : List Attr) (rows before after : List RowValue) (row : RowValue) → All (Fits attrs) rows → rows ≡ before ++ row ∷ after
-    → Fits attrs row
-fits_within attrs rows before after row fit is =
-    let all : All (Fits attrs) (before ++ row ∷ after) = subst (λ (rs : List RowValue). All (Fits attrs) rs) is fit in
-    let size : length (before ++ row ∷ after) ≡ length before + length (row ∷ after) = length-append before (row ∷ after) in
-    let more : length (row ∷ after) ≡ suc (length after) = refl in
-    subst (λ (r : RowValue). Fits attrs r) (get_or-append-add before (row ∷ after) 0 row) (all (length before + 0) row (omega (arith, size, more)))

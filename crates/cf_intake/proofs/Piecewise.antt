@@ -200,14 +200,6 @@ ended_on truncated pieces before now rows (Err (Refused why)) on last ends =
     )
 ended_on truncated pieces before now rows (Err (Stopped stop)) on last ends = stopped_on pieces before now rows on
 
--- the reader is no device
-pub end_unfailed : (truncated : Bool) (pieces : Pieces) (before now : Option (List ℕ)) (rows : List RowValue) (result : Result (Option ℕ) Halt)
-    → IsReadOn pieces before now rows → Finishes truncated pieces.reader result → result ≡ Err (Stopped stops.ReadFault) → ⊥
-end_unfailed truncated pieces before now rows result on ends is =
-    let bad = ends on.stream on.frames on.at in
-    subst (λ (r : Result (Option ℕ) Halt). MatchResult r (AreFramesTo truncated (reads_scope pieces.reader) (reads_blocks pieces.reader) on.stream on.frames)
-    (IsBad (HasFaultUncut truncated (reads_scope pieces.reader) (reads_blocks pieces.reader) on.stream))) is bad
-
 -- the rows that came are taken
 pub taken_so : {A : Type 0} (schema : PacketSchema) (truncated : Bool) (Took : A → CaptureValue → Type 0) (what : Option ℕ → CaptureValue)
     (before now : Option (List ℕ))
@@ -285,14 +277,6 @@ filled_taken before mid now a n xs ys fits most old new =
     subst (λ (zs : List ℕ). Consumes before now zs) (sym (filled_more a n xs ys fits most)) (Consumes-trans before mid now (take a xs) (take n ys) old new)
 
 -- A stop before the second piece.
-
-pub stopped_few : (before now : Option (List ℕ)) (n : ℕ) → n ≡ 65536 → TakesAtMost before now n → TakesAtMost before now (2 ^ 32)
-stopped_few before now n size takes = let most : length takes.bytes ≤ n = takes.most in
-    record { bytes = takes.bytes; taken = takes.taken; most = omega (arith, size, most) }
-
-pub stopped_first : (before now : Option (List ℕ)) (n : ℕ) (bytes : List ℕ) → n ≡ 65536 → TakesUpTo before now n bytes → TakesAtMost before now (2 ^ 32)
-stopped_first before now n bytes size takes = let most : length bytes ≤ n = takes.most in
-    record { bytes = bytes; taken = takes.taken; most = omega (arith, size, most) }
 
 pub stopped_next : (pieces : Pieces) (before mid now : Option (List ℕ)) (rows : List RowValue) (bytes : List ℕ) → IsReadOn pieces before mid rows
     → pieces.number < 65536 → TakesUpTo mid now (length pieces.buf.items) bytes → TakesAtMost before now (2 ^ 32)

@@ -15,7 +15,6 @@ use Rattle.cf_shape.specs.Nodes.{Node, nodes_for, nodes_of, same_node, add_node,
 use Rattle.cf_words.specs.Words.{Spot}
 use Rattle.cf_law.specs.Passes.{Own, Book, Pass}
 use Rattle.cf_law.specs.Steps.{Holds, IsAtRest}
-use Rattle.cf_law.specs.Readers.{mine_from}
 use Rattle.cf_table.specs.Values.{PassValue, LogValue, IsOf, book_of}
 use Rattle.cf_table.specs.Moves.{Begins, AreDealt, AreAll, HasGathered, books_of, told_by}
 use Rattle.cf_table.proofs.Homing.{still_one, book_in}
@@ -295,11 +294,6 @@ root_away log m r passes of dealt = (
   ap (λ (h : PassValue). (h.view).books) dealt.root,
   ap (λ (h : PassValue). (h.view).seen) dealt.root,
 )
-
--- what the root had seen when its books were dealt, it has seen when they are home
-pub seen_grows : (log : LogValue) (m r n : PassValue) (passes after : List PassValue) → AreDealt log m passes r → HasGathered log.shape r after n
-    → Begins (m.view).seen (n.view).seen
-seen_grows log m r n passes after dealt g = subst (λ (es : List Entry). Begins es (n.view).seen) (ap (λ (h : PassValue). (h.view).seen) dealt.root) g.own
 
 -- a root is told nothing by passes that wrote
 pub told_same : (whole : Bool) (log : LogValue) (first : ℕ) (batch : List RowValue) (m r n : PassValue) (passes after : List PassValue)

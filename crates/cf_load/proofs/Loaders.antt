@@ -3,7 +3,7 @@ use Rattle.std.proofs.Common.{◌≡◌, ◌<◌, ◌≤◌, ◌+◌, ◌-◌, �
 use Rattle.std.proofs.lemmas.Bool.{cases_lt}
 use Rattle.std.proofs.lemmas.List.{length-drop, length-take, take_all, take-append-le, drop-append-le, take-append-drop}
 use Rattle.std.proofs.lemmas.Option.{slice_get-get_or}
-use Rattle.std.proofs.lemmas.List.Elements.{All-nil, All-append, All-take, All-drop}
+use Rattle.std.proofs.lemmas.List.Elements.{All-append, All-take, All-drop}
 use Rattle.std.proofs.Math.Seq.{take-add, take-append-add}
 use Rattle.std.specs.List.{All}
 use Rattle.std.specs.declared.alloc.AllocError.{AllocError}
@@ -14,7 +14,6 @@ use Rattle.cf_history.specs.Order.{rows_of, written_by}
 use Rattle.cf_shape.specs.Lanes.{ShapeValue, IsShape}
 use Rattle.cf_shape.specs.Nodes.{distinct}
 use Rattle.cf_plain.specs.Answered.{LoadedValue, answer_on}
-use Rattle.cf_plain.specs.Asks.{Suits, SuitsTrigger}
 use Rattle.cf_plain.specs.declared.ask.Ask.{Ask}
 use Rattle.cf_plain.specs.declared.loaded.Live.{Live}
 use Rattle.cf_table.proofs.Settling.{begins_then}
@@ -27,7 +26,7 @@ use Rattle.cf_load.specs.Loading.{HasAnswered, AsksBeside}
 use Rattle.cf_segments.specs.Needed.{HasRunOut}
 use Rattle.cf_load.specs.Loads.{LacksNodes, HasSome, HaveStopped, IsLoaded}
 use Rattle.cf_segments.specs.Segments.{SegmentsValue, all_of, base_of, entries_of, room_of, told_of, IsSegments, HoldsRows, SegmentsGoOn, KeepsAll}
-use Rattle.cf_load.specs.Loaders.{LoaderValue, IsFresh, IsLoading, IsBatched, IsRefused, IsFinished}
+use Rattle.cf_load.specs.Loaders.{LoaderValue, IsLoading, IsBatched, IsRefused, IsFinished}
 use Rattle.cf_load.specs.Planned.{IsPlan, IsSamePlan, marks_on, tails_of}
 use Rattle.cf_load.specs.Priors.{KnowsBefore}
 use Rattle.cf_load.proofs.Batches.{distinct_more, run_out_more}
@@ -35,17 +34,7 @@ use Rattle.cf_segments.proofs.Chains.{base_whole, rows_are_log}
 use Rattle.cf_load.proofs.Enough.{loaded_few}
 use Rattle.cf_segments.proofs.Kept.{kept_entries, kept_goes, kept_holds, kept_told, goes_none, goes_then}
 use Rattle.cf_load.proofs.Loading.{answered_beside}
-use Rattle.cf_load.proofs.Tails.{answered_none}
 use Rattle.cf_segments.proofs.Parts.{part_after, rows_append}
-
--- a plan that asks the same suits the same shapes
-pub same_suits : (shape : ShapeValue) (plan other : LivePlan) → IsSamePlan plan other → IsPlan shape plan → IsPlan shape other
-same_suits shape plan other same suits = record {
-  asks = subst (All (Suits shape)) (sym same.asks) suits.asks;
-  triggers = subst (All (SuitsTrigger shape)) (sym same.triggers) suits.triggers;
-  lives = subst (λ (asks : List Ask). All (λ place. place < length asks) other.lives.items) (sym same.asks)
-      (subst (All (λ place. place < length plan.asks.items)) (sym same.lives) suits.lives);
-}
 
 -- segments that go on have room for as many rows
 pub same_room : (s t : SegmentsValue) → SegmentsGoOn s t → room_of t ≡ room_of s
@@ -54,22 +43,6 @@ same_room s t same = ap₂ (λ (n : ℕ) (h : ShapeValue). n * h.capacity) same.
 -- segments that hold rows have as many entries
 pub entries_long : (s : SegmentsValue) (rows : List RowValue) → HoldsRows s rows → length (entries_of s) ≡ length rows
 entries_long s rows holds = (rows_are_log s rows holds).0.size
-
--- before the first batch
-pub starts : (s : SegmentsValue) (plan : LivePlan) (loader : LoaderValue) → IsPlan s.shape plan → IsFresh plan loader → HoldsRows s []
-    → KnowsBefore s loader.plan loader.found
-    → IsLoading s [] loader
-starts s plan loader suits fresh has known = record {
-  plan = same_suits s.shape plan loader.plan fresh.plan_is suits;
-  going = fresh.going;
-  count = fresh.count;
-  few = omega arith;
-  fit = All-nil (Fits (s.shape).schema);
-  loaded = has;
-  answered = subst (HasAnswered s.shape loader.plan.asks.items loader.plan.lives.items loader.plan.rounds 0 (entries_of s)) (sym fresh.lives)
-      (answered_none s.shape loader.plan.asks.items loader.plan.lives.items loader.plan.rounds (entries_of s));
-  known = known;
-}
 
 -- a batch is loaded, and its answers come after those before
 pub goes_on : (before rows : List RowValue) (old new : LoaderValue) (b : ℕ) (s t : SegmentsValue) (more : List Live) → IsLoading s before old

@@ -136,21 +136,6 @@ module _ (shape : ShapeValue) (asks : List Ask) (lives : List ℕ) where
     longer = some.longer;
   }
 
-  -- all rounds were gone through
-  pub asks_all : (rounds batch : ℕ) (before after : List Entry) (more : List Live) → AsksSome shape asks lives rounds 0 batch before after more
-      → AsksBatch shape asks lives rounds batch before after more
-  asks_all rounds batch before after more some = record {
-    turns = some.turns ∙ append-nil (batch_in rounds lives batch);
-    rise = some.rise;
-    within = some.within;
-    bodies = some.bodies;
-    longer = some.longer;
-  }
-
-  -- before the first batch there is no live answer
-  pub answered_none : (rounds : ℕ) (seen : List Entry) → HasAnswered shape asks lives rounds 0 seen []
-  answered_none rounds seen = record { tails = record { turns = refl; rise = tt; within = tt }; bodies = tt }
-
   -- the turns of a batch are of that batch
   pub of_batch : (rounds batch : ℕ) → AllByRecursion (λ (t : Turn). t.batch ≡ batch) (batch_in rounds lives batch)
   of_batch rounds batch =

@@ -3,7 +3,7 @@ use Rattle.std.specs.Prelude.{ℕ, ◌≡◌, ◌⊎◌, Bool, List, [], ◌∷�
 use Rattle.cf_row.specs.Row.{RowValue}
 use Rattle.cf_words.specs.Words.{Spot}
 use Rattle.cf_law.specs.Passes.{Book}
-use Rattle.cf_table.specs.Values.{PassValue, LogValue, IsOf, book_of}
+use Rattle.cf_table.specs.Values.{PassValue, LogValue, book_of}
 use Rattle.cf_table.specs.Moves.{Begins}
 use Rattle.cf_append.specs.Appends.{Rests}
 use Rattle.cf_append.specs.Paths.{IsOnPath}

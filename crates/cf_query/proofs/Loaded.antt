@@ -1,9 +1,8 @@
 -- Entries that were seen fit, and are gone over.
 use Rattle.std.proofs.Common.{◌≡◌, ◌∙◌, ◌+◌, ◌<◌, ◌^◌, ℕ, Bool, true, false, cond, List, [], ◌∷◌, ◌++◌, length, filter, take, get_or, Some, slice_get, ap, ap₂, sym, subst, append-nil}
 use Rattle.std.specs.List.{range_with_len}
-use Rattle.std.specs.Bool.{nat_lt}
 use Rattle.std.proofs.lemmas.Option.{slice_get-get_or}
-use Rattle.cf_row.specs.Row.{Fits, RowValue, values_fit}
+use Rattle.cf_row.specs.Row.{Fits, RowValue}
 use Rattle.cf_row.specs.Expr.{holds_of}
 use Rattle.cf_row.specs.declared.expr.Atom.{Atom}
 use Rattle.cf_row.specs.declared.schema.Attr.{Attr}
@@ -11,8 +10,6 @@ use Rattle.cf_row.specs.Times.{number_at}
 use Rattle.cf_fold.specs.Quads.{QuadValue, quad_of}
 use Rattle.cf_row.specs.declared.row.Entry.{Entry}
 use Rattle.cf_shape.specs.Lanes.{ShapeValue}
-use Rattle.cf_law.specs.Shapes.{layout}
-use Rattle.cf_law.specs.Readers.{IsFit}
 use Rattle.cf_plain.specs.Asks.{rows_in, row_at}
 use Rattle.cf_plain.proofs.Scanned.{place_more}
 use Rattle.cf_plain.specs.Totals.{total}

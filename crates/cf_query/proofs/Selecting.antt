@@ -1,6 +1,6 @@
 -- A number is read from the word of its attribute.
-use Rattle.std.proofs.Common.{◌≡◌, ◌∙◌, ◌+◌, ◌*◌, ◌-◌, ◌^◌, ◌<◌, ◌≤◌, ℕ, zero, suc, min, Bool, true, false, inl, inr, ◌&&◌, ◌||◌, ◌==◌, List, [], ◌∷◌, ◌++◌, length, drop, take, get_or, set, Some, slice_get, refl, ap, ap₂, sym, subst, arith, append_assoc}
-use Rattle.std.specs.List.{list_all, list_any}
+use Rattle.std.proofs.Common.{◌≡◌, ◌∙◌, ◌+◌, ◌*◌, ◌-◌, ◌^◌, ◌<◌, ◌≤◌, ℕ, zero, suc, min, Bool, true, inl, inr, ◌&&◌, ◌||◌, ◌==◌, List, [], ◌∷◌, ◌++◌, length, drop, take, get_or, set, Some, slice_get, refl, ap, ap₂, sym, subst, arith, append_assoc}
+use Rattle.std.specs.List.{list_all}
 use Rattle.std.proofs.lemmas.Bool.{and_from, cases_Bool}
 use Rattle.std.proofs.lemmas.List.{drop_more, get_or-append-add, get_or-set_same, get_or-set_other, length-take-le}
 use Rattle.std.proofs.lemmas.Option.{slice_get-get_or}
@@ -11,9 +11,8 @@ use Rattle.cf_row.specs.declared.schema.Kind.TheVariants.{U8, U16, U32, U64, Byt
 use Rattle.cf_row.specs.declared.row.Value.{Value}
 use Rattle.cf_row.specs.declared.row.Value.TheVariants.{Num, Raw}
 use Rattle.cf_row.specs.declared.expr.Atom.{Atom}
-use Rattle.cf_row.specs.declared.expr.Op.{Op}
 use Rattle.cf_row.specs.declared.expr.Op.TheVariants.{Eq}
-use Rattle.cf_row.specs.Expr.{atom_suits, atom_suits_attr, atom_holds, compares, is_true_of, number_of, suits_kind}
+use Rattle.cf_row.specs.Expr.{atom_suits, number_of}
 use Rattle.cf_row.specs.Row.{is_of_kind, value_at, values_fit}
 use Rattle.cf_row.specs.Words.{spelled, tag_of, value_words, values_words, word_count, words_of_kind}
 use Rattle.cf_row.proofs.Bytes.{both}
@@ -143,41 +142,6 @@ number_read shape m n o place k i found is at lt number here low made =
       looked = all.looked;
     }
 
--- an atom that compares a number is over an attribute of numbers
-kind_of_number : (kind : Kind) (op : Op) (low : Value) → suits_kind kind op ≡ true → is_of_kind kind low ≡ true → is_plain low ≡ true → is_number kind ≡ true
-kind_of_number U8 op low suits of plain = refl
-kind_of_number U16 op low suits of plain = refl
-kind_of_number U32 op low suits of plain = refl
-kind_of_number U64 op low suits of plain = refl
-kind_of_number (Bytes k) op (Num n) suits of plain = absurd (cc of)
-kind_of_number (Bytes k) op (Raw len bytes) suits of plain = absurd (cc plain)
-
-attr_of_number : (attrs : List Attr) (k : ℕ) (atom : Atom) → atom_suits_attr atom (slice_get attrs k) ≡ true → is_plain atom.low ≡ true
-    → option_passes is_number (slice_get attrs k) ≡ true
-attr_of_number [] zero atom suits plain = absurd (cc suits)
-attr_of_number [] (suc k) atom suits plain = absurd (cc suits)
-attr_of_number (a ∷ attrs) zero atom suits plain =
-    let all = both (suits_kind a.kind atom.op && is_of_kind a.kind atom.low) _ suits in
-    let front = both (suits_kind a.kind atom.op) (is_of_kind a.kind atom.low) all.0 in
-    kind_of_number a.kind atom.op atom.low front.0 front.1 plain
-attr_of_number (a ∷ attrs) (suc k) atom suits plain = attr_of_number attrs k atom suits plain
-
-pub number_of_atom : (attrs : List Attr) (atom : Atom) → compares_number attrs atom ≡ true → option_passes is_number (slice_get attrs atom.attr) ≡ true
-number_of_atom attrs atom is =
-    let parts = both (atom_suits attrs atom) (is_plain atom.low) is in
-    attr_of_number attrs atom.attr atom parts.0 parts.1
-
--- the atom is true as the numbers compare
-compared : (op : Op) (value low high : Value) (n : ℕ) → value ≡ Num n → is_plain low ≡ true
-    → compares op n (number_of low) (number_of high) ≡ is_true_of op value low high
-compared op value (Num l) high n is plain = ap (λ (v : Value). is_true_of op v (Num l) high) (sym is)
-compared op value (Raw len bytes) high n is plain = absurd (cc plain)
-
-pub atom_compared : (attrs : List Attr) (atom : Atom) (row : Rattle.cf_row.specs.Row.RowValue) (n : ℕ) → compares_number attrs atom ≡ true
-    → value_at row atom.attr ≡ Num n → compares atom.op n (number_of atom.low) (number_of atom.high) ≡ atom_holds row atom
-atom_compared attrs atom row n is value =
-    compared atom.op (value_at row atom.attr) atom.low atom.high n value (both (atom_suits attrs atom) (is_plain atom.low) is).1
-
 -- an expression of the schema that compares numbers alone
 plain_atoms : (attrs : List Attr) (atoms : List Atom) → list_all (atom_suits attrs) atoms ≡ true → list_all (λ (atom : Atom). is_plain atom.low) atoms ≡ true
     → list_all (compares_number attrs) atoms ≡ true
@@ -203,10 +167,6 @@ no_atom = record { attr = 0; op = Eq; low = Num 0; high = Num 0 }
 pub all_rest : {X : Type 0} (p : X → Bool) (xs : List X) (i : ℕ) (d : X) → i < length xs → p (get_or xs i d) ≡ true
     → list_all p (drop i xs) ≡ list_all p (drop (i + 1) xs)
 all_rest p xs i d lt holds = ap (list_all p) (drop_more xs i d lt) ∙ ap (λ (b : Bool). b && list_all p (drop (i + 1) xs)) holds
-
-pub any_rest : {X : Type 0} (p : X → Bool) (xs : List X) (i : ℕ) (d : X) → i < length xs → p (get_or xs i d) ≡ false
-    → list_any p (drop i xs) ≡ list_any p (drop (i + 1) xs)
-any_rest p xs i d lt fails = ap (list_any p) (drop_more xs i d lt) ∙ ap (λ (b : Bool). b || list_any p (drop (i + 1) xs)) fails
 
 -- a number of a narrow attribute is below 2^32
 pub narrow_low : (shape : ShapeValue) (m : PassValue) (o attr n : ℕ) → IsShape shape → AreFit shape m.view → o < length (m.view).seen

@@ -1,13 +1,11 @@
 -- What is reported of the entries that a pass of a log has seen.
-use Rattle.std.specs.Prelude.{◌≤◌, ℕ, List, [], length, map}
+use Rattle.std.specs.Prelude.{◌≤◌, ℕ, List, [], map}
 use Rattle.cf_row.specs.declared.row.Entry.{Entry}
 use Rattle.cf_shape.specs.Lanes.{ShapeValue}
 use Rattle.cf_history.specs.History.{IsHistoryOf, spell}
 use Rattle.cf_plain.specs.Asks.{eval, rows_in}
 use Rattle.cf_plain.specs.Answered.{LoadedValue, answer_on}
 use Rattle.cf_setup.specs.Setups.{SetupValue}
-use Rattle.cf_table.specs.Values.{LogValue, PassValue, IsOf}
-use Rattle.cf_table.specs.Moves.{AreFit}
 use Rattle.cf_report.specs.Answered.{tolds_of}
 use Rattle.cf_report.specs.Meaning.{alerts_on, passes_of}
 use Rattle.cf_report.specs.Text.{text_of}

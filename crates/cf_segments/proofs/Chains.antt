@@ -16,7 +16,7 @@ use Rattle.cf_table.specs.Values.{PassValue, LogValue, IsOf}
 use Rattle.cf_table.specs.Moves.{SealValue}
 use Rattle.cf_segments.specs.Blocks.{block}
 use Rattle.cf_segments.specs.Loaded.{IsLogFrom, HasLoaded}
-use Rattle.cf_segments.specs.Segments.{SegmentsValue, segments_of, all_of, seen_of, entries_of, base_of, told_from, told_of, AllowsSegments, IsSegment, IsOpened, IsSegments, HoldsRows, HasTurnedOver, HasLooked, HaveLooked, sealed}
+use Rattle.cf_segments.specs.Segments.{SegmentsValue, segments_of, all_of, seen_of, entries_of, base_of, told_from, AllowsSegments, IsSegment, IsOpened, IsSegments, HoldsRows, HasTurnedOver, HasLooked, HaveLooked, sealed}
 use Rattle.cf_segments.specs.declared.segments.Segment.{Segment}
 use Rattle.cf_segments.proofs.Alls.{all_append}
 use Rattle.cf_segments.proofs.Loaded.{opened, settled_still}
@@ -230,9 +230,6 @@ module _ (shape : ShapeValue) (segment : Segment) (new : IsOpened shape segment)
           (opened_empty (n * 0)))
       only (suc k) g at = absurd (cc at)
 
-  pub open_told : (most : ℕ) → told_of (segments_of most [] segment) ≡ []
-  open_told most = ap (λ (ts : List ℕ). map (λ tail. 0 + tail) ts ++ []) opened_told
-
 -- A segment was opened behind the current one.
 module _ (most : ℕ) (closed : List Segment) (current next : Segment) (new : IsOpened (current.log).shape next) (room : length closed + 1 < most) where
   -- the shape, and the segments so far
@@ -329,15 +326,6 @@ looked_lawful most closed others current other is zip last =
 
 pub looked_none : (segment : Segment) → HasLooked segment segment
 looked_none segment = record { log = refl; root = refl }
-
--- all were looked at
-pub have_looked : (most : ℕ) (closed others : List Segment) (current other : Segment) → AllZip HasLooked closed others → HasLooked current other
-    → HaveLooked (segments_of most closed current) (segments_of most others other)
-have_looked most closed others current other zip last = record {
-  same = ap (λ (h : ShapeValue). record { shape = h; most = most; closed = others; current = other }) (ap (λ (l : LogValue). l.shape) last.log);
-  closed = zip;
-  current = last;
-}
 
 pub each_none : (gs : List Segment) → AllZip HasLooked gs gs
 each_none [] = tt

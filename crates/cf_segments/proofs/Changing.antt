@@ -1,5 +1,5 @@
 -- The elements of a list are changed one after the other.
-use Rattle.std.proofs.Common.{◌≡◌, ◌<◌, ◌≤◌, ◌+◌, ℕ, List, [], ◌∷◌, ◌++◌, length, take, drop, get_or, set, refl, sym, ap, subst, ◌∙◌, arith, append-nil}
+use Rattle.std.proofs.Common.{◌≡◌, ◌<◌, ◌≤◌, ◌+◌, ℕ, List, [], ◌∷◌, ◌++◌, length, take, drop, get_or, set, sym, ap, subst, ◌∙◌, arith, append-nil}
 use Rattle.std.proofs.Math.Seq.{drop-drop, get_or-drop, drop-set-lt, take-length, drop-length}
 use Rattle.std.proofs.lemmas.List.{length-drop, take_more, take_more_set, take_all, take-append-drop}
 use Rattle.std.specs.List.{All, AllZip}
@@ -10,9 +10,6 @@ module _ {X : Type 0} (R : X → X → Type 0) where
   pub record Changed (i : ℕ) (xs ys : List X) : Type 0 where
     pub front : AllZip R (take i xs) (take i ys)
     pub rest : drop i ys ≡ drop i xs
-
-  pub changed_none : (xs : List X) → Changed 0 xs xs
-  changed_none xs = record { front = tt; rest = refl }
 
   -- the element at that place is what it was
   pub changed_at : (i : ℕ) (xs ys : List X) (d : X) → Changed i xs ys → get_or ys i d ≡ get_or xs i d

@@ -1,7 +1,6 @@
 -- Segments that keep what they hold, and segments that go on.
-use Rattle.std.proofs.Common.{◌≡◌, ◌<◌, ◌+◌, ◌*◌, ℕ, List, [], ◌∷◌, ◌++◌, length, get_or, map, Some, slice_get, refl, sym, ap, ap₂, subst, ◌∙◌, arith, ◌≤◌}
-use Rattle.std.proofs.lemmas.Option.{slice_get_within, slice_get-get_or}
-use Rattle.std.specs.List.{All, flat_map, AllZip}
+use Rattle.std.proofs.Common.{◌≡◌, ◌<◌, ◌+◌, ◌*◌, ℕ, List, [], ◌∷◌, ◌++◌, length, map, slice_get, refl, sym, ap, ap₂, subst, ◌∙◌, arith, ◌≤◌}
+use Rattle.std.specs.List.{flat_map, AllZip}
 use Rattle.cf_row.specs.Row.{RowValue}
 use Rattle.cf_row.specs.declared.row.Entry.{Entry}
 use Rattle.cf_shape.specs.Lanes.{ShapeValue}
@@ -173,15 +172,6 @@ pub kept_both : (most : ℕ) (closed others : List Segment) (f g : Segment) → 
 kept_both most closed others f g zip last =
     let with_log : LogValue → SegmentsValue = λ l. record { shape = l.shape; most = most; closed = others; current = g } in
     record { same = ap with_log last.log; closed = zip; current = last }
-
--- segments of the shape that keep what they hold
-pub kept_segments : (shape : ShapeValue) (gs hs : List Segment) → AllZip KeepsSegment gs hs → All (IsSegment shape) gs → All (IsSegment shape) hs
-kept_segments shape gs hs zip all k d lt =
-    let at : slice_get hs k ≡ Some (get_or hs k d) = slice_get-get_or hs k d lt in
-    let z = zip_back KeepsSegment gs hs k (get_or hs k d) zip at in
-    let low : k < length gs = slice_get_within gs k z.0 z.1 in
-    let same : get_or gs k d ≡ z.0 = (let f : Some (get_or gs k d) ≡ Some z.0 = sym (slice_get-get_or gs k d low) ∙ z.1 in cc f) in
-    kept_segment shape z.0 (get_or hs k d) (subst (IsSegment shape) same (all k d low)) z.2
 
 -- a pass that was forked off a segment's root, when that had loaded the read tail
 pub forked : (shape : ShapeValue) (g : Segment) (n r : PassValue) → IsSegment shape g → HasAsked (g.log).shape g.root n → IsOf r g.log

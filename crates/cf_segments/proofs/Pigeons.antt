@@ -69,10 +69,6 @@ flat_most f n (x ∷ xs) few =
     (let one = few 0 x refl in let rest = flat_most f n xs (λ i y at. few (suc i) y at) in let e = length-append (f x) (flat_map f xs) in
     let g = suc-mul (length xs) n in omega (arith, one, rest, e, g))
 
-pub same_flat : {X A : Type 0} (f g : X → List A) (xs : List X) → ((x : X) → f x ≡ g x) → flat_map f xs ≡ flat_map g xs
-same_flat f g [] same = refl
-same_flat f g (x ∷ xs) same = ap (λ ys. ys ++ flat_map f xs) (same x) ∙ ap (λ ys. g x ++ ys) (same_flat f g xs same)
-
 pub from_map : {X A : Type 0} (f : X → A) (xs : List X) (k : ℕ) (y : A) → slice_get (map f xs) k ≡ Some y → (x : X) × (slice_get xs k ≡ Some x) × (f x ≡ y)
 from_map f [] k y h = absurd (cc h)
 from_map f (x ∷ xs) zero y h = (x, refl, cc h)

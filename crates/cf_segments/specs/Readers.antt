@@ -1,8 +1,8 @@
 -- The passes by which what the segments' roots have seen is read.
-use Rattle.std.specs.Prelude.{◌≡◌, ◌≤◌, length}
+use Rattle.std.specs.Prelude.{◌≡◌, ◌≤◌}
 use denote.Ref.{Bor}
-use Rattle.cf_table.specs.Values.{PassValue, LogValue, IsOf}
-use Rattle.cf_table.specs.Moves.{AreFit, IsReading}
+use Rattle.cf_table.specs.Values.{PassValue, LogValue}
+use Rattle.cf_table.specs.Moves.{IsReading}
 use Rattle.cf_segments.specs.Segments.{seen_of}
 use Rattle.cf_segments.specs.declared.segments.Segment.{Segment}
 

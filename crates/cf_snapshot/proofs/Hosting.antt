@@ -319,7 +319,3 @@ empty_by s shape entries used is none unused = ap₂ (λ (es : List Entry) (u : 
 
 abbrev pub host_with : ShapeValue → Bool → List Entry → List Book → HostValue
 host_with shape frozen entries books = record { shape = shape; entries = entries; used = (get_or books 0 (no_book 0)).used; is_frozen = frozen }
-
-pub host_same : (shape : ShapeValue) (p q : Pass) (frozen : Bool) → q.seen ≡ p.seen → q.books ≡ p.books
-    → host_with shape frozen q.seen q.books ≡ host_with shape frozen p.seen p.books
-host_same shape p q frozen seen books = ap₂ (λ (es : List Entry) (bs : List Book). host_with shape frozen es bs) seen books

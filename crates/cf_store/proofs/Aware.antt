@@ -1,11 +1,10 @@
 -- A reader's pass stays one whose records the log may have.
-use Rattle.std.proofs.Common.{◌≡◌, ◌∙◌, ◌≤◌, ◌<◌, ℕ, List, [], Some, length, slice_get, get_or, ap, sym, subst, arith}
+use Rattle.std.proofs.Common.{◌≡◌, ◌∙◌, ◌≤◌, ◌<◌, ℕ, List, [], Some, length, slice_get, get_or, ap, sym, subst}
 use Rattle.std.proofs.lemmas.Option.{slice_get-get_or}
 use Rattle.cf_row.specs.declared.row.Entry.{Entry}
 use Rattle.cf_row.specs.Row.{Fits, RowValue}
 use Rattle.cf_shape.specs.Lanes.{ShapeValue}
 use Rattle.cf_law.specs.Passes.{Pass}
-use Rattle.cf_law.specs.Steps.{new_pass}
 use Rattle.cf_plain.specs.Asks.{row_at, rows_in}
 use Rattle.cf_table.specs.Values.{PassValue, LogValue, IsOf}
 use Rattle.cf_table.specs.Moves.{AreFit, OnlyLooked, IsReading}
@@ -14,15 +13,6 @@ use Rattle.cf_query.specs.Asking.{HasAsked}
 use Rattle.cf_table.proofs.Reading.{no_entry}
 use Rattle.cf_query.proofs.Walking.{walked_looked}
 use Rattle.cf_walk.proofs.Tallied.{row_is, fits_of}
-
-pub new_aware : (log : LogValue) (n : PassValue) → IsOf n log → n.view ≡ new_pass [] [] → IsReading log n
-new_aware log n of is =
-    let none : (n.view).seen ≡ [] = ap (λ (p : Pass). p.seen) is in
-    record {
-      of = of;
-      few = subst (λ (es : List Entry). length es ≤ log.shape.capacity) (sym none) (omega arith);
-      fit = λ o e at. absurd (cc (ap (λ (es : List Entry). slice_get es o) (sym none) ∙ at));
-    }
 
 pub asked_aware : (log : LogValue) (m n : PassValue) → IsOf m log → HasAsked log.shape m n → IsReading log n
 asked_aware log m n of asked = record {

@@ -1,8 +1,7 @@
 -- What is true of the passes that writers and readers hold, and of the places of writers.
 use Rattle.std.specs.Prelude.{◌≡◌, ◌≤◌, ℕ, List, Some, None, length, slice_get}
 use Rattle.cf_table.specs.Values.{PassValue, LogValue, IsOf, book_of}
-use Rattle.cf_table.specs.Moves.{AreFit}
-use Rattle.cf_append.specs.Appends.{Rests, IsReady}
+use Rattle.cf_append.specs.Appends.{IsReady}
 use Rattle.cf_home.specs.Homes.{PlaceValue}
 
 -- the place is that of a writer of the log: its pass is ready, or it was taken from there

@@ -1,4 +1,4 @@
-use Rattle.std.proofs.Common.{◌≡◌, ◌∙◌, ◌+◌, ◌<◌, ℕ, Bool, length, length-set, take, get_or, set, refl, ap, sym, rules, inl, inr, arith, ◌==◌}
+use Rattle.std.proofs.Common.{◌≡◌, ◌∙◌, ◌+◌, ◌<◌, ℕ, length, length-set, refl, ap, sym, rules, arith, ◌==◌}
 use Rattle.cf_row.specs.declared.schema.Attr.{Attr}
 use Rattle.cf_row.specs.Words.{words_of_kind}
 use Rattle.cf_row.proofs.Counts.{count_none}

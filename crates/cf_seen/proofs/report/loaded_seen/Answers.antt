@@ -1,7 +1,7 @@
 use Rattle.std.proofs.Common.{◌≡◌, ◌∙◌, [], List, map, ap, ap₂, sym}
 use Rattle.cf_row.specs.declared.row.Entry.{Entry}
 use Rattle.cf_fold.specs.declared.trigger.Trigger.{Trigger}
-use Rattle.cf_plain.specs.Answered.{LoadedValue, answer_on}
+use Rattle.cf_plain.specs.Answered.{answer_on}
 use Rattle.cf_plain.specs.Asks.{marks_over, rows_in}
 use Rattle.cf_plain.specs.declared.ask.Ask.{Ask}
 use Rattle.cf_plain.specs.declared.loaded.Live.{Live}

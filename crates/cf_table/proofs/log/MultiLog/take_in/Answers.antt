@@ -14,7 +14,8 @@ invariant_of-root c =
     ∙ (of.1.nodes ∙ (sym of.0.nodes ∙ sym (ap (λ (h : PassValue). h.nodes) c.root.view_is))) in
     let nodes : n.nodes ≡ r.token.nodes = ap (λ (h : PassValue). h.nodes) c.fold_token.ensures.made.same in
     let room = c.root.invariant.1 in (
-      noted_more r.notes.items c.push_reserved.new.self.items r.token n w.token w.notes.writer w.notes.over w.notes.used c.root.invariant.0 c.pass.invariant same nodes
+      noted_more r.notes.items c.push_reserved.new.self.items r.token n w.token w.notes.writer w.notes.over w.notes.used c.root.invariant.0 c.pass.invariant
+          same nodes
           c.push_reserved.ensures.items c.fold_token.ensures.books,
       omega (arith, cap, room),
     )

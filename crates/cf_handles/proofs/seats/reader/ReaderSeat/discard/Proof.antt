@@ -13,7 +13,7 @@ use types.Logic.{Logic}
 use contract.Monad.{Fun, fact}
 use contract.Running.{tables, tables_of}
 use sound.WpLaws.{WpFn-mono}
-use types.Kit.{Item, ‵, raw, ◌⊛◌, ◌$◌, ◌∵◌, !, qed, by, move, drop, rewrite, use1, join, split, fsplit, fjoin, fpick, feq_l, feq_i, suffices, done}
+use types.Kit.{Item, ‵, raw, ◌⊛◌, ◌$◌, ◌∵◌, !, qed, by, move, drop, rewrite, join, split, fsplit, fjoin, fpick, feq_l, feq_i, suffices, done}
 use Rattle.std.proofs.alloc.Calls.{α, handle_tells}
 use types.Part.{whole, sub}
 use types.Run.{unit_lit, stop, fld, of_opd, returns, enter}
