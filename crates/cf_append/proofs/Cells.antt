@@ -345,7 +345,7 @@ three_low s l i lane at =
 pub may_next : (s : ShapeValue) (p m : PassValue) (o l h i value : ℕ) (row : RowValue) → HasFilled s o row i p m
     → (l < length s.lanes) × (is_measured s l ≡ true) → h < 3 → i ≡ cell_from s l + h → path_in s row l ≡ Some (key_path s l (key_of s l row))
     → value ≡ version_word (layout s) l h (row_chain s l row (book_of p.view)) row
-        → IsLawfulStep s m.view (store_cell o i value) (store_effect m.view o i value)
+    → IsLawfulStep s m.view (store_cell o i value) (store_effect m.view o i value)
 may_next s p m o l h i value row F lane low at leads is =
     let three = three_words s l lane.1 in
     let q : List ℕ = key_path s l (key_of s l row) in

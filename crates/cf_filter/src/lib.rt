@@ -17,4 +17,4 @@ pub use atom::named_op;
 pub use bytes::{Class, strip, unspaced};
 pub use expr::{find_attr, one_outcome, parse_bytes, parse_expr};
 pub use fault::{FilterFault, Offence, OffenceAt};
-pub use value::read_value;
+pub use value::{are_all, read_value};

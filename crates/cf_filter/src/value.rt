@@ -62,7 +62,8 @@ pub(crate) fn is_run_of(class: Class, low: usize, high: usize, text: &[u8]) -> b
     low <= text.len() && text.len() <= high && are_all(class, text)
 }
 
-fn are_all(class: Class, text: &[u8]) -> bool
+/// Whether all bytes are of the class.
+pub fn are_all(class: Class, text: &[u8]) -> bool
     ensures { result ≡ list_all (passes class) text.now }
 {
     text.iter().all(|b| class.passes(*b))

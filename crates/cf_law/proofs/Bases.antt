@@ -8,7 +8,7 @@ use Rattle.std.proofs.lemmas.Option.{slice_get_within}
 use Rattle.cf_shape.specs.Places.{Slot, place}
 use Rattle.cf_shape.specs.Places.Slot.{tail, cell, body}
 use Rattle.cf_words.proofs.Forms.{stocks_with_label, stocks_with_node, stocks_with_mark, ticket_with_word, ticket_with_head, ticket_with_done, CanFill, CanHead, CanLink}
-use Rattle.cf_words.specs.Words.{Spot, Layout, Ticket, Stock, stock_of, Spells, has, marked_books, free_of, fresh_ticket, full_word}
+use Rattle.cf_words.specs.Words.{Spot, Layout, Ticket, NodeStock, stock_of, Spells, has, marked_books, free_of, fresh_ticket, full_word}
 use Rattle.cf_words.specs.Law.{LayoutLaw, HasLeaf, Skips, IsWhole}
 use Rattle.cf_law.specs.Lawful.{Base, BaseLaw, IsFilledIn}
 use Rattle.cf_words.proofs.Nodes.{over_node_at, relabel_marked, use_marked, over_marked, relabel_over, use_over}
@@ -92,7 +92,7 @@ get_from_push xs i u q h = elim (cases_eq i (length xs)) [
   | inr ne ↦ inr (sym (get_push_other xs u i ne) ∙ h)
 ]
 
-pub grows_self : (m : ℕ) (bs : List Stock) → Grows m bs bs
+pub grows_self : (m : ℕ) (bs : List NodeStock) → Grows m bs bs
 grows_self m bs n s h = h
 
 pub becomes_self : (t : Ticket) → Becomes t t

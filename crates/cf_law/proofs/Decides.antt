@@ -4,7 +4,7 @@ use Rattle.cf_shape.specs.Uses.{Use}
 use Rattle.std.proofs.lemmas.Bool.{cases_eq}
 use Rattle.cf_shape.specs.Places.{Slot, place}
 use Rattle.cf_shape.specs.Places.Slot.{body}
-use Rattle.cf_words.specs.Words.{Spot, spot, Layout, Ticket, Stock, node_at, has, IsNamedBy}
+use Rattle.cf_words.specs.Words.{Spot, spot, Layout, Ticket, NodeStock, node_at, has, IsNamedBy}
 use Rattle.cf_shape.specs.Uses.Use.{plain, version}
 use Rattle.cf_words.specs.Law.{Skips, IsWhole}
 use Rattle.cf_law.specs.Passes.{Book, Flight, Pass}
@@ -21,7 +21,7 @@ linked_if_true : (o : Option (List ℕ)) (b : Bool) → linked_if o b ≡ true �
 linked_if_true None b h q e = absurd (cc e)
 linked_if_true (Some x) b h q e = h
 
-named_unique : (m : ℕ) (bs : List Stock) (l k : ℕ) (p q : List ℕ) (t : Slot) → IsNamedBy m bs l p t → IsNamedBy m bs k q t → spot l p ≡ spot k q
+named_unique : (m : ℕ) (bs : List NodeStock) (l k : ℕ) (p q : List ℕ) (t : Slot) → IsNamedBy m bs l p t → IsNamedBy m bs k q t → spot l p ≡ spot k q
 named_unique m bs l k [] q t h g = absurd h
 named_unique m bs l k (d ∷ p) [] t h g = absurd g
 named_unique m bs l k (d ∷ []) (e ∷ []) t h g = cc (h, g)

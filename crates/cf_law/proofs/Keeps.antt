@@ -8,7 +8,7 @@ use Rattle.std.proofs.lemmas.Option.{slice_get_within}
 use Rattle.cf_shape.specs.Places.{Slot, place}
 use Rattle.cf_shape.specs.Places.Slot.{tail, cell}
 use Rattle.cf_words.proofs.Forms.{stocks_with_label, stocks_with_mark, ticket_with_word, ticket_with_done, CanFill, CanHead}
-use Rattle.cf_words.specs.Words.{spot, Layout, Ticket, Stock, stock_of, marked_books, has, fresh_ticket}
+use Rattle.cf_words.specs.Words.{spot, Layout, Ticket, NodeStock, stock_of, marked_books, has, fresh_ticket}
 use Rattle.cf_words.specs.Law.{LayoutLaw, IsWhole}
 use Rattle.cf_law.specs.Passes.{Own, Flight, Book, Pass}
 use Rattle.cf_law.specs.Steps.{Holds, HoldsInFlight, ticket_of, book_with_flight, book_with_ticket, book_with_word, book_with_record, book_with_head, own_word, pass_with_book, IsNext, Knows}
@@ -22,25 +22,25 @@ use Rattle.cf_law.proofs.Books.{flight_of, own_of, flight_found, none_flying, se
 use Rattle.cf_law.proofs.Owned.{own_word_is}
 use Rattle.cf_law.proofs.Acting.{booked}
 
-stock_over_same : (bs : List Stock) (w : ℕ) → w < length bs
+stock_over_same : (bs : List NodeStock) (w : ℕ) → w < length bs
     → stock_of (stocks_with_mark w bs) w ≡ record { used = (stock_of bs w).used; label = (stock_of bs w).label; over = true }
 unfolding stocks_with_mark
 stock_over_same bs w h = book_same bs w _ h
 
-stock_over_other : (bs : List Stock) (w v : ℕ) → v ≢ w → stock_of (stocks_with_mark w bs) v ≡ stock_of bs v
+stock_over_other : (bs : List NodeStock) (w v : ℕ) → v ≢ w → stock_of (stocks_with_mark w bs) v ≡ stock_of bs v
 unfolding stocks_with_mark
 stock_over_other bs w v h = book_other bs w v _ h
 
-pub stock_label_same : (bs : List Stock) (w l : ℕ) → w < length bs
+pub stock_label_same : (bs : List NodeStock) (w l : ℕ) → w < length bs
     → stock_of (stocks_with_label w l bs) w ≡ record { used = (stock_of bs w).used; label = l; over = (stock_of bs w).over }
 unfolding stocks_with_label
 stock_label_same bs w l h = book_same bs w _ h
 
-pub stock_label_other : (bs : List Stock) (w l v : ℕ) → v ≢ w → stock_of (stocks_with_label w l bs) v ≡ stock_of bs v
+pub stock_label_other : (bs : List NodeStock) (w l v : ℕ) → v ≢ w → stock_of (stocks_with_label w l bs) v ≡ stock_of bs v
 unfolding stocks_with_label
 stock_label_other bs w l v h = book_other bs w v _ h
 
-marked_some : (bs : List Stock) → 0 < marked_books bs → (w : ℕ) × ((stock_of bs w).over ≡ true)
+marked_some : (bs : List NodeStock) → 0 < marked_books bs → (w : ℕ) × ((stock_of bs w).over ≡ true)
 unfolding marked_books stock_of
 marked_some [] h = absurd (omega arith)
 marked_some (b ∷ bs) h = elim (cases_Bool b.over) [
@@ -56,12 +56,12 @@ Later m n = Evolves m.log n.log × (m.tails.1 ≤ n.tails.1)
 abbrev pub Next : Layout → Base → Slot → ℕ → List Pass → Type 0
 Next sh m t v passes = (n : Base) × (n.words ≡ set m.words (place sh.sizes t) v) × Stands sh n passes × Later m n
 
-pub made_book : (m : Base) (w : ℕ) (mine : List Own) (flight : Option Flight) (st : Stock) → mine ≡ mine_in w 0 m.log → flight ≡ flight_in w 0 m.log
+pub made_book : (m : Base) (w : ℕ) (mine : List Own) (flight : Option Flight) (st : NodeStock) → mine ≡ mine_in w 0 m.log → flight ≡ flight_in w 0 m.log
     → st ≡ stock_of m.stocks w
     → (record { writer = w; mine = mine; flight = flight; over = st.over; used = st.used; label = st.label }) ≡ book_at m w
 made_book m w mine flight st a b c =
-    let f : List Own → Option Flight → Stock → Book = λ x y z. record { writer = w; mine = x; flight = y; over = z.over; used = z.used; label = z.label } in
-    ap₂ (λ (x : List Own) (y : Option Flight). f x y st) a b ∙ ap (λ (z : Stock). f (mine_in w 0 m.log) (flight_in w 0 m.log) z) c
+    let f : List Own → Option Flight → NodeStock → Book = λ x y z. record { writer = w; mine = x; flight = y; over = z.over; used = z.used; label = z.label } in
+    ap₂ (λ (x : List Own) (y : Option Flight). f x y st) a b ∙ ap (λ (z : NodeStock). f (mine_in w 0 m.log) (flight_in w 0 m.log) z) c
 
 -- what the book of a ticket in flight tells
 pub record Aloft (sh : Layout) (m : Base) (b : Book) (f : Flight) : Type 0 where

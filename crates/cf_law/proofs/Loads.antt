@@ -8,7 +8,7 @@ use Rattle.std.proofs.lemmas.Bool.{cases_lt, cases_Bool}
 use Rattle.std.proofs.lemmas.Option.{slice_get_within}
 use Rattle.cf_shape.specs.Places.{Slot, place, IsReal, Sizes}
 use Rattle.cf_shape.specs.Places.Slot.{tail, cell}
-use Rattle.cf_words.specs.Words.{Spot, spot, Layout, Ticket, Stock, node_at, IsNamedBy, is_inner, ticket_word, done_word, full_word, tail_word}
+use Rattle.cf_words.specs.Words.{Spot, spot, Layout, Ticket, NodeStock, node_at, IsNamedBy, is_inner, ticket_word, done_word, full_word, tail_word}
 use Rattle.cf_shape.specs.Uses.Use.{version}
 use Rattle.cf_words.specs.Law.{LayoutLaw}
 use Rattle.cf_law.specs.Passes.{Cursor, Pass}
@@ -25,7 +25,7 @@ place_tail g k = refl
 abbrev gone_on : Cursor → ℕ → ℕ → Cursor
 gone_on c o n = record { writer = c.writer; spot = c.spot; link = n % 2 ^ 32; gone = o ∷ c.gone; met = (o, c.writer) ∷ c.met }
 
-pub reached : (m : ℕ) (bs : List Stock) (p : Pass) (l : ℕ) (q : List ℕ) (t : Slot)
+pub reached : (m : ℕ) (bs : List NodeStock) (p : Pass) (l : ℕ) (q : List ℕ) (t : Slot)
     → ((i : ℕ) (x : Spot × ℕ) → slice_get p.known i ≡ Some x → node_at m bs x.1 ≡ Some x.0) → Reaches p l q t → IsNamedBy m bs l q t
 reached m bs p l [] t known h = absurd h
 reached m bs p l (d ∷ []) t known h = h
@@ -90,7 +90,7 @@ pub cursor_law : (sh : Layout) (m : Base) (p : Pass) (c : Option Cursor) → Cur
 cursor_law sh m p c new old =
     record { within = old.within; seen = old.seen; olds = old.olds; known = old.known; walk = new; look = old.look; books = old.books; ends = old.ends }
 
-learn_known : (sh : Layout) (bs : List Stock) (s : Spot) (n : ℕ) (xs : List (Spot × ℕ)) → Known sh bs (s, n)
+learn_known : (sh : Layout) (bs : List NodeStock) (s : Spot) (n : ℕ) (xs : List (Spot × ℕ)) → Known sh bs (s, n)
     → ((i : ℕ) (x : Spot × ℕ) → slice_get xs i ≡ Some x → Known sh bs x)
     → (i : ℕ) (x : Spot × ℕ) → slice_get ((s, n) ∷ xs) i ≡ Some x → Known sh bs x
 learn_known sh bs s n xs new old zero x h = let same : ◌≡◌ {A = Spot × ℕ} (s, n) x = cc h in subst (Known sh bs) same new

@@ -7,7 +7,7 @@ use Rattle.std.proofs.lemmas.Bool.{cases_eq}
 use Rattle.std.specs.Bool.{nat_lt}
 use Rattle.cf_shape.specs.Places.{Slot, place, IsReal}
 use Rattle.cf_shape.specs.Places.Slot.{cell}
-use Rattle.cf_words.specs.Words.{Spot, spot, Layout, Ticket, Stock, node_at, IsNamedBy, NodeWord, BodyWord, is_inner, Spells, chain, link_to_newest, has, ticket_word, full_word, used_word, lane_word, version_word}
+use Rattle.cf_words.specs.Words.{Spot, spot, Layout, Ticket, NodeStock, node_at, IsNamedBy, NodeWord, BodyWord, is_inner, Spells, chain, link_to_newest, has, ticket_word, full_word, used_word, lane_word, version_word}
 use Rattle.cf_shape.specs.Uses.Use.{version}
 use Rattle.cf_words.specs.Law.{NodesLaw}
 use Rattle.cf_law.specs.Passes.{Cursor}
@@ -43,11 +43,11 @@ pub record Becomes (t u : Ticket) : Type 0 where
 abbrev pub Evolves : List Ticket → List Ticket → Type 0
 Evolves log log' = (o : ℕ) (t : Ticket) → slice_get log o ≡ Some t → (u : Ticket) × (slice_get log' o ≡ Some u) × Becomes t u
 
-pub known_grows : (sh : Layout) (bs bs' : List Stock) (x : Spot × ℕ) → Grows sh.sizes.nodes bs bs' → Known sh bs x → Known sh bs' x
+pub known_grows : (sh : Layout) (bs bs' : List NodeStock) (x : Spot × ℕ) → Grows sh.sizes.nodes bs bs' → Known sh bs x → Known sh bs' x
 known_grows sh bs bs' x grows k = grows x.1 x.0 k
 
 -- a known child word still has its value
-pub known_holds : (sh : Layout) (ts : ℕ × ℕ) (log : List Ticket) (bs : List Stock) (words : List ℕ) (x : Spot × ℕ) (t : Slot) → NodesLaw sh bs
+pub known_holds : (sh : Layout) (ts : ℕ × ℕ) (log : List Ticket) (bs : List NodeStock) (words : List ℕ) (x : Spot × ℕ) (t : Slot) → NodesLaw sh bs
     → Spells sh ts log bs words → Known sh bs x
     → IsReal sh.sizes t → IsNamedBy sh.sizes.nodes bs x.0.lane x.0.path t → get_or words (place sh.sizes t) 0 ≡ suc x.1
 known_holds sh ts log bs words x t law spells k real named = known_word sh ts log bs words x.0 t x.1 law (law.shaped x.1 x.0 k).2 real named spells k
@@ -87,7 +87,7 @@ pub done_evolves : (log log' : List Ticket) (o : ℕ) → Evolves log log' → D
 done_evolves log log' o ev h = let u = ev o h.0 h.1 in (u.0, u.1, (u.2).done h.2)
 
 -- The walk. A head begins it.
-pub head_word : (sh : Layout) (ts : ℕ × ℕ) (log : List Ticket) (bs : List Stock) (words : List ℕ) (n d w l : ℕ) (p : List ℕ)
+pub head_word : (sh : Layout) (ts : ℕ × ℕ) (log : List Ticket) (bs : List NodeStock) (words : List ℕ) (n d w l : ℕ) (p : List ℕ)
     → IsReal sh.sizes (head_slot sh.sizes n d w) → w < sh.sizes.writers → node_at sh.sizes.nodes bs n ≡ Some (spot l p) → is_inner sh (spot l p) ≡ false
     → Spells sh ts log bs words → get_or words (place sh.sizes (head_slot sh.sizes n d w)) 0 ≡ link_to_newest (chain sh log w (spot l (d ∷ p)) (length log))
 head_word sh ts log bs words n d w l p real lt at outer spells =
@@ -152,7 +152,7 @@ walk_goes sh log seen c o law is h = record {
 }
 
 -- the word that is found there
-pub previous_word : (sh : Layout) (ts : ℕ × ℕ) (log : List Ticket) (bs : List Stock) (words : List ℕ) (c : Cursor) (o k : ℕ)
+pub previous_word : (sh : Layout) (ts : ℕ × ℕ) (log : List Ticket) (bs : List NodeStock) (words : List ℕ) (c : Cursor) (o k : ℕ)
     → Leads sh log c (suc o) → sh.use_of k ≡ version c.spot.lane 0 → suc k < sh.sizes.ticket_words → o < sh.sizes.tickets → sh.sizes.tickets < 2 ^ 32
     → Spells sh ts log bs words → get_or words (place sh.sizes (cell o k)) 0 % 2 ^ 32 ≡ link_to_newest (chain sh log c.writer c.spot o)
 previous_word sh ts log bs words c o k leads is within room small spells =

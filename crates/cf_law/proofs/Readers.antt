@@ -12,7 +12,7 @@ use Rattle.std.proofs.lemmas.Option.{slice_get_within}
 use Rattle.cf_shape.specs.Places.{Slot, place, IsReal}
 use Rattle.cf_shape.specs.Places.Slot.{tail, cell}
 use Rattle.cf_shape.specs.Uses.Use.{version}
-use Rattle.cf_words.specs.Words.{marked_books, Spot, spot, Layout, entry, Ticket, Stock, stock_of, node_at, IsNamedBy, has, same_path, ticket_word, done_word, full_word, links, entry_at, chain, version_word, used_word, lane_word}
+use Rattle.cf_words.specs.Words.{marked_books, Spot, spot, Layout, entry, Ticket, NodeStock, stock_of, node_at, IsNamedBy, has, same_path, ticket_word, done_word, full_word, links, entry_at, chain, version_word, used_word, lane_word}
 use Rattle.cf_words.specs.Law.{LayoutLaw, NodesLaw}
 use Rattle.cf_law.specs.Passes.{Book, Flight, Cursor, Pass}
 use Rattle.cf_law.specs.Steps.{HoldsInFlight, IsChild, Knows, Step, met_of, ticket_of, own_word}
@@ -34,7 +34,7 @@ use Rattle.cf_law.proofs.Keeps.{aloft, Later}
 use Rattle.cf_law.proofs.Steps.{step_keeps}
 use Rattle.cf_law.proofs.Homes.{own_done, whole, stays}
 
-marked_most : (bs : List Stock) → marked_books bs ≤ length bs
+marked_most : (bs : List NodeStock) → marked_books bs ≤ length bs
 unfolding marked_books
 marked_most [] = omega arith
 marked_most (b ∷ bs) = elim (cases_Bool b.over) [
@@ -54,7 +54,8 @@ pub at_seen : (sh : Layout) (m : Base) (p : Pass) (o : ℕ) (t : Ticket) → Pas
 at_seen sh m p o t knows lt at = ap (λ (es : List Entry). slice_get es o) knows.seen ∙ front_get m.log (length p.seen) o t lt at
 
 -- a whole path: each nonempty proper end of it has a node
-up : (sh : Layout) (bs : List Stock) (l n : ℕ) (xs : List ℕ) (e : ℕ) (p : List ℕ) → NodesLaw sh bs → node_at sh.sizes.nodes bs n ≡ Some (spot l (xs ++ e ∷ p))
+up : (sh : Layout) (bs : List NodeStock) (l n : ℕ) (xs : List ℕ) (e : ℕ) (p : List ℕ) → NodesLaw sh bs
+    → node_at sh.sizes.nodes bs n ≡ Some (spot l (xs ++ e ∷ p))
     → (k : ℕ) × (node_at sh.sizes.nodes bs k ≡ Some (spot l (e ∷ p)))
 up sh bs l n [] e p law at = (n, at)
 up sh bs l n (x ∷ []) e p law at = law.parent n l x e p at
@@ -221,7 +222,7 @@ bounded sh m p law knows = record {
       let same = law.nodes.unique (b.writer * sh.sizes.nodes + i) (b.writer * sh.sizes.nodes + j) s u v in omega (arith, same));
 }
 
-used_at : (bs : List Stock) (k n : ℕ) (s : Spot) → node_at k bs n ≡ Some s → slice_get (stock_of bs (n / k)).used (n % k) ≡ Some s
+used_at : (bs : List NodeStock) (k n : ℕ) (s : Spot) → node_at k bs n ≡ Some s → slice_get (stock_of bs (n / k)).used (n % k) ≡ Some s
 unfolding node_at
 used_at bs k n s h = h
 

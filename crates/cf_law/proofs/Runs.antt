@@ -6,7 +6,7 @@ use Rattle.std.proofs.lemmas.Bool.{cases_lt}
 use Rattle.std.proofs.lemmas.Option.{slice_get_within}
 use Rattle.cf_shape.specs.Places.{Slot, place, word_total}
 use Rattle.cf_shape.specs.Places.Slot.{tail, cell, root, body}
-use Rattle.cf_words.specs.Words.{Spot, Layout, Stock, stock_of, node_at, spare_label, IsWordOf, BodyWord, marked_books}
+use Rattle.cf_words.specs.Words.{Spot, Layout, NodeStock, stock_of, node_at, spare_label, IsWordOf, BodyWord, marked_books}
 use Rattle.cf_words.specs.Law.{LayoutLaw}
 use Rattle.cf_law.specs.Passes.{Book, Pass}
 use Rattle.cf_law.specs.Steps.{new_pass}
@@ -19,7 +19,7 @@ use Rattle.cf_law.proofs.Fronts.{table_length, table_at, front_take}
 use Rattle.cf_law.proofs.Steps.{step_keeps}
 use Rattle.cf_law.proofs.Moves.{split_keeps, join_keeps}
 
-abbrev empty_stock : Stock
+abbrev empty_stock : NodeStock
 empty_stock = record { used = []; label = 0; over = false }
 
 opening_stock : (n w : ℕ) → stock_of (replicate n empty_stock) w ≡ empty_stock
@@ -31,7 +31,7 @@ opening_stock n w = elim (cases_lt w n) [
 
 opening_node : (m n k : ℕ) → node_at m (replicate n empty_stock) k ≡ None
 unfolding node_at
-opening_node m n k = ap (λ (b : Stock). slice_get b.used (k % m)) (opening_stock n (k / m))
+opening_node m n k = ap (λ (b : NodeStock). slice_get b.used (k % m)) (opening_stock n (k / m))
 
 cond_zero : (b : Bool) → ◌≡◌ {A = ℕ} (cond b 0 0) 0
 cond_zero true = refl
@@ -39,7 +39,7 @@ cond_zero false = refl
 
 opening_spare : (m n k : ℕ) → spare_label m (replicate n empty_stock) k ≡ 0
 unfolding spare_label
-opening_spare m n k = ap (λ (b : Stock). cond (k % m == length b.used) b.label 0) (opening_stock n (k / m)) ∙ cond_zero (k % m == 0)
+opening_spare m n k = ap (λ (b : NodeStock). cond (k % m == length b.used) b.label 0) (opening_stock n (k / m)) ∙ cond_zero (k % m == 0)
 
 opening_marked : (n : ℕ) → marked_books (replicate n empty_stock) ≡ 0
 unfolding marked_books
@@ -71,7 +71,7 @@ opening_law sh = let none = nothing_used sh.sizes.nodes sh.sizes.writers in reco
       (sym (get_or-replicate (word_total sh.sizes) (place sh.sizes t) 0 0 (place_within sh.sizes t real))) (opening_word sh t);
   nodes = record {
     writers = length-replicate sh.sizes.writers empty_stock;
-    room = λ w. omega (arith, ap (λ (b : Stock). length b.used) (opening_stock sh.sizes.writers w));
+    room = λ w. omega (arith, ap (λ (b : NodeStock). length b.used) (opening_stock sh.sizes.writers w));
     unique = λ n k s e f. absurd (none n s e);
     shaped = λ n s e. absurd (none n s e);
     parent = λ n l d e p f. absurd (none n _ f);
@@ -83,7 +83,7 @@ opening_law sh = let none = nothing_used sh.sizes.nodes sh.sizes.writers in reco
   linked = λ o l t p e d h. absurd (cc e);
   whole = λ o t e d. absurd (cc e);
   marks = omega (arith, opening_marked sh.sizes.writers);
-  ends = λ w h. absurd (cc (ap (λ (b : Stock). b.over) (opening_stock sh.sizes.writers w), h));
+  ends = λ w h. absurd (cc (ap (λ (b : NodeStock). b.over) (opening_stock sh.sizes.writers w), h));
   writers = λ o t e. absurd (cc e);
   fits = λ o t e. absurd (cc e);
   covered = omega arith;

@@ -3,7 +3,7 @@ use Rattle.std.specs.Prelude.{ℕ, ◌+◌, ◌<◌, ◌≤◌, ◌≡◌, ◌==
 use Rattle.cf_row.specs.declared.row.Entry.{Entry}
 use Rattle.cf_shape.specs.Places.{place, word_total}
 use Rattle.cf_shape.specs.Places.Slot.{cell}
-use Rattle.cf_words.specs.Words.{Spot, Layout, entry, Ticket, Stock, stock_of, marked_books, node_at, has, Spells}
+use Rattle.cf_words.specs.Words.{Spot, Layout, entry, Ticket, NodeStock, stock_of, marked_books, node_at, has, Spells}
 use Rattle.cf_shape.specs.Uses.Use.{version}
 use Rattle.cf_words.specs.Law.{NodesLaw, LeavesLaw, FlightLaw, IsWhole}
 use Rattle.cf_law.specs.Passes.{Own, Flight, Book, Cursor, Pass}
@@ -15,7 +15,7 @@ pub record Base : Type 0 where
   pub words : List ℕ
   pub tails : ℕ × ℕ
   pub log : List Ticket
-  pub stocks : List Stock
+  pub stocks : List NodeStock
 
 -- the cell of that lane is filled
 abbrev pub IsFilledIn : Layout → Ticket → ℕ → Type 0
@@ -73,7 +73,7 @@ book_at m w = record {
 }
 
 -- the node stands for the lane and prefix, and so each child word of these is the node's number plus 1 for good
-abbrev pub Known : Layout → List Stock → Spot × ℕ → Type 0
+abbrev pub Known : Layout → List NodeStock → Spot × ℕ → Type 0
 Known layout bs x = node_at layout.sizes.nodes bs x.1 ≡ Some x.0
 
 -- a walk's link names no ticket, as 0, or as an offset plus 1 a ticket of the cursor's writer in its leaf, whose cell there is filled

@@ -2,13 +2,13 @@
 use Rattle.std.specs.Prelude.{ℕ, ◌+◌, ◌*◌, ◌<◌, ◌≤◌, ◌≡◌, suc, List, ◌∷◌, ◌++◌, length, get_or, true, Some, None, slice_get}
 use Rattle.cf_shape.specs.Places.{Slot, place, IsReal, head_slot}
 use Rattle.cf_shape.specs.Places.Slot.{tail, cell, body}
-use Rattle.cf_words.specs.Words.{Spot, spot, Layout, Ticket, Stock, stock_of, marked_books, node_at, IsNamedBy, free_of, has, done_word, full_word, chain, link_to_newest}
+use Rattle.cf_words.specs.Words.{Spot, spot, Layout, Ticket, NodeStock, stock_of, marked_books, node_at, IsNamedBy, free_of, has, done_word, full_word, chain, link_to_newest}
 use Rattle.cf_law.specs.Passes.{Cursor, Pass}
 use Rattle.cf_law.specs.Lawful.{Base}
 use Rattle.cf_law.specs.Events.{word_at}
 
 -- the slot t is a child word that stands for the spot s
-pub record IsChildWord (sh : Layout) (stocks : List Stock) (spot : Spot) (slot : Slot) : Type 0 where
+pub record IsChildWord (sh : Layout) (stocks : List NodeStock) (spot : Spot) (slot : Slot) : Type 0 where
   pub named : IsNamedBy sh.sizes.nodes stocks spot.lane spot.path slot
   pub real : IsReal sh.sizes slot
   pub inner : length spot.path < sh.levels spot.lane

@@ -9,6 +9,6 @@ mod list;
 mod tests;
 
 pub use lines::{
-    are_all, first_line, is_blank, is_name, is_silent, last_word, new_name, next_word, word_of,
+    first_line, is_blank, is_name, is_silent, last_word, new_name, next_word, word_of,
 };
 pub use list::schema_of;

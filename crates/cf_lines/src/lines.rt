@@ -1,12 +1,10 @@
 // Lines, and the words of a line.
 ghost use Rattle.std.specs.Prelude.{◌≡◌, ℕ, List, ◌≤◌, ◌<◌, ◌∷◌, length, true, All, IfSome};
-ghost use Rattle.std.specs.List.{list_all};
 ghost use Rattle.std.specs.Option.{option_map, option_copied};
 ghost use Rattle.std.specs.Str.Lines.{strip_carriage_return};
-ghost use Rattle.cf_filter.specs.Tokens.{passes};
 ghost use Rattle.cf_lines.specs.Lines.{lines_of, is_silent as is_silent_of, word_at, is_blank as is_blank_of, next_word as next_word_of, last_word as last_word_of, is_name as is_name_of, new_name as new_name_of};
 
-use cf_filter::{Class, unspaced};
+use cf_filter::{Class, are_all, unspaced};
 
 // Without a carriage return at the end.
 fn strip_return(line: &[u8]) -> &[u8]
@@ -43,13 +41,6 @@ pub fn is_silent(line: &[u8]) -> bool
         [] => true,
         [first, ..] => *first == b'#',
     }
-}
-
-/// Whether all bytes are of the class.
-pub fn are_all(class: Class, text: &[u8]) -> bool
-    ensures { result ≡ list_all (passes class) text.now }
-{
-    text.iter().all(|b| class.passes(*b))
 }
 
 /// The word at the front, empty at the end of the line, and what follows it.

@@ -20,7 +20,7 @@ use Rattle.cf_table.specs.Moves.{Begins, AreDealt, AreAll, HasGathered, books_of
 use Rattle.cf_table.proofs.Homing.{still_one, book_in}
 use Rattle.cf_append.specs.Appends.{Rests, IsReady}
 use Rattle.cf_segments.specs.Needed.{IsNeeded, IsOut, HasNodes, HasRunOut}
-use Rattle.cf_load.specs.Writing.{rows_of_book, RanOut, RunsOut, Wrote}
+use Rattle.cf_load.specs.Writing.{rows_of_book, RanOut, RunsOut, HasWritten}
 use Rattle.cf_segments.specs.Loaded.{IsLogFrom, HasLoaded}
 use Rattle.cf_load.specs.Loading.{IsShort}
 use Rattle.cf_segments.proofs.Alls.{all_drop}
@@ -65,22 +65,22 @@ ready_passes log first rows m r passes has dealt k d lt = ready_one log first ro
 
 -- passes that wrote may come home
 pub homeward : (whole : Bool) (log : LogValue) (first : ℕ) (batch : List RowValue) (passes after : List PassValue) → All (IsReady log) passes
-    → AreAll log passes → AllZip (Wrote whole log first batch) passes after → AreAll log after
+    → AreAll log passes → AllZip (HasWritten whole log first batch) passes after → AreAll log after
 homeward whole log first batch passes after ready all wrote = record {
   of = λ k a at. of k a at;
   rest = λ k a at j b holds. rest k a at j b holds;
-  count = sym (zip_long (Wrote whole log first batch) passes after wrote) ∙ all.count;
+  count = sym (zip_long (HasWritten whole log first batch) passes after wrote) ∙ all.count;
   writers = λ w lt. writers w lt;
 }
   where
     of : (k : ℕ) (a : PassValue) → slice_get after k ≡ Some a → IsOf a log
     of k a at =
-        let z = zip_back (Wrote whole log first batch) passes after k a wrote at in
+        let z = zip_back (HasWritten whole log first batch) passes after k a wrote at in
         still_one log z.0 a (all.of k z.0 z.1) (z.2).same
 
     rest : (k : ℕ) (a : PassValue) → slice_get after k ≡ Some a → IsAtRest a.view
     rest k a at j b holds =
-        let z = zip_back (Wrote whole log first batch) passes after k a wrote at in
+        let z = zip_back (HasWritten whole log first batch) passes after k a wrote at in
         ap (λ (c : Book). c.flight) (only_book a.view (z.2).rest j b holds) ∙ (z.2).rest.free
 
     writers : (w : ℕ) → w < (log.shape).writers → (k : ℕ) × (h : PassValue) × (j : ℕ) × (b : Book) × (slice_get after k ≡ Some h) × Holds h.view j b
@@ -92,13 +92,13 @@ homeward whole log first batch passes after ready all wrote = record {
         let within : k < length passes = slice_get_within passes k h r.4 in
         let same : get_or passes k h ≡ h = (let f : Some (get_or passes k h) ≡ Some h = sym (slice_get-get_or passes k h within) ∙ r.4 in cc f) in
         let rests : Rests h.view = subst (λ (x : PassValue). Rests x.view) same (ready k h within).rest in
-        let z = zip_at (Wrote whole log first batch) passes after k h wrote r.4 in
+        let z = zip_at (HasWritten whole log first batch) passes after k h wrote r.4 in
         let mine : (book_of h.view).writer ≡ w = ap (λ (c : Book). c.writer) (sym (only_book h.view rests r.2 r.3 r.5)) ∙ r.6 in
         (k, z.0, 0, book_of (z.0).view, z.1, first_book (z.0).view (z.2).rest, (z.2).writer ∙ mine)
 
 -- passes that were told nothing tell nothing
 pub quiet : (whole : Bool) (log : LogValue) (first : ℕ) (batch : List RowValue) (hs gs : List PassValue) (ts : List ℕ)
-    → AllZip (Wrote whole log first batch) hs gs → ((k : ℕ) (h : PassValue) → slice_get hs k ≡ Some h → ((h.view).tails ≡ []) × ((h.view).told ≡ []))
+    → AllZip (HasWritten whole log first batch) hs gs → ((k : ℕ) (h : PassValue) → slice_get hs k ≡ Some h → ((h.view).tails ≡ []) × ((h.view).told ≡ []))
     → told_by ts gs ≡ ts
 unfolding told_by
 quiet whole log first batch [] [] ts all each = refl
@@ -113,7 +113,7 @@ quiet whole log first batch (h ∷ hs) (a ∷ gs) ts all each =
 
 -- passes that were dealt and then wrote tell a root nothing
 pub told_home : (whole : Bool) (log : LogValue) (first : ℕ) (batch : List RowValue) (m r : PassValue) (passes after : List PassValue)
-    → AreDealt log m passes r → AllZip (Wrote whole log first batch) passes after → (told : List ℕ) → told_by told after ≡ told
+    → AreDealt log m passes r → AllZip (HasWritten whole log first batch) passes after → (told : List ℕ) → told_by told after ≡ told
 told_home whole log first batch m r passes after dealt wrote told =
     quiet whole log first batch passes after told wrote
     (λ k h at. (let d = dealt.each k h at in (ap (λ (p : Pass). p.tails) d.view, ap (λ (p : Pass). p.told) d.view)))
@@ -153,7 +153,7 @@ book_from (x ∷ xs) rest k b at = elim (in_either (x.view).books (books_of xs) 
 
 -- The passes that wrote came home.
 module _ (whole : Bool) (log : LogValue) (first : ℕ) (rows batch : List RowValue) (m r n : PassValue) (passes after : List PassValue)
-    (has : HasLoaded log first rows m) (dealt : AreDealt log m passes r) (wrote : AllZip (Wrote whole log (first + length rows) batch) passes after)
+    (has : HasLoaded log first rows m) (dealt : AreDealt log m passes r) (wrote : AllZip (HasWritten whole log (first + length rows) batch) passes after)
     (g : HasGathered log.shape r after n) where
   -- what was seen before, what came, and how many writers there are
   abbrev pub seen : List Entry
@@ -178,7 +178,7 @@ module _ (whole : Bool) (log : LogValue) (first : ℕ) (rows batch : List RowVal
 
   -- what a pass wrote whose writer had this book
   pub wrote_part : (w k : ℕ) (h a : PassValue) (b : Book) → Holds m.view k b → b.writer ≡ w → slice_get passes k ≡ Some h → slice_get after k ≡ Some a
-      → Wrote whole log (first + length rows) batch h a → length rows + length batch ≤ (log.shape).capacity
+      → HasWritten whole log (first + length rows) batch h a → length rows + length batch ≤ (log.shape).capacity
       → WrotePart whole W (first + length rows) batch new w
   wrote_part w k h a b held own at there wr room = record {
     left = wr.left;
@@ -227,7 +227,7 @@ module _ (whole : Bool) (log : LogValue) (first : ℕ) (rows batch : List RowVal
       let low : k < length passes = omega (arith, slice_get_within (m.view).books k b home.2, dealt.count) in
       let h : PassValue = get_or passes k m in
       let at : slice_get passes k ≡ Some h = slice_get-get_or passes k m low in
-      let z = zip_at (Wrote whole log (first + length rows) batch) passes after k h wrote at in
+      let z = zip_at (HasWritten whole log (first + length rows) batch) passes after k h wrote at in
       wrote_part w k h z.0 b home.2 home.3 at z.1 z.2 room
 
   -- the root is still the log's
@@ -241,13 +241,13 @@ module _ (whole : Bool) (log : LogValue) (first : ℕ) (rows batch : List RowVal
   pub book_home : (k : ℕ) (b : Book) → Holds n.view k b → (i : ℕ) × (a : PassValue) × (slice_get after i ≡ Some a) × (b ≡ book_of a.view)
   book_home k b held =
       let there : slice_get (books_of after) k ≡ Some b = ap (λ (bs : List Book). slice_get bs k) (sym g.books) ∙ held in
-      book_from after (λ i a at. ((zip_back (Wrote whole log (first + length rows) batch) passes after i a wrote at).2).rest) k b there
+      book_from after (λ i a at. ((zip_back (HasWritten whole log (first + length rows) batch) passes after i a wrote at).2).rest) k b there
 
   -- what its used nodes are for
   pub used_by : (i : ℕ) (a : PassValue) (j : ℕ) (s : Spot) → slice_get after i ≡ Some a → slice_get (book_of a.view).used j ≡ Some s
       → IsNeeded log.shape (rows ++ batch) s
   used_by i a j s at used =
-      let z = zip_back (Wrote whole log (first + length rows) batch) passes after i a wrote at in
+      let z = zip_back (HasWritten whole log (first + length rows) batch) passes after i a wrote at in
       let d = dealt.each i z.0 z.1 in
       let same : book_of (z.0).view ≡ d.book = ap (λ (p : Pass). book_of p) d.view in
       elim ((z.2).used j s used) [
@@ -267,7 +267,7 @@ module _ (whole : Bool) (log : LogValue) (first : ℕ) (rows batch : List RowVal
 -- are in the log.
 pub batch_loaded : (log : LogValue) (first : ℕ) (rows batch : List RowValue) (b : ℕ) (m r n : PassValue) (passes after : List PassValue) → IsShape log.shape
     → HasLoaded log first rows m → length rows ≡ 4096 * b → length batch ≤ 4096 → length rows + length batch ≤ (log.shape).capacity → AreDealt log m passes r
-    → AllZip (Wrote true log (first + length rows) batch) passes after → HasGathered log.shape r after n → HasLoaded log first (rows ++ batch) n
+    → AllZip (HasWritten true log (first + length rows) batch) passes after → HasGathered log.shape r after n → HasLoaded log first (rows ++ batch) n
 batch_loaded log first rows batch b m r n passes after shape has long few room dealt wrote g =
     let W = (log.shape).writers in
     let some : 0 < W = shape.writers.0 in
@@ -297,7 +297,7 @@ root_away log m r passes of dealt = (
 
 -- a root is told nothing by passes that wrote
 pub told_same : (whole : Bool) (log : LogValue) (first : ℕ) (batch : List RowValue) (m r n : PassValue) (passes after : List PassValue)
-    → AreDealt log m passes r → AllZip (Wrote whole log first batch) passes after → HasGathered log.shape r after n → (n.view).told ≡ (m.view).told
+    → AreDealt log m passes r → AllZip (HasWritten whole log first batch) passes after → HasGathered log.shape r after n → (n.view).told ≡ (m.view).told
 told_same whole log first batch m r n passes after dealt wrote g = g.told
     ∙ (told_home whole log first batch m r passes after dealt wrote (r.view).told ∙ ap (λ (h : PassValue). (h.view).told) dealt.root)
 
@@ -305,7 +305,7 @@ told_same whole log first batch m r n passes after dealt wrote g = g.told
 -- entries are the first of its rows.
 pub batch_out : (whole : Bool) (log : LogValue) (first : ℕ) (rows batch : List RowValue) (w : ℕ) (m r n : PassValue) (passes after : List PassValue)
     → IsShape log.shape → HasLoaded log first rows m → length rows + length batch ≤ (log.shape).capacity
-    → AreDealt log m passes r → AllZip (Wrote whole log (first + length rows) batch) passes after → RanOut log (first + length rows) batch w passes after
+    → AreDealt log m passes r → AllZip (HasWritten whole log (first + length rows) batch) passes after → RanOut log (first + length rows) batch w passes after
     → HasGathered log.shape r after n → IsShort log first (rows ++ batch) w n
 batch_out whole log first rows batch w m r n passes after shape has room dealt wrote out g = record {
   exists = exists;
@@ -338,7 +338,7 @@ batch_out whole log first rows batch w m r n passes after shape has room dealt w
 
     book : (i : ℕ) × (slice_get (books_of after) i ≡ Some mine)
     book = book_in after out.place out.pass mine out.at
-        (first_book out.pass.view ((zip_back (Wrote whole log (first + length rows) batch) passes after out.place out.pass wrote out.at).2).rest)
+        (first_book out.pass.view ((zip_back (HasWritten whole log (first + length rows) batch) passes after out.place out.pass wrote out.at).2).rest)
 
     held : Holds n.view book.0 mine
     held = ap (λ (bs : List Book). slice_get bs book.0) g.books ∙ book.1

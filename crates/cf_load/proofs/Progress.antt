@@ -22,7 +22,7 @@ use Rattle.cf_append.specs.declared.appends.AppendFault.{AppendFault}
 use Rattle.cf_append.specs.declared.appends.AppendFault.TheVariants.{Full, NodesFull}
 use Rattle.cf_history.specs.Order.{rows_of}
 use Rattle.cf_segments.specs.Needed.{IsNeeded}
-use Rattle.cf_load.specs.Writing.{rows_of_book, RanOut, RunsOut, Wrote}
+use Rattle.cf_load.specs.Writing.{rows_of_book, RanOut, RunsOut, HasWritten}
 use Rattle.cf_segments.proofs.Pigeons.{in_either}
 use Rattle.cf_segments.proofs.Zips.{zip_append}
 
@@ -148,7 +148,7 @@ goes_answered log first batch m k i n p answer o row goes low at own on rest ans
 
 -- the whole batch was gone through
 pub ends : (log : LogValue) (first : ℕ) (batch : List RowValue) (m : PassValue) (k i : ℕ) (n : PassValue) → Goes log first batch m k i n → length batch ≤ i
-    → Wrote true log first batch m n
+    → HasWritten true log first batch m n
 ends log first batch m k i n goes far = record {
   same = goes.same;
   rest = (goes.ready).rest;
@@ -172,7 +172,7 @@ record Stopped (shape : ShapeValue) (batch : List RowValue) (m n p : PassValue) 
 
 -- the batch stops there
 stopped_at : (whole : Bool) (log : LogValue) (first : ℕ) (batch : List RowValue) (m : PassValue) (k i : ℕ) (n p : PassValue) → Goes log first batch m k i n
-    → PassGoesOn n p → Rests p.view → Stopped log.shape batch m n p → (whole ≡ true → (book_of p.view).over ≡ true) → Wrote whole log first batch m p
+    → PassGoesOn n p → Rests p.view → Stopped log.shape batch m n p → (whole ≡ true → (book_of p.view).over ≡ true) → HasWritten whole log first batch m p
 stopped_at whole log first batch m k i n p goes on rest book over = record {
   same = same_then m n p goes.same on.same;
   rest = rest;
@@ -191,7 +191,7 @@ stopped_at whole log first batch m k i n p goes on rest book over = record {
 -- the log was found full
 pub stops_full : (log : LogValue) (first : ℕ) (batch : List RowValue) (m : PassValue) (k i : ℕ) (n p : PassValue) (answer : Result ℕ AppendFault)
     (row : RowValue) → Goes log first batch m k i n → i < length batch → get_or batch i row ≡ row
-    → PassGoesOn n p → Rests p.view → HasAppendAnswer log.shape row n p answer → answer ≡ Err Full → Wrote true log first batch m p
+    → PassGoesOn n p → Rests p.view → HasAppendAnswer log.shape row n p answer → answer ≡ Err Full → HasWritten true log first batch m p
 stops_full log first batch m k i n p answer row goes low at on rest answered err =
     elim (subst (λ (r : Result ℕ AppendFault). HasAppendAnswer log.shape row n p r) err answered) [
       | inl over ↦
@@ -218,7 +218,7 @@ stops_full log first batch m k i n p answer row goes low at on rest answered err
 -- the writer's nodes are used up
 pub stops_out : (log : LogValue) (first : ℕ) (batch : List RowValue) (m : PassValue) (k i : ℕ) (n p : PassValue) (answer : Result ℕ AppendFault)
     (row : RowValue) → Goes log first batch m k i n → i < length batch → get_or batch i row ≡ row
-    → PassGoesOn n p → Rests p.view → HasAppendAnswer log.shape row n p answer → answer ≡ Err NodesFull → Wrote false log first batch m p
+    → PassGoesOn n p → Rests p.view → HasAppendAnswer log.shape row n p answer → answer ≡ Err NodesFull → HasWritten false log first batch m p
     × ((w : ℕ) → w ≡ (book_of m.view).writer → k % (log.shape).writers ≡ (book_of m.view).writer → RunsOut log first batch w m p)
 stops_out log first batch m k i n p answer row goes low at on rest answered err =
     let out : IsNodesFull log.shape row n p = subst (λ (r : Result ℕ AppendFault). HasAppendAnswer log.shape row n p r) err answered in
@@ -252,8 +252,8 @@ stops_out log first batch m k i n p answer row goes low at on rest answered err 
     )
 
 -- a batch of which no more is said
-pub less_said : (whole : Bool) (log : LogValue) (first : ℕ) (batch : List RowValue) (m n : PassValue) → Wrote whole log first batch m n
-    → Wrote false log first batch m n
+pub less_said : (whole : Bool) (log : LogValue) (first : ℕ) (batch : List RowValue) (m n : PassValue) → HasWritten whole log first batch m n
+    → HasWritten false log first batch m n
 less_said whole log first batch m n w = record {
   same = w.same;
   rest = w.rest;
@@ -269,8 +269,9 @@ less_said whole log first batch m n w = record {
   told = w.told;
 }
 
-pub less_said_all : (whole : Bool) (log : LogValue) (first : ℕ) (batch : List RowValue) (ms ns : List PassValue) → AllZip (Wrote whole log first batch) ms ns
-    → AllZip (Wrote false log first batch) ms ns
+pub less_said_all : (whole : Bool) (log : LogValue) (first : ℕ) (batch : List RowValue) (ms ns : List PassValue)
+    → AllZip (HasWritten whole log first batch) ms ns
+    → AllZip (HasWritten false log first batch) ms ns
 less_said_all whole log first batch [] [] all = tt
 less_said_all whole log first batch [] (n ∷ ns) all = absurd all
 less_said_all whole log first batch (m ∷ ms) [] all = absurd all
@@ -278,16 +279,16 @@ less_said_all whole log first batch (m ∷ ms) (n ∷ ns) all = (less_said whole
 
 -- the halves of the passes, and which of them ran out of nodes
 pub both_wrote : (log : LogValue) (first : ℕ) (batch : List RowValue) (ms more ns others : List PassValue) (a b : Option ℕ)
-    → AllZip (Wrote (is_none a) log first batch) ms ns → AllZip (Wrote (is_none b) log first batch) more others
-    → AllZip (Wrote (is_none (option_or a b)) log first batch) (ms ++ more) (ns ++ others)
+    → AllZip (HasWritten (is_none a) log first batch) ms ns → AllZip (HasWritten (is_none b) log first batch) more others
+    → AllZip (HasWritten (is_none (option_or a b)) log first batch) (ms ++ more) (ns ++ others)
 both_wrote log first batch ms more ns others None b low high = half b low high
   where
-    half : (c : Option ℕ) → AllZip (Wrote true log first batch) ms ns → AllZip (Wrote (is_none c) log first batch) more others
-        → AllZip (Wrote (is_none c) log first batch) (ms ++ more) (ns ++ others)
-    half None l h = zip_append (Wrote true log first batch) ms more ns others l h
-    half (Some w) l h = zip_append (Wrote false log first batch) ms more ns others (less_said_all true log first batch ms ns l) h
+    half : (c : Option ℕ) → AllZip (HasWritten true log first batch) ms ns → AllZip (HasWritten (is_none c) log first batch) more others
+        → AllZip (HasWritten (is_none c) log first batch) (ms ++ more) (ns ++ others)
+    half None l h = zip_append (HasWritten true log first batch) ms more ns others l h
+    half (Some w) l h = zip_append (HasWritten false log first batch) ms more ns others (less_said_all true log first batch ms ns l) h
 both_wrote log first batch ms more ns others (Some w) b low high =
-    zip_append (Wrote false log first batch) ms more ns others low (less_said_all (is_none b) log first batch more others high)
+    zip_append (HasWritten false log first batch) ms more ns others low (less_said_all (is_none b) log first batch more others high)
 
 out_low : (log : LogValue) (first : ℕ) (batch : List RowValue) (w : ℕ) (ms more ns others : List PassValue) → RanOut log first batch w ms ns
     → RanOut log first batch w (ms ++ more) (ns ++ others)

@@ -16,7 +16,7 @@ rows_of_book b = map (λ own. own.row) b.mine
 
 -- A writer's pass has appended the first of its rows of a batch whose first row is number `first`, and where the batch is whole all of
 -- them, or its book is marked. The nodes that it used are needed by rows of the batch.
-pub record Wrote (whole : Bool) (log : LogValue) (first : ℕ) (batch : List RowValue) (before after : PassValue) : Type 0 where
+pub record HasWritten (whole : Bool) (log : LogValue) (first : ℕ) (batch : List RowValue) (before after : PassValue) : Type 0 where
   pub same : after ≡ record before { view = after.view }
   pub rest : Rests after.view
   pub writer : (book_of after.view).writer ≡ (book_of before.view).writer

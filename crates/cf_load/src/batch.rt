@@ -11,7 +11,7 @@ ghost use Rattle.cf_load.specs.Planned.{IsPlan, tails_of};
 ghost use Rattle.cf_load.specs.Priors.{IsFoundBefore, entries_before};
 ghost use Rattle.cf_load.specs.Rounds.{HasAskedAll};
 ghost use Rattle.cf_append.specs.Appends.{IsReady};
-ghost use Rattle.cf_load.specs.Writing.{RanOut, Wrote};
+ghost use Rattle.cf_load.specs.Writing.{RanOut, HasWritten};
 
 use crate::LoadFault;
 use crate::reader::{Beside, ask_counted};
@@ -56,7 +56,7 @@ fn run_beside<R: Threads + Sync, G: Gate>(
     requires ready { All (IsReady log.now) passes.old }
     requires fits { All (Fits log.now.shape.schema) rows.now }
     requires room { 4096 * beside.now.batch + length rows.now < 2 ^ 32 }
-    ensures wrote { AllZip (Wrote (is_none result.0) log.now (4096 * beside.now.batch) rows.now) passes.old passes.new }
+    ensures wrote { AllZip (HasWritten (is_none result.0) log.now (4096 * beside.now.batch) rows.now) passes.old passes.new }
     ensures out { IfSome result.0 (λ writer. RanOut log.now (4096 * beside.now.batch) rows.now writer passes.old passes.new) }
     ensures of { IsOf reader.new log.now }
     ensures asked { IfOk result.1 (λ more. HasAskedAll log.now.shape beside.now.plan.now beside.now.prior.now beside.now.batch reader.old reader.new more.items) }
@@ -71,7 +71,7 @@ fn run_beside<R: Threads + Sync, G: Gate>(
         rt,
         &mut || -> Option<u8>
             requires { IsSync R.row × IsSync G.row × All (IsReady log.now) passes.now × All (Fits log.now.shape.schema) rows.now × (first + length rows.now < 2 ^ 32) }
-            ensures wrote { AllZip (Wrote (is_none result) log.entry.now first rows.entry.now) passes.entry.now passes.exit.now }
+            ensures wrote { AllZip (HasWritten (is_none result) log.entry.now first rows.entry.now) passes.entry.now passes.exit.now }
             ensures out { IfSome result (λ writer. RanOut log.entry.now first rows.entry.now writer passes.entry.now passes.exit.now) }
         { run_writers(rt, log, gate, first, rows, passes) },
         &mut || -> Result<Vec<Live>, Memory>

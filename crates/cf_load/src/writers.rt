@@ -4,7 +4,7 @@ ghost use Rattle.std.specs.List.{AllZip};
 ghost use Rattle.std.specs.Thread.{IsSync};
 ghost use Rattle.cf_row.specs.Row.{Fits};
 ghost use Rattle.cf_append.specs.Appends.{IsReady};
-ghost use Rattle.cf_load.specs.Writing.{RanOut, RunsOut, Wrote};
+ghost use Rattle.cf_load.specs.Writing.{RanOut, RunsOut, HasWritten};
 
 use cf_append::{AppendFault, Leaves, append_near};
 use cf_outside::Gate;
@@ -27,7 +27,7 @@ fn write_rows<G: Gate, L: Ledger>(
     requires ready { IsReady log.now pass.old }
     requires fits { All (Fits log.now.shape.schema) batch.now }
     requires room { first + length batch.now < 2 ^ 32 }
-    ensures wrote { Wrote (is_none result) log.now first batch.now pass.old pass.new }
+    ensures wrote { HasWritten (is_none result) log.now first batch.now pass.old pass.new }
     ensures out { IfSome result (λ writer. RunsOut log.now first batch.now writer pass.old pass.new) }
 {
     let writers = u64::from(log.shape().writers());
@@ -61,7 +61,7 @@ fn write_counted<G: Gate, L: Ledger>(
     requires fits { All (Fits log.now.shape.schema) batch.now }
     requires room { first + length batch.now < 2 ^ 32 }
     requires blank { (blank.name ≡ L.name) × (blank.parts ≡ L.parts) × (0 < L.parts) }
-    ensures wrote { Wrote (is_none result) log.now first batch.now pass.old pass.new }
+    ensures wrote { HasWritten (is_none result) log.now first batch.now pass.old pass.new }
     ensures out { IfSome result (λ writer. RunsOut log.now first batch.now writer pass.old pass.new) }
 {
     let mut steps = Steps::<L>::new(blank);
@@ -80,7 +80,7 @@ fn run_first<G: Gate>(
     requires ready { All (IsReady log.now) passes.old }
     requires fits { All (Fits log.now.shape.schema) batch.now }
     requires room { first + length batch.now < 2 ^ 32 }
-    ensures wrote { AllZip (Wrote (is_none result) log.now first batch.now) passes.old passes.new }
+    ensures wrote { AllZip (HasWritten (is_none result) log.now first batch.now) passes.old passes.new }
     ensures out { IfSome result (λ writer. RanOut log.now first batch.now writer passes.old passes.new) }
 {
     match passes.first_mut() {
@@ -104,7 +104,7 @@ pub(crate) fn run_writers<R: Threads + Sync, G: Gate>(
     requires ready { All (IsReady log.now) passes.old }
     requires fits { All (Fits log.now.shape.schema) batch.now }
     requires room { first + length batch.now < 2 ^ 32 }
-    ensures wrote { AllZip (Wrote (is_none result) log.now first batch.now) passes.old passes.new }
+    ensures wrote { AllZip (HasWritten (is_none result) log.now first batch.now) passes.old passes.new }
     ensures out { IfSome result (λ writer. RanOut log.now first batch.now writer passes.old passes.new) }
 {
     if passes.len() < 2 {
@@ -115,12 +115,12 @@ pub(crate) fn run_writers<R: Threads + Sync, G: Gate>(
         rt,
         &mut || -> Option<u8>
             requires { IsSync R.row × IsSync G.row × All (IsReady log.now) front.now × All (Fits log.now.shape.schema) batch.now × (first + length batch.now < 2 ^ 32) }
-            ensures wrote { AllZip (Wrote (is_none result) log.entry.now first batch.entry.now) front.entry.now front.exit.now }
+            ensures wrote { AllZip (HasWritten (is_none result) log.entry.now first batch.entry.now) front.entry.now front.exit.now }
             ensures out { IfSome result (λ writer. RanOut log.entry.now first batch.entry.now writer front.entry.now front.exit.now) }
         { run_writers(rt, log, gate, first, batch, front) },
         &mut || -> Option<u8>
             requires { IsSync R.row × IsSync G.row × All (IsReady log.now) back.now × All (Fits log.now.shape.schema) batch.now × (first + length batch.now < 2 ^ 32) }
-            ensures wrote { AllZip (Wrote (is_none result) log.entry.now first batch.entry.now) back.entry.now back.exit.now }
+            ensures wrote { AllZip (HasWritten (is_none result) log.entry.now first batch.entry.now) back.entry.now back.exit.now }
             ensures out { IfSome result (λ writer. RanOut log.entry.now first batch.entry.now writer back.entry.now back.exit.now) }
         { run_writers(rt, log, gate, first, batch, back) },
     );

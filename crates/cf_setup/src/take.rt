@@ -23,8 +23,8 @@ use crate::statement::{Statement, statement_of};
 use crate::tally::add_tally;
 use crate::trigger::add_trigger;
 use crate::width::add_width;
-use cf_filter::Class;
-use cf_lines::{are_all, is_silent, word_of};
+use cf_filter::{Class, are_all};
+use cf_lines::{is_silent, word_of};
 use std::alloc::Global;
 
 // After the schema there is no other, and one width.

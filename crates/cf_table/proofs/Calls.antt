@@ -211,7 +211,7 @@ kept_by shape way w over u b m n H made after writer marked used =
     let told = made.made.told in
     let is : n.view ≡ pass_with_book 0 b m.view = told.is ∙ after made.found told.entries in
     holding w over over u u m n H made.made.same
-        (subst (λ (q : Pass). Writes w over u q.books) (sym is) (writes_kept w over u m.view b H.0 writer marked used)) H.2
+    (subst (λ (q : Pass). Writes w over u q.books) (sym is) (writes_kept w over u m.view b H.0 writer marked used)) H.2
 
 only_book : (b c : Book) (k : ℕ) → slice_get (b ∷ []) k ≡ Some c → b ≡ c
 only_book b c zero h = cc h

@@ -57,8 +57,8 @@ pub record AsksLawfully (given : StepGiven) (pass : Pass) : Type 0 where
   pub real : IsReal (sizes_of given.shape) given.effect.slot
 
 -- whatever is found, the pass has seen as much afterwards as before
-abbrev pub KeepsSeen : StepEffect → Pass → Type 0
-KeepsSeen w p = (n : ℕ) (es : List Entry) → (w.after n es).seen ≡ p.seen
+abbrev pub SeesNoMore : StepEffect → Pass → Type 0
+SeesNoMore w p = (n : ℕ) (es : List Entry) → (w.after n es).seen ≡ p.seen
 
 -- whatever is found, the pass has the same books afterwards as before
 abbrev pub KeepsBooks : StepEffect → Pass → Type 0
@@ -70,7 +70,7 @@ pub record AsksOnWord (shape : ShapeValue) (given : StepGiven) (pass : Pass) (wo
   pub asks : AsksLawfully given pass
   pub word_is : word ≡ place (sizes_of shape) given.effect.slot
   pub change_is : (n : ℕ) → f n ≡ given.effect.change n
-  pub keeps : KeepsSeen given.effect pass
+  pub keeps : SeesNoMore given.effect pass
 
 -- what an exchange of 0 for v leaves
 abbrev pub value_after_exchange : ℕ → ℕ → ℕ

@@ -1,19 +1,19 @@
 -- Working forms of the proofs: what a step leaves of a ticket and of a writer's nodes, and what it needs.
 use Rattle.std.specs.Prelude.{ℕ, ◌+◌, ◌*◌, ◌<◌, ◌≤◌, ◌≡◌, suc, List, [], ◌∷◌, ◌++◌, set, true, false, length, Some, slice_get}
 use Rattle.cf_shape.specs.Places.{Slot, place, IsReal}
-use Rattle.cf_words.specs.Words.{Spot, spot, Layout, Ticket, Stock, stock_of, node_at, IsNamedBy, has}
+use Rattle.cf_words.specs.Words.{Spot, spot, Layout, Ticket, NodeStock, stock_of, node_at, IsNamedBy, has}
 use Rattle.cf_words.specs.Law.{Skips, IsWhole}
 
 -- book w gets the label v
-unfoldable pub stocks_with_label : ℕ → ℕ → List Stock → List Stock
+unfoldable pub stocks_with_label : ℕ → ℕ → List NodeStock → List NodeStock
 stocks_with_label w v bs = set bs w (record { used = (stock_of bs w).used; label = v; over = (stock_of bs w).over })
 
 -- the least unused node of writer w is used for s
-unfoldable pub stocks_with_node : ℕ → Spot → List Stock → List Stock
+unfoldable pub stocks_with_node : ℕ → Spot → List NodeStock → List NodeStock
 stocks_with_node w s bs = set bs w (record { used = (stock_of bs w).used ++ s ∷ []; label = 0; over = (stock_of bs w).over })
 
 -- book w is marked over
-unfoldable pub stocks_with_mark : ℕ → List Stock → List Stock
+unfoldable pub stocks_with_mark : ℕ → List NodeStock → List NodeStock
 stocks_with_mark w bs = set bs w (record { used = (stock_of bs w).used; label = (stock_of bs w).label; over = true })
 
 -- the ticket after its word i was stored
@@ -37,7 +37,7 @@ pub record CanFill (layout : Layout) (log : List Ticket) (o : ℕ) (ticket : Tic
   pub within : suc i < layout.sizes.ticket_words
 
 -- ticket o, which is in flight, may be linked in lane l at the node n and nibble d
-pub record CanHead (layout : Layout) (log : List Ticket) (stocks : List Stock) (o : ℕ) (ticket : Ticket) (l d : ℕ) (p : List ℕ) (n : ℕ) : Type 0 where
+pub record CanHead (layout : Layout) (log : List Ticket) (stocks : List NodeStock) (o : ℕ) (ticket : Ticket) (l d : ℕ) (p : List ℕ) (n : ℕ) : Type 0 where
   pub at : slice_get log o ≡ Some ticket
   pub flies : ticket.is_done ≡ false
   pub ready : IsWhole layout ticket
@@ -47,7 +47,7 @@ pub record CanHead (layout : Layout) (log : List Ticket) (stocks : List Stock) (
   pub writer : ticket.writer < layout.sizes.writers
 
 -- the writer may link its free node as the spot s, whose slot is t
-pub record CanLink (layout : Layout) (stocks : List Stock) (w : ℕ) (spot : Spot) (slot : Slot) : Type 0 where
+pub record CanLink (layout : Layout) (stocks : List NodeStock) (w : ℕ) (spot : Spot) (slot : Slot) : Type 0 where
   pub writer : w < length stocks
   pub room : length (stock_of stocks w).used < layout.sizes.nodes
   pub named : IsNamedBy layout.sizes.nodes stocks spot.lane spot.path slot

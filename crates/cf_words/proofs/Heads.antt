@@ -12,7 +12,7 @@ use Rattle.std.proofs.lemmas.Nat.{mul-add-lt, div-add-mod'}
 use Rattle.cf_shape.specs.Places.{Slot, place, IsReal, word_total}
 use Rattle.cf_shape.specs.Places.Slot.{tail, cell, root, body}
 use Rattle.cf_words.proofs.Forms.{ticket_with_word, ticket_with_head, ticket_with_done, CanFill, CanHead}
-use Rattle.cf_words.specs.Words.{Spot, spot, Layout, Ticket, Stock, node_at, NodeWord, BodyWord, is_inner, IsWordOf, Spells, links, entry_at, chain, link_to_newest, tail_word, ticket_word, full_word, used_word, lane_word, version_word, done_word, fresh_ticket}
+use Rattle.cf_words.specs.Words.{Spot, spot, Layout, Ticket, NodeStock, node_at, NodeWord, BodyWord, is_inner, IsWordOf, Spells, links, entry_at, chain, link_to_newest, tail_word, ticket_word, full_word, used_word, lane_word, version_word, done_word, fresh_ticket}
 use Rattle.cf_shape.specs.Uses.Use.{plain, version}
 use Rattle.cf_words.specs.Law.{LayoutLaw, NodesLaw, FlightLaw, Skips}
 use Rattle.cf_words.proofs.Nodes.{cond_zero, row_of, col_of, node_within}
@@ -31,14 +31,14 @@ get_set_other (z ∷ xs) zero (suc k) x ne = refl
 get_set_other (z ∷ xs) (suc i) zero x ne = refl
 get_set_other (z ∷ xs) (suc i) (suc k) x ne = get_set_other xs i k x (λ e. ne (ap suc e))
 
-head_word_keeps : (sh : Layout) (log log' : List Ticket) (bs : List Stock) (s : Spot) (j v : ℕ) (b : Bool)
+head_word_keeps : (sh : Layout) (log log' : List Ticket) (bs : List NodeStock) (s : Spot) (j v : ℕ) (b : Bool)
     → (b ≡ false → link_to_newest (chain sh log (j % sh.sizes.writers) (spot s.lane (j / sh.sizes.writers ∷ s.path)) (length log)) ≡ link_to_newest
     (chain sh log' (j % sh.sizes.writers) (spot s.lane (j / sh.sizes.writers ∷ s.path)) (length log')))
     → NodeWord sh log bs s j v b → NodeWord sh log' bs s j v b
 head_word_keeps sh log log' bs s j v true same h = h
 head_word_keeps sh log log' bs s j v false same h = h ∙ same refl
 
-body_log_keeps : (sh : Layout) (log log' : List Ticket) (bs : List Stock) (n j v : ℕ) (o : Option Spot)
+body_log_keeps : (sh : Layout) (log log' : List Ticket) (bs : List NodeStock) (n j v : ℕ) (o : Option Spot)
     → ((s : Spot) (i : ℕ) → o ≡ Some s → j ≡ suc i → is_inner sh s ≡ false
     → link_to_newest (chain sh log (i % sh.sizes.writers) (spot s.lane (i / sh.sizes.writers ∷ s.path)) (length log)) ≡ link_to_newest
     (chain sh log' (i % sh.sizes.writers) (spot s.lane (i / sh.sizes.writers ∷ s.path)) (length log')))
@@ -49,7 +49,7 @@ body_log_keeps sh log log' bs n zero v (Some s) heads h = h
 body_log_keeps sh log log' bs n (suc j) v (Some s) heads h = head_word_keeps sh log log' bs s j v (is_inner sh s) (λ e. heads s j refl refl e) h
 
 -- Where the log changes, a slot keeps its meaning if its own word does.
-pub log_keeps : (sh : Layout) (ts ts' : ℕ × ℕ) (log log' : List Ticket) (bs : List Stock) (u : Slot) (x : ℕ)
+pub log_keeps : (sh : Layout) (ts ts' : ℕ × ℕ) (log log' : List Ticket) (bs : List NodeStock) (u : Slot) (x : ℕ)
     → ((k : ℕ) → u ≡ tail k → tail_word ts k ≡ tail_word ts' k)
     → ((o i : ℕ) → u ≡ cell o i → ticket_word sh log o i (slice_get log o) ≡ ticket_word sh log' o i (slice_get log' o))
     → ((n j : ℕ) (s : Spot) → u ≡ body n (suc j) → node_at sh.sizes.nodes bs n ≡ Some s → is_inner sh s ≡ false
@@ -139,7 +139,7 @@ head_cells sh log o t l i k p flight at flies leads =
     ]
 
 -- the head that changes is that of the ticket's own leaf
-head_far : (sh : Layout) (log : List Ticket) (bs : List Stock) (o : ℕ) (t : Ticket) (l d : ℕ) (p : List ℕ) (n : ℕ) → NodesLaw sh bs
+head_far : (sh : Layout) (log : List Ticket) (bs : List NodeStock) (o : ℕ) (t : Ticket) (l d : ℕ) (p : List ℕ) (n : ℕ) → NodesLaw sh bs
     → CanHead sh log bs o t l d p n
     → (k j : ℕ) (s : Spot) → node_at sh.sizes.nodes bs k ≡ Some s → (body k (suc j) ≡ head_slot sh.sizes n d t.writer → ⊥)
     → t.writer ≡ j % sh.sizes.writers → spot s.lane (j / sh.sizes.writers ∷ s.path) ≡ spot l (d ∷ p) → ⊥
@@ -152,7 +152,7 @@ head_far sh log bs o t l d p n law can k j s at ne w e =
     let column : j ≡ d * sh.sizes.writers + t.writer = omega (arith, div-add-mod' j sh.sizes.writers, ap (λ (q : ℕ). q * sh.sizes.writers) nibble, w) in
     ne (ap₂ body node (ap suc column))
 
-head_others : (sh : Layout) (ts : ℕ × ℕ) (log : List Ticket) (bs : List Stock) (o : ℕ) (t : Ticket) (l d : ℕ) (p : List ℕ) (n : ℕ) → NodesLaw sh bs
+head_others : (sh : Layout) (ts : ℕ × ℕ) (log : List Ticket) (bs : List NodeStock) (o : ℕ) (t : Ticket) (l d : ℕ) (p : List ℕ) (n : ℕ) → NodesLaw sh bs
     → FlightLaw log → CanHead sh log bs o t l d p n
     → (u : Slot) → (u ≡ head_slot sh.sizes n d t.writer → ⊥) → (x : ℕ) → IsWordOf sh ts log bs u x → IsWordOf sh ts (set log o (ticket_with_head l t)) bs u x
 head_others sh ts log bs o t l d p n law flight can u ne x = let log' = set log o (ticket_with_head l t) in
@@ -166,7 +166,7 @@ head_others sh ts log bs o t l d p n law flight can u ne x = let log' = set log 
     (c ∙ ap (chain sh log' (j % sh.sizes.writers) (spot s.lane (j / sh.sizes.writers ∷ s.path))) (sym (length-set log o (ticket_with_head l t)))))
 
 -- the new head
-own_chain : (sh : Layout) (log : List Ticket) (bs : List Stock) (o : ℕ) (t : Ticket) (l d : ℕ) (p : List ℕ) (n : ℕ) → FlightLaw log
+own_chain : (sh : Layout) (log : List Ticket) (bs : List NodeStock) (o : ℕ) (t : Ticket) (l d : ℕ) (p : List ℕ) (n : ℕ) → FlightLaw log
     → CanHead sh log bs o t l d p n
     → link_to_newest (chain sh (set log o (ticket_with_head l t)) t.writer (spot l (d ∷ p)) (length (set log o (ticket_with_head l t)))) ≡ suc o
 own_chain sh log bs o t l d p n flight can = let log' = set log o (ticket_with_head l t) in let s = spot l (d ∷ p) in
@@ -190,7 +190,7 @@ own_chain sh log bs o t l d p n flight can = let log' = set log o (ticket_with_h
 pub leaf_not_inner : (sh : Layout) (r : RowValue) (l d : ℕ) (p : List ℕ) → LayoutLaw sh → sh.path r l ≡ Some (d ∷ p) → is_inner sh (spot l p) ≡ false
 leaf_not_inner sh r l d p shaped leads = lt_false _ _ (λ h. omega (arith, shaped.long r l (d ∷ p) leads, h))
 
-pub head_real : (sh : Layout) (log : List Ticket) (bs : List Stock) (o : ℕ) (t : Ticket) (l d : ℕ) (p : List ℕ) (n : ℕ) → LayoutLaw sh → NodesLaw sh bs
+pub head_real : (sh : Layout) (log : List Ticket) (bs : List NodeStock) (o : ℕ) (t : Ticket) (l d : ℕ) (p : List ℕ) (n : ℕ) → LayoutLaw sh → NodesLaw sh bs
     → CanHead sh log bs o t l d p n
     → IsReal sh.sizes (head_slot sh.sizes n d t.writer)
 head_real sh log bs o t l d p n shaped law can = (
@@ -198,7 +198,7 @@ head_real sh log bs o t l d p n shaped law can = (
   omega (arith, mul-add-lt d sh.sizes.writers t.writer 16 (shaped.nibble t.row l d p can.leads) can.writer),
 )
 
-pub head_keeps : (sh : Layout) (ts : ℕ × ℕ) (log : List Ticket) (bs : List Stock) (words : List ℕ) (o : ℕ) (t : Ticket) (l d : ℕ) (p : List ℕ) (n : ℕ)
+pub head_keeps : (sh : Layout) (ts : ℕ × ℕ) (log : List Ticket) (bs : List NodeStock) (words : List ℕ) (o : ℕ) (t : Ticket) (l d : ℕ) (p : List ℕ) (n : ℕ)
     → LayoutLaw sh → NodesLaw sh bs → FlightLaw log → CanHead sh log bs o t l d p n → length words ≡ word_total sh.sizes
     → Spells sh ts log bs words
     → Spells sh ts (set log o (ticket_with_head l t)) bs (set words (place sh.sizes (head_slot sh.sizes n d t.writer)) (suc o))
@@ -228,7 +228,7 @@ entries_kept sh log o t u at ew er el w s i = elim (cases_eq i o) [
   | inr ne ↦ ap (entry_at sh w s i) (sym (get_set_other log o i u ne))
 ]
 
-pub retouch_others : (sh : Layout) (ts : ℕ × ℕ) (log : List Ticket) (bs : List Stock) (o k : ℕ) (t u : Ticket) → slice_get log o ≡ Some t
+pub retouch_others : (sh : Layout) (ts : ℕ × ℕ) (log : List Ticket) (bs : List NodeStock) (o k : ℕ) (t u : Ticket) → slice_get log o ≡ Some t
     → u.writer ≡ t.writer → u.row ≡ t.row → u.linked ≡ t.linked
     → ((i : ℕ) → (i ≡ k → ⊥) → ticket_word sh (set log o u) o i (Some t) ≡ ticket_word sh (set log o u) o i (Some u))
     → (z : Slot) → (z ≡ cell o k → ⊥) → (x : ℕ) → IsWordOf sh ts log bs z x → IsWordOf sh ts (set log o u) bs z x
@@ -269,7 +269,7 @@ filled_word sh log log' o k i t can ne = ap (λ (n : ℕ). cond (suc i == sh.siz
   ]
 ])
 
-pub fill_keeps : (sh : Layout) (ts : ℕ × ℕ) (log : List Ticket) (bs : List Stock) (words : List ℕ) (o k : ℕ) (t : Ticket)
+pub fill_keeps : (sh : Layout) (ts : ℕ × ℕ) (log : List Ticket) (bs : List NodeStock) (words : List ℕ) (o k : ℕ) (t : Ticket)
     → CanFill sh log o t k → length words ≡ word_total sh.sizes → o < sh.sizes.tickets
     → Spells sh ts log bs words
     → Spells sh ts (set log o (ticket_with_word k t)) bs (set words (place sh.sizes (cell o k)) (full_word sh log o t k))
@@ -286,7 +286,7 @@ fill_keeps sh ts log bs words o k t can len room spells =
     (λ u r ne x. retouch_others sh ts log bs o k t (ticket_with_word k t) can.at refl refl refl (λ i far. filled_word sh log log' o k i t can far) u ne x)
     (word ∙ ap (ticket_word sh log' o k) (sym (get_set_same log o (ticket_with_word k t) t can.at)))
 
-pub finish_keeps : (sh : Layout) (ts : ℕ × ℕ) (log : List Ticket) (bs : List Stock) (words : List ℕ) (o k : ℕ) (t : Ticket)
+pub finish_keeps : (sh : Layout) (ts : ℕ × ℕ) (log : List Ticket) (bs : List NodeStock) (words : List ℕ) (o k : ℕ) (t : Ticket)
     → slice_get log o ≡ Some t → suc k ≡ sh.sizes.ticket_words → length words ≡ word_total sh.sizes → o < sh.sizes.tickets
     → Spells sh ts log bs words
     → Spells sh ts (set log o (ticket_with_done t)) bs (set words (place sh.sizes (cell o k)) 1)
@@ -329,7 +329,7 @@ fresh_zero sh log o i w r =
     sym (ap (λ (b : Bool). cond (suc i == sh.sizes.ticket_words) 0 (cond b (full_word sh log o (fresh_ticket w r) i) 0)) (lt_false i 0 (λ h. omega arith))
     ∙ cond_zero (suc i == sh.sizes.ticket_words))
 
-pub ticket_keeps : (sh : Layout) (ts : ℕ × ℕ) (log : List Ticket) (bs : List Stock) (words : List ℕ) (w : ℕ) (r : RowValue)
+pub ticket_keeps : (sh : Layout) (ts : ℕ × ℕ) (log : List Ticket) (bs : List NodeStock) (words : List ℕ) (w : ℕ) (r : RowValue)
     → length words ≡ word_total sh.sizes
     → Spells sh ts log bs words
     → Spells sh (suc ts.0, ts.1) (log ++ fresh_ticket w r ∷ []) bs (set words (place sh.sizes (tail 0)) (suc ts.0))
@@ -355,7 +355,7 @@ ticket_keeps sh ts log bs words w r len spells =
     later u ne zero e = absurd (ne e)
     later u ne (suc k) e = refl
 
-pub read_tail_keeps : (sh : Layout) (ts : ℕ × ℕ) (log : List Ticket) (bs : List Stock) (words : List ℕ) (v : ℕ)
+pub read_tail_keeps : (sh : Layout) (ts : ℕ × ℕ) (log : List Ticket) (bs : List NodeStock) (words : List ℕ) (v : ℕ)
     → length words ≡ word_total sh.sizes → Spells sh ts log bs words → Spells sh (ts.0, v) log bs (set words (place sh.sizes (tail 1)) v)
 read_tail_keeps sh ts log bs words v len spells =
     store_keeps sh ts (ts.0, v) log log bs bs words (tail 1) v len (omega arith) spells

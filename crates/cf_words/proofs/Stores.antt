@@ -3,10 +3,10 @@ use Rattle.std.proofs.Common.{◌≡◌, ℕ, ◌<◌, List, length, get_or, set
 use Rattle.std.proofs.lemmas.List.{get_or-set_same, get_or-set_other}
 use Rattle.std.proofs.lemmas.Bool.{cases_eq}
 use Rattle.cf_shape.specs.Places.{Slot, place, IsReal, word_total}
-use Rattle.cf_words.specs.Words.{Layout, Ticket, Stock, IsWordOf, Spells}
+use Rattle.cf_words.specs.Words.{Layout, Ticket, NodeStock, IsWordOf, Spells}
 use Rattle.cf_shape.proofs.Slots.{same_slot, place_within}
 
-pub store_keeps : (sh : Layout) (ts ts' : ℕ × ℕ) (log log' : List Ticket) (bs bs' : List Stock) (words : List ℕ) (s : Slot) (v : ℕ)
+pub store_keeps : (sh : Layout) (ts ts' : ℕ × ℕ) (log log' : List Ticket) (bs bs' : List NodeStock) (words : List ℕ) (s : Slot) (v : ℕ)
     → length words ≡ word_total sh.sizes → IsReal sh.sizes s
     → Spells sh ts log bs words
     → ((t : Slot) → IsReal sh.sizes t → (t ≡ s → ⊥) → (x : ℕ) → IsWordOf sh ts log bs t x → IsWordOf sh ts' log' bs' t x)

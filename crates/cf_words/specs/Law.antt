@@ -2,11 +2,11 @@
 use Rattle.std.specs.Prelude.{ℕ, ◌+◌, ◌*◌, ◌^◌, ◌<◌, ◌≤◌, ◌≡◌, suc, List, ◌∷◌, true, length, Some, None, slice_get}
 use Rattle.cf_row.specs.Row.{RowValue}
 use Rattle.cf_shape.specs.Uses.{Use}
-use Rattle.cf_words.specs.Words.{entry, Spot, spot, Layout, Ticket, Stock, stock_of, node_at, has}
+use Rattle.cf_words.specs.Words.{entry, Spot, spot, Layout, Ticket, NodeStock, stock_of, node_at, has}
 use Rattle.cf_shape.specs.Uses.Use.{plain, version}
 
 -- what is so of the used nodes of all writers: each stands below another used node or a root, and for a spot of its own
-pub record NodesLaw (layout : Layout) (stocks : List Stock) : Type 0 where
+pub record NodesLaw (layout : Layout) (stocks : List NodeStock) : Type 0 where
   pub writers : length stocks ≡ layout.sizes.writers
   pub room : (w : ℕ) → length (stock_of stocks w).used ≤ layout.sizes.nodes
   -- each lane and prefix is that of one used node at most
@@ -18,11 +18,11 @@ pub record NodesLaw (layout : Layout) (stocks : List Stock) : Type 0 where
       × (node_at layout.sizes.nodes stocks k ≡ Some (spot l (e ∷ p)))
 
 -- in lane l the ticket has its leaf: a used node stands for all its path but the last nibble, and so by `parent` for each shorter part
-abbrev pub HasLeaf : Layout → List Stock → Ticket → ℕ → Type 0
+abbrev pub HasLeaf : Layout → List NodeStock → Ticket → ℕ → Type 0
 HasLeaf layout bs t l = (d : ℕ) × (p : List ℕ) × (k : ℕ) × (layout.path t.row l ≡ Some (d ∷ p)) × (node_at layout.sizes.nodes bs k ≡ Some (spot l p))
 
 -- each ticket, by its offset in the log, has its leaf in every lane in which it is linked
-abbrev pub LeavesLaw : Layout → List Ticket → List Stock → Type 0
+abbrev pub LeavesLaw : Layout → List Ticket → List NodeStock → Type 0
 LeavesLaw layout log bs = (o : ℕ) (t : Ticket) (l : ℕ) → slice_get log o ≡ Some t → has t.linked l ≡ true → HasLeaf layout bs t l
 
 -- the shape's own laws: a path has as many nibbles as its lane has levels

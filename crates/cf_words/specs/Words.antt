@@ -46,29 +46,29 @@ pub record Ticket : Type 0 where
   pub is_done : Bool
 
 -- what a writer has beside its tickets: its used nodes in order, the label that it last stored, or 0, and its mark
-pub record Stock : Type 0 where
+pub record NodeStock : Type 0 where
   pub used : List Spot
   pub label : ℕ
   pub over : Bool
 
 -- the stock of writer w, or an empty one where there is no such writer
-unfoldable pub stock_of : List Stock → ℕ → Stock
+unfoldable pub stock_of : List NodeStock → ℕ → NodeStock
 stock_of bs w = get_or bs w (record { used = []; label = 0; over = false })
 
 -- the spot that node n stands for, or None where it is not used; m is the number of nodes of each writer
-unfoldable pub node_at : ℕ → List Stock → ℕ → Option Spot
+unfoldable pub node_at : ℕ → List NodeStock → ℕ → Option Spot
 node_at m bs n = slice_get (stock_of bs (n / m)).used (n % m)
 
 -- the label of a node n that isn't used: the one that its writer last stored where n is that writer's least unused node, else 0
-unfoldable pub spare_label : ℕ → List Stock → ℕ → ℕ
+unfoldable pub spare_label : ℕ → List NodeStock → ℕ → ℕ
 spare_label m bs n = cond (n % m == length (stock_of bs (n / m)).used) (stock_of bs (n / m)).label 0
 
 -- a child word that stands for the spot s
-abbrev pub IsChildFor : ℕ → List Stock → Spot → ℕ → Type 0
+abbrev pub IsChildFor : ℕ → List NodeStock → Spot → ℕ → Type 0
 IsChildFor m bs s v = ((v ≡ 0) × ((n : ℕ) → node_at m bs n ≡ Some s → ⊥)) ⊎ ((n : ℕ) × (v ≡ suc n) × (node_at m bs n ≡ Some s))
 
 -- the slot whose word names the spot
-abbrev pub IsNamedBy : ℕ → List Stock → ℕ → List ℕ → Slot → Type 0
+abbrev pub IsNamedBy : ℕ → List NodeStock → ℕ → List ℕ → Slot → Type 0
 IsNamedBy m bs l [] t = ⊥
 IsNamedBy m bs l (d ∷ []) t = t ≡ root l d
 IsNamedBy m bs l (d ∷ (e ∷ p)) t = (n : ℕ) × (node_at m bs n ≡ Some (spot l (e ∷ p))) × (d < 16) × (t ≡ body n (suc d))
@@ -96,12 +96,12 @@ abbrev pub done_word : Bool → ℕ
 done_word b = cond b 1 0
 
 -- how many books are marked
-unfoldable pub marked_books : List Stock → ℕ
+unfoldable pub marked_books : List NodeStock → ℕ
 marked_books [] = 0
 marked_books (b ∷ bs) = cond b.over 1 0 + marked_books bs
 
 -- the number of the least unused node of writer w; m is the number of nodes of each writer
-abbrev pub free_of : ℕ → List Stock → ℕ → ℕ
+abbrev pub free_of : ℕ → List NodeStock → ℕ → ℕ
 free_of m bs w = w * m + length (stock_of bs w).used
 
 -- the ticket that writer w has just taken for row r: no word is filled, and it is linked in no lane
@@ -153,7 +153,7 @@ ticket_word layout log o i (Some t) = cond (suc i == layout.sizes.ticket_words) 
 
 -- what word j after the label, from 0, of a used node has to be. Above the last level (true) it is child j, and 0 from 16 on; at the last
 -- (false) it is the head of nibble j / writers and writer j % writers
-abbrev pub NodeWord : Layout → List Ticket → List Stock → Spot → ℕ → ℕ → Bool → Type 0
+abbrev pub NodeWord : Layout → List Ticket → List NodeStock → Spot → ℕ → ℕ → Bool → Type 0
 NodeWord layout log bs s j v true = ((j < 16) × IsChildFor layout.sizes.nodes bs (spot s.lane (j ∷ s.path)) v) ⊎ ((16 ≤ j) × (v ≡ 0))
 NodeWord layout log bs s j v false =
     v ≡ link_to_newest (chain layout log (j % layout.sizes.writers) (spot s.lane (j / layout.sizes.writers ∷ s.path)) (length log))
@@ -163,7 +163,7 @@ abbrev pub is_inner : Layout → Spot → Bool
 is_inner layout s = nat_lt (suc (length s.path)) (layout.levels s.lane)
 
 -- word j of node n may be v: word 0 is the label, the others are children or heads; None is the spot of a node that is not used
-abbrev pub BodyWord : Layout → List Ticket → List Stock → ℕ → ℕ → ℕ → Option Spot → Type 0
+abbrev pub BodyWord : Layout → List Ticket → List NodeStock → ℕ → ℕ → ℕ → Option Spot → Type 0
 BodyWord layout log bs n zero v None = v ≡ spare_label layout.sizes.nodes bs n
 BodyWord layout log bs n (suc j) v None = v ≡ 0
 BodyWord layout log bs n zero v (Some s) = (t : Slot) × IsNamedBy layout.sizes.nodes bs s.lane s.path t × IsReal layout.sizes t
@@ -171,12 +171,12 @@ BodyWord layout log bs n zero v (Some s) = (t : Slot) × IsNamedBy layout.sizes.
 BodyWord layout log bs n (suc j) v (Some s) = NodeWord layout log bs s j v (is_inner layout s)
 
 -- the words that need no more than the tails, the log and the books
-abbrev pub IsWordOf : Layout → ℕ × ℕ → List Ticket → List Stock → Slot → ℕ → Type 0
+abbrev pub IsWordOf : Layout → ℕ × ℕ → List Ticket → List NodeStock → Slot → ℕ → Type 0
 IsWordOf layout ts log bs (tail k) v = v ≡ tail_word ts k
 IsWordOf layout ts log bs (cell o i) v = v ≡ ticket_word layout log o i (slice_get log o)
 IsWordOf layout ts log bs (root l d) v = IsChildFor layout.sizes.nodes bs (spot l (d ∷ [])) v
 IsWordOf layout ts log bs (body n j) v = BodyWord layout log bs n j v (node_at layout.sizes.nodes bs n)
 
 -- each word is what the model says
-abbrev pub Spells : Layout → ℕ × ℕ → List Ticket → List Stock → List ℕ → Type 0
+abbrev pub Spells : Layout → ℕ × ℕ → List Ticket → List NodeStock → List ℕ → Type 0
 Spells layout ts log bs words = (t : Slot) → IsReal layout.sizes t → IsWordOf layout ts log bs t (get_or words (place layout.sizes t) 0)

@@ -11,7 +11,7 @@ use Rattle.cf_load.specs.Priors.{entries_before}
 use Rattle.cf_load.proofs.Findings.{begins_behind}
 use Rattle.cf_law.specs.Passes.{Pass}
 use Rattle.cf_load.specs.Planned.{tails_of}
-use Rattle.cf_load.specs.Writing.{RanOut, Wrote}
+use Rattle.cf_load.specs.Writing.{RanOut, HasWritten}
 use Rattle.cf_load.proofs.Batches.{ready_passes, homeward, batch_out, root_away}
 use Rattle.cf_segments.proofs.Zips.{zip_long}
 use Rattle.cf_segments.proofs.Changing.{written_back}
@@ -31,7 +31,7 @@ gather-requires-clause-all g c =
     let had = c.requires.loaded in
     let v = c.in-Ok.passes in
     let after = c.run_beside-out.new.passes in
-    let wrote : AllZip (Wrote (is_none c.run_beside-out.result.0) log (4096 * c.args.beside.now.batch) c.args.rows.now) v.items after =
+    let wrote : AllZip (HasWritten (is_none c.run_beside-out.result.0) log (4096 * c.args.beside.now.batch) c.args.rows.now) v.items after =
     rw (sym c.as_mut_slice.ensures.value) c.run_beside-out.ensures.wrote in
     let same : length after ≡ length v.items = sym (zip_long _ v.items after wrote) in
     let len : v.len ≡ length v.items = search rules in
@@ -42,7 +42,7 @@ gather-requires-clause-all g c =
 
 -- the passes that were dealt, and then wrote
 written : (g : Over) (c : goal.After-outcome g) (first : ℕ) → first ≡ 4096 * c.args.beside.now.batch
-    → AllZip (Wrote (is_none c.run_beside-out.result.0) c.args.log.now first c.args.rows.now) c.in-Ok.passes.items c.run_beside-out.new.passes
+    → AllZip (HasWritten (is_none c.run_beside-out.result.0) c.args.log.now first c.args.rows.now) c.in-Ok.passes.items c.run_beside-out.new.passes
 written g c first is = rw (is, sym c.as_mut_slice.ensures.value) c.run_beside-out.ensures.wrote
 
 -- one of which may have run out
@@ -76,7 +76,7 @@ home g c before long had none =
     let base = c.args.beside.now.prior.now.base in
     let wrote = subst
     (λ (o : Option ℕ). AllZip
-    (Wrote (is_none o) c.args.log.now (base + length before) c.args.rows.now) c.in-Ok.passes.items c.run_beside-out.new.passes) none
+    (HasWritten (is_none o) c.args.log.now (base + length before) c.args.rows.now) c.in-Ok.passes.items c.run_beside-out.new.passes) none
     (written g c (base + length before) long) in
     batch_home c.args.log.now base before c.args.rows.now
     (c.args.beside.now.batch - base / 4096) c.args.root.now c.deal.new.root c.gather.new.root c.fold_back.new.root

@@ -19,12 +19,12 @@ invariant_of-pass g c =
     rw (ap (λ (h : PassValue). h.nodes) c.pass.view_is ∙ c.requires.1.0.nodes)
     (link_low s w.notes.writer w.notes.over w.notes.used w.token.view g.to.0 g.to.1 c.args.place c.args.node c.pass.invariant.0 may) in
     linked_by s w.notes.writer w.notes.over w.notes.used w.token c.link_as-found.new.token g.to.0 g.to.1 c.args.place c.args.node c.link_as-found.result
-        c.pass.invariant low
+    c.pass.invariant low
     c.link_as-found.ensures.made c.if-found-eq0.true
 
 pub invariant_of-pass-else-found-eq0 : goal.invariant_of-pass-else-found-eq0
 invariant_of-pass-else-found-eq0 g c =
     let w = c.pass.inside in
     lost_by c.args.self.now.shape w.notes.writer w.notes.over w.notes.used w.token c.link_as-found.new.token g.to.0 g.to.1 c.args.node c.link_as-found.result
-        c.pass.invariant
+    c.pass.invariant
     c.link_as-found.ensures.made c.if-found-eq0.false

@@ -25,6 +25,6 @@ invariant_of-pass g c =
     let w = c.pass.inside in
     let m = w.token in
     kept_by c.args.self.now.shape
-        (head_effect c.args.self.now.shape m.view g.lane c.args.node c.args.nibble c.args.offset) w.notes.writer w.notes.over w.notes.used
+    (head_effect c.args.self.now.shape m.view g.lane c.args.node c.args.nibble c.args.offset) w.notes.writer w.notes.over w.notes.used
     (book_with_head g.lane (book_of m.view) (flight_of m.view)) m c.store_as.new.token c.pass.invariant c.store_as.ensures.made
     (λ found es. refl) refl refl refl
