@@ -1,6 +1,7 @@
 // The bytes of a handle, whatever it leads to.
 use std::alloc::Global;
 
+/// Where a handle's value is, and where its memory comes from.
 #[repr(C)]
 #[derive(Drop)]
 pub struct RawSeat {
@@ -8,6 +9,7 @@ pub struct RawSeat {
     pub alloc: Global,
 }
 
+/// A handle, and whether it leads to a value.
 #[repr(C)]
 #[derive(Drop)]
 pub struct RawHandle {
