@@ -17,13 +17,13 @@ mod fault;
 mod filter;
 mod form;
 mod index;
+mod line;
 mod live;
 mod parse;
 mod schema;
 mod setup;
 mod source;
 mod statement;
-mod take;
 mod tally;
 #[cfg(test)]
 mod tests;

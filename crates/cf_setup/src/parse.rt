@@ -12,7 +12,7 @@ ghost use Rattle.cf_filter.specs.Grammar.{Only};
 use crate::Setup;
 use crate::draft::Draft;
 use crate::fault::{Code, LineFault};
-use crate::take::take_said;
+use crate::line::read_line;
 use cf_filter::unspaced;
 use cf_lines::first_line;
 use std::alloc::Global;
@@ -101,7 +101,7 @@ fn read_lines(alloc: Global, bytes: &[u8]) -> Result<Setup, SetupFault>
     let mut number = 1u32;
     while !rest.is_empty() {
         let (line, next) = first_line(rest);
-        draft = match take_said(alloc, number, draft, unspaced(line)) {
+        draft = match read_line(alloc, number, draft, unspaced(line)) {
             Ok(stated) => stated,
             Err(fault) => return Err(fault.at(number)),
         };

@@ -8,8 +8,8 @@ use Rattle.cf_setup.proofs.Lawful.{said_lawful, draft_few}
 use Rattle.cf_setup.proofs.Whole.{line_ok, line_stops, line_none, empty_is}
 use Rattle.cf_setup.proofs.parse.read_lines.Goals as goal
 
-pub take_said-requires-clause-few : goal.take_said-requires-clause-few
-take_said-requires-clause-few c = draft_few c.loop-rest.draft c.loop-rest.invariant.draft
+pub read_line-requires-clause-few : goal.read_line-requires-clause-few
+read_line-requires-clause-few c = draft_few c.loop-rest.draft c.loop-rest.invariant.draft
 
 pub returns-in-Err : goal.returns-in-Err
 returns-in-Err c =

@@ -51,7 +51,12 @@ fn is_in_place(draft: &Draft, statement: Statement) -> bool
 }
 
 // Adds what the statement says, if it breaks none of its rules.
-fn add(alloc: Global, line: u32, draft: Draft, form: StatementForm) -> Result<Draft, LineFault>
+fn add_statement(
+    alloc: Global,
+    line: u32,
+    draft: Draft,
+    form: StatementForm,
+) -> Result<Draft, LineFault>
     requires few { IsFew draft }
     requires words { HasWords (form_value form) }
     requires stated { is_schema_form (form_value form) ≡ false → is_some draft.schema ≡ true }
@@ -82,8 +87,8 @@ fn add(alloc: Global, line: u32, draft: Draft, form: StatementForm) -> Result<Dr
     }
 }
 
-// Takes what follows the first word of a statement that is in place.
-fn take_statement(
+// Reads what follows the first word of a statement that is in place.
+fn read_statement(
     alloc: Global,
     line: u32,
     draft: Draft,
@@ -96,14 +101,14 @@ fn take_statement(
     ensures { Takes result (form_read line draft (form_at statement text.now)) }
 {
     match form_of(statement, text) {
-        Some(form) => add(alloc, line, draft, form),
+        Some(form) => add_statement(alloc, line, draft, form),
         None => Err(LineFault::Breaks(Code::BadForm)),
     }
 }
 
-// Takes what the line of that number states, or says the least code of a rule that it breaks.
+// Reads what the line of that number states, or says the least code of a rule that it breaks.
 #[tactic(auto, unfolding(crate::specs::Reading::line_read))]
-fn take_line(alloc: Global, number: u32, draft: Draft, line: &[u8]) -> Result<Draft, LineFault>
+fn read_stated(alloc: Global, number: u32, draft: Draft, line: &[u8]) -> Result<Draft, LineFault>
     requires few { IsFew draft }
     requires size { length line.now < 2 ^ 32 }
     ensures { Takes result (line_read number draft line.now) }
@@ -118,11 +123,11 @@ fn take_line(alloc: Global, number: u32, draft: Draft, line: &[u8]) -> Result<Dr
     if !is_in_place(&draft, statement) {
         return Err(LineFault::Breaks(Code::BadStatement));
     }
-    take_statement(alloc, number, draft, statement, rest)
+    read_statement(alloc, number, draft, statement, rest)
 }
 
-/// Takes a line after the spaces at its front, which may state nothing.
-pub(crate) fn take_said(
+/// Reads a line after the spaces at its front, which may state nothing.
+pub(crate) fn read_line(
     alloc: Global,
     number: u32,
     draft: Draft,
@@ -135,5 +140,5 @@ pub(crate) fn take_said(
     if is_silent(line) {
         return Ok(draft);
     }
-    take_line(alloc, number, draft, line)
+    read_stated(alloc, number, draft, line)
 }
