@@ -32,7 +32,7 @@ outcome_by None (Err e) P H loaded memory nodes = memory refl
 pub batch_home : (log : LogValue) (first : ℕ) (rows batch : List RowValue) (b : ℕ) (m r n o : PassValue) (q : Pass) (passes after : List PassValue)
     → IsShape log.shape → HasLoaded log first rows m → length rows ≡ 4096 * b → length batch ≤ 4096 → length rows + length batch ≤ (log.shape).capacity
     → AreDealt log m passes r → AllZip (HasWritten true log (first + length rows) batch) passes after → HasGathered log.shape r after n
-        → HasFolded log.shape n q o
+    → HasFolded log.shape n q o
     → (o.view).books ≡ (n.view).books → (HoldsAllBooks log.shape n.view → (o.view).seen ≡ (n.view).seen)
     → HasLoaded log first (rows ++ batch) o
 batch_home log first rows batch b m r n o q passes after shape has long few room dealt wrote gathered folded books stays =
@@ -45,7 +45,7 @@ batch_home log first rows batch b m r n o q passes after shape has long few room
 -- what the root was told by then
 pub batch_told : (whole : Bool) (log : LogValue) (first : ℕ) (batch : List RowValue) (m r n o : PassValue) (q : Pass) (passes after : List PassValue)
     → AreDealt log m passes r → AllZip (HasWritten whole log first batch) passes after → HasGathered log.shape r after n → HasFolded log.shape n q o
-        → q.told ≡ []
+    → q.told ≡ []
     → (o.view).told ≡ (m.view).told ++ q.tails
 batch_told whole log first batch m r n o q passes after dealt wrote gathered folded none =
     folded.told ∙ ap (λ ts. ts ++ q.tails)
