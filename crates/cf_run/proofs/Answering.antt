@@ -28,7 +28,8 @@ use Rattle.cf_intake.specs.Files.IsFileRefused.{missing, broken}
 use Rattle.cf_intake.specs.Refusals.{line_of}
 use Rattle.cf_run.specs.Refusals.{status_of, stop_status}
 use Rattle.cf_run.specs.Parts.{reply_status, reply_seals}
-use Rattle.cf_run.specs.Work.{draws, drawn_rows, rows_told, ends_told}
+use Rattle.cf_fill.specs.Work.{draws, drawn_rows}
+use Rattle.cf_run.specs.Hosts.{rows_told, ends_told}
 use Rattle.cf_run.specs.declared.reply.WorkReply.{WorkReply}
 use Rattle.cf_run.specs.declared.reply.WorkReply.TheVariants as replies
 use Rattle.cf_load.specs.Planned.{tails_of}

@@ -1,6 +1,5 @@
 -- From the parts of the work to what is due, and what is left of the opened file.
-use Rattle.std.proofs.Common.{◌≡◌, ℕ, ◌*◌, ◌<◌, ◌≤◌, Bool, true, false, List, [], ◌++◌, length, drop, Option, Some, None, Result, Ok, Err, MatchResult, All, Any, refl, sym, ap, subst, inl, inr, arith}
-use Rattle.std.proofs.lemmas.List.{drop_all}
+use Rattle.std.proofs.Common.{◌≡◌, ℕ, ◌*◌, ◌<◌, ◌≤◌, Bool, true, false, List, [], ◌++◌, length, Option, Some, None, Result, Ok, Err, MatchResult, All, Any, refl, sym, ap, subst, inl, inr, arith}
 use Rattle.std.proofs.lemmas.Simd.{map-map}
 use Rattle.cf_outside.specs.Files.{File}
 use Rattle.cf_row.specs.Row.{RowValue}
@@ -19,27 +18,29 @@ use Rattle.cf_run.specs.Due.CallsBy.{halted, whole}
 use Rattle.cf_run.specs.Due.CallsByAll.{one_halted, all_whole}
 use Rattle.cf_run.specs.Due.GivesCut.{refuses_hosts, tells_hosts}
 use Rattle.cf_run.specs.Due.GivesLog.{refuses, tells}
-use Rattle.cf_intake.specs.Files.{HasLeft, IsStopped, Grammar, setups, captures, IsFileAs, IsFileRefused, IsReadAs, Halts}
+use Rattle.cf_intake.specs.Files.{IsStopped, Grammar, setups, captures, IsFileAs, IsFileRefused, IsReadAs, Halts}
 use Rattle.cf_intake.specs.Files.IsFileRefused.{missing, broken}
 use Rattle.cf_run.specs.Parts.{EndsWith, IsPrepared, reply_status, reply_text, reply_seals, ends_each}
 use Rattle.cf_intake.specs.Parts.{captured, captured_each, rows_each}
 use Rattle.cf_intake.specs.Rows.{CaptureValue}
 use Rattle.cf_intake.specs.declared.rows.Captured.{Captured}
-use Rattle.cf_run.specs.Logs.{NodesSuffice, IsUnmade, halt_of}
+use Rattle.cf_fill.specs.Logs.{NodesSuffice, IsUnmade, halt_of}
 use Rattle.cf_intake.specs.Refusals.{line_of}
 use Rattle.cf_run.specs.Refusals.{status_of}
-use Rattle.cf_run.specs.Seals.{IsSealedReport}
+use Rattle.cf_fill.specs.Seals.{IsSealedReport}
 use Rattle.cf_intake.specs.Several.{AreReadAs, AreHalted, AreStopped}
-use Rattle.cf_run.specs.Work.{draws, drawn_rows, shape_for, rows_told, ends_told}
+use Rattle.cf_fill.specs.Work.{draws, drawn_rows, shape_for}
+use Rattle.cf_run.specs.Hosts.{rows_told, ends_told}
 use Rattle.cf_run.specs.Due.Exceeds.{full, short}
 use Rattle.cf_run.specs.Due.HostsExceed.{some_short}
 use Rattle.cf_shape.specs.Nodes.{distinct}
-use Rattle.cf_run.proofs.Drawing.{drawn_many}
+use Rattle.cf_fill.proofs.Drawing.{drawn_many}
+use Rattle.cf_fill.proofs.Whole.{whole_taken}
 use Rattle.cf_intake.proofs.Several.{all_taken, halts_after, refused_stopped}
 use Rattle.cf_intake.proofs.Taking.{left_same}
 use Rattle.cf_run.specs.declared.reply.WorkReply.{WorkReply}
-use Rattle.cf_run.specs.declared.log.Unmade.{Unmade}
-use Rattle.cf_run.specs.declared.log.Unmade.TheVariants as unmade
+use Rattle.cf_fill.specs.declared.log.Unmade.{Unmade}
+use Rattle.cf_fill.specs.declared.log.Unmade.TheVariants as unmade
 use Rattle.cf_intake.specs.declared.refusal.Halt.{Halt}
 use Rattle.cf_intake.specs.declared.refusal.Halt.TheVariants.{Refused, Stopped}
 use Rattle.cf_intake.specs.declared.refusal.Refusal.{Refusal}
@@ -64,17 +65,6 @@ ends_halted : {A : Type 0} (g : Grammar A) (told : Option (List File)) (call : O
 ends_halted {A} g told call name start before now comes stopped (Refused why) halts =
     record { work = refused why; comes = comes why halts; gives = (refl, refl, refl) }
 ends_halted {A} g told call name start before now comes stopped (Stopped stop) halts = stopped stop halts
-
--- a file that was read to its end is taken whole
-pub whole_taken : {A : Type 0} (g : Grammar A) (told : Option (List File)) (name : List ℕ) (start now : Option (List ℕ)) (what : A)
-    → IsReadAs g told name now what → IsStopped told name g.limit start now
-whole_taken {A} g told name start now what read =
-    let all : drop (length read.0.bytes) read.0.bytes ≡ [] = drop_all (length read.0.bytes) read.0.bytes (omega arith) in
-    inr (
-      read.0.bytes,
-      read.0.file,
-      record { count = length read.0.bytes; most = read.0.few; left = subst (λ (xs : List ℕ). HasLeft told now (Some xs)) (sym all) read.1 },
-    )
 
 module _ (told : Option (List File)) (call : RunCall) (before now : Option (List ℕ)) where
   pub run_unset : (halt : Halt) → Halts setups told call.setup before now halt → EndsWith told (Some (run call)) before now (Err halt)

@@ -9,7 +9,7 @@ use Rattle.cf_row.specs.Row.{RowValue}
 use Rattle.cf_row.specs.declared.row.Entry.{Entry}
 use Rattle.cf_table.specs.Moves.{SealValue}
 use Rattle.cf_run.specs.Answers.{HasSeals}
-use Rattle.cf_run.specs.Seals.{AreSeals}
+use Rattle.cf_fill.specs.Seals.{AreSeals}
 
 -- no more than `most` blocks of n are needed for n * most items
 blocks_within : (n most k : ℕ) → 1 ≤ n → k ≤ n * most → (k + n - 1) / n ≤ most

@@ -1,8 +1,3 @@
-pub mod Drawing
-pub mod Logs
-pub mod Sealing
-pub mod Filled
-pub mod Taken
 pub mod OneHost
 pub mod Deciding
 pub mod Ending

@@ -29,14 +29,15 @@ use Rattle.cf_command.specs.declared.words.LogSizes.{LogSizes}
 use Rattle.cf_follow.specs.Followed.{truncated_line}
 use Rattle.cf_snapshot.specs.Plans.{cut_by, in_cut}
 use Rattle.cf_run.specs.Due.{LogHasRoom}
-use Rattle.cf_run.specs.Logs.{IsUnmade, IsUnmadeAlone}
+use Rattle.cf_fill.specs.Logs.{IsUnmade, IsUnmadeAlone}
 use Rattle.cf_intake.specs.Parts.{rows_each}
 use Rattle.cf_intake.specs.declared.rows.Captured.{Captured}
 use Rattle.cf_run.specs.Parts.{ends_each}
-use Rattle.cf_run.proofs.Sealing.{one_more}
-use Rattle.cf_run.specs.Work.{host_lines_at, shape_for}
-use Rattle.cf_run.specs.declared.log.Unmade.{Unmade}
-use Rattle.cf_run.specs.declared.log.Unmade.TheVariants.{Nodes, Memory}
+use Rattle.cf_fill.proofs.Sealing.{one_more}
+use Rattle.cf_fill.specs.Work.{shape_for}
+use Rattle.cf_run.specs.Hosts.{host_lines_at}
+use Rattle.cf_fill.specs.declared.log.Unmade.{Unmade}
+use Rattle.cf_fill.specs.declared.log.Unmade.TheVariants.{Nodes, Memory}
 
 -- the rows of the host at a place
 pub at_host : (hosts : List Captured) (i : ℕ) (host : Captured) (d : List RowValue) → i < length hosts → host ≡ get_or hosts i host

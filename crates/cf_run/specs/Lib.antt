@@ -1,10 +1,6 @@
-pub mod Work
+pub mod Hosts
 pub mod Refusals
 pub mod Watched
-pub mod Needs
-pub mod Seals
-pub mod Logs
-pub mod Filling
 pub mod Due
 pub mod Ending
 pub mod Answers

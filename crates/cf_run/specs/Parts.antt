@@ -23,7 +23,7 @@ use Rattle.cf_intake.specs.declared.refusal.Refusal.TheVariants as refusals
 use Rattle.cf_run.specs.Refusals.{status_of}
 use Rattle.cf_run.specs.declared.reply.WorkReply.{WorkReply}
 use Rattle.cf_run.specs.declared.reply.WorkReply.TheVariants as replies
-use Rattle.cf_run.specs.declared.reply.Product.{Product}
+use Rattle.cf_fill.specs.declared.log.Product.{Product}
 use Rattle.cf_intake.specs.declared.rows.Captured.{Captured}
 use Rattle.cf_intake.specs.declared.refusal.Halt.{Halt}
 use Rattle.cf_intake.specs.declared.refusal.Halt.TheVariants.{Refused, Stopped}

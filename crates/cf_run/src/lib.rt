@@ -5,12 +5,6 @@
 //! were opened, and `specs/Answers.antt` for what the status says of that.
 #![tactic(auto)]
 
-mod asked;
-mod context;
-mod drawn;
-mod fill;
-mod filling;
-mod log;
 #[cfg(test)]
 mod packet6_tests;
 #[cfg(test)]

@@ -5,16 +5,13 @@ ghost use Rattle.cf_command.specs.Call.Call.{run, synth, dump, snapshot};
 ghost use Rattle.cf_intake.specs.Causes.{HasHaltCause, HasStopCause};
 ghost use Rattle.cf_run.specs.Parts.{EndsWith, IsPrepared};
 ghost use Rattle.cf_run.specs.Watched.{IsNoWatch};
-ghost use Rattle.cf_run.specs.Work.{draws as draws_from};
+ghost use Rattle.cf_fill.specs.Work.{draws as draws_from};
 
-use crate::context::Context;
-use crate::drawn::fill_drawn;
-use crate::fill::fill_rows;
-use crate::log::{final_of, opened, report_of};
-use crate::reply::{Product, WorkReply, refused};
+use crate::reply::{WorkReply, refused};
 use crate::snapshot::{cut_text, is_some_full, load_hosts};
 use crate::truncated::with_truncated;
 use cf_command::{Command, DumpCommand, LogSizes, RunCommand, SnapshotCommand, SynthCommand};
+use cf_fill::{Context, Product, fill_drawn, fill_rows, final_of, opened, report_of};
 use cf_intake::{
     Format, Halt, Manner, Refusal, Stop, collect_rows, format_of, read_hosts, read_setup,
 };

@@ -10,13 +10,6 @@ use cf_intake::{Refusal, Stop};
 use cf_table::Seal;
 use std::alloc::Global;
 
-/// The product of a command's work: a text, and the seals of its log's segments, if it has a log.
-#[derive(Drop)]
-pub(crate) struct Product {
-    pub(crate) text: Vec<u8>,
-    pub(crate) seals: Vec<Seal>,
-}
-
 /// What is written: a text, with the seals of the log that it is about, or the line of a refusal.
 #[derive(Drop)]
 pub(crate) enum WorkReply {

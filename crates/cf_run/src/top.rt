@@ -10,11 +10,11 @@ ghost use Rattle.cf_run.specs.Watched.{IsNoWatch};
 ghost use Rattle.cf_intake.specs.Refusals.{line_of};
 ghost use Rattle.cf_intake.specs.declared.refusal.Refusal.TheVariants as refusals;
 
-use crate::context::Context;
 use crate::prepare::prepare;
 use crate::watched::watch;
 use crate::{Outcome, Status};
 use cf_command::{Command, command_of};
+use cf_fill::Context;
 use cf_intake::write_all;
 use cf_outside::{Gate, Shelf, Sink, SteadyShelf, SteadySink};
 use std::alloc::Global;

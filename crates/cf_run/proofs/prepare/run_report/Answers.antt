@@ -5,7 +5,7 @@ use Rattle.cf_shape.specs.Lanes.{ShapeValue}
 use Rattle.cf_run.specs.Due.Exceeds.{full}
 use Rattle.cf_intake.specs.declared.refusal.Refusal.TheVariants as refusals
 use Rattle.cf_run.proofs.Coming.{run_unset, run_unopened, run_unread, run_exceeds, run_sealed, run_stopped, run_unmade, unmade_unfailed}
-use Rattle.cf_run.proofs.Filled.{filled_on, filled_over, filled_within}
+use Rattle.cf_fill.proofs.Filled.{filled_on, filled_over, filled_within}
 use Rattle.cf_run.proofs.prepare.run_report.Goals as goal
 
 pub returns-in_err-setup-clause-ends : goal.returns-in_err-setup-clause-ends

@@ -3,10 +3,10 @@ use Rattle.std.proofs.lemmas.Result.{err_from_is_err_and}
 use Rattle.cf_command.specs.Call.{synth_by}
 use Rattle.cf_shape.specs.Lanes.{ShapeValue}
 use Rattle.cf_packet6.specs.declared.PacketSchema.TheVariants.{Packet}
-use Rattle.cf_run.specs.Work.{draws, drawn_rows}
+use Rattle.cf_fill.specs.Work.{draws, drawn_rows}
 use Rattle.cf_run.proofs.Coming.{synth_unset, synth_other, synth_full, synth_sealed, synth_stopped, synth_unmade, unmade_unfailed}
-use Rattle.cf_run.proofs.Drawing.{drawn_many, draws_packets}
-use Rattle.cf_run.proofs.Filled.{filled_few, filled_on}
+use Rattle.cf_fill.proofs.Drawing.{drawn_many, draws_packets}
+use Rattle.cf_fill.proofs.Filled.{filled_few, filled_on}
 use Rattle.cf_run.proofs.prepare.synth_answers.Goals as goal
 
 pub returns-in_err-setup-clause-ends : goal.returns-in_err-setup-clause-ends

@@ -1,7 +1,7 @@
 use Rattle.std.proofs.Common.{◌≤◌, ◌*◌, List, All, length, subst, sym}
 use Rattle.cf_row.specs.Row.{RowValue, Fits}
 use Rattle.cf_shape.specs.Nodes.{distinct}
-use Rattle.cf_run.specs.Work.{shape_for}
+use Rattle.cf_fill.specs.Work.{shape_for}
 use Rattle.cf_run.proofs.OneHost.{one_below, one_of_all}
 use Rattle.cf_run.proofs.snapshot.load_hosts.Goals as goal
 

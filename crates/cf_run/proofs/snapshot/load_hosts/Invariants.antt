@@ -1,7 +1,7 @@
 use Rattle.std.proofs.Common.{◌≤◌, ◌*◌}
 use Rattle.cf_shape.specs.Nodes.{distinct}
 use Rattle.cf_intake.specs.Parts.{rows_each}
-use Rattle.cf_run.specs.Work.{shape_for}
+use Rattle.cf_fill.specs.Work.{shape_for}
 use Rattle.cf_run.proofs.OneHost.{AreBelow}
 use Rattle.cf_run.proofs.snapshot.load_hosts.Given as goal
 

@@ -2,12 +2,12 @@ use Rattle.std.proofs.Common.{◌≡◌, ◌*◌, [], All, Err, List, ◌∙◌,
 use Rattle.std.proofs.lemmas.Result.{err_from_is_err_and}
 use Rattle.cf_row.specs.Row.{RowValue, Fits}
 use Rattle.cf_shape.specs.Lanes.{ShapeValue}
-use Rattle.cf_run.specs.Logs.{IsUnmade}
-use Rattle.cf_run.specs.Needs.{NeedsAtMost}
-use Rattle.cf_run.specs.Work.{shape_for}
+use Rattle.cf_fill.specs.Logs.{IsUnmade}
+use Rattle.cf_fill.specs.Needs.{NeedsAtMost}
+use Rattle.cf_fill.specs.Work.{shape_for}
 use Rattle.cf_run.proofs.OneHost.{unmade_alone}
-use Rattle.cf_run.proofs.Sealing.{one_at_most}
-use Rattle.cf_run.proofs.Taken.{copies_came}
+use Rattle.cf_fill.proofs.Sealing.{one_at_most}
+use Rattle.cf_fill.proofs.Taken.{copies_came}
 use Rattle.cf_run.proofs.snapshot.load_silently.Goals as goal
 
 pub returns-in_err-finish : goal.returns-in_err-finish

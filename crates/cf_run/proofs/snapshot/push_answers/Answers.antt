@@ -8,10 +8,10 @@ use Rattle.cf_report.specs.Answered.{IsWithin, tolds_of}
 use Rattle.cf_report.specs.Snapshot.{host_part}
 use Rattle.cf_report.proofs.Answering.{are_answering}
 use Rattle.cf_report.proofs.Bare.{host_bare}
-use Rattle.cf_run.specs.Work.{shape_for}
-use Rattle.cf_run.proofs.Filled.{filled_few, filled_on}
-use Rattle.cf_run.proofs.Logs.{tags_long}
-use Rattle.cf_run.proofs.Taken.{copies_came}
+use Rattle.cf_fill.specs.Work.{shape_for}
+use Rattle.cf_fill.proofs.Filled.{filled_few, filled_on}
+use Rattle.cf_fill.proofs.Logs.{tags_long}
+use Rattle.cf_fill.proofs.Taken.{copies_came}
 use Rattle.cf_run.proofs.OneHost.{one_log, host_told, unmade_alone}
 use Rattle.cf_run.proofs.snapshot.push_answers.Goals as goal
 

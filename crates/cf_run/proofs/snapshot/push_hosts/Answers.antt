@@ -5,7 +5,8 @@ use Rattle.cf_row.specs.Row.{RowValue}
 use Rattle.cf_run.specs.Due.{LogHasRoom}
 use Rattle.cf_intake.specs.Parts.{rows_each}
 use Rattle.cf_run.specs.Parts.{ends_each}
-use Rattle.cf_run.specs.Work.{host_lines_at, shape_for}
+use Rattle.cf_fill.specs.Work.{shape_for}
+use Rattle.cf_run.specs.Hosts.{host_lines_at}
 use Rattle.cf_run.proofs.OneHost.{at_host, end_of_host, host_lines, one_of_all, never_short}
 use Rattle.cf_run.proofs.snapshot.push_hosts.Goals as goal
 

@@ -2,7 +2,8 @@ use Rattle.std.proofs.Common.{◌≡◌, ◌++◌, string_bytes}
 use Rattle.std.specs.List.{flat_map, range_with_len}
 use Rattle.cf_intake.specs.Parts.{rows_each}
 use Rattle.cf_run.specs.Parts.{ends_each}
-use Rattle.cf_run.specs.Work.{host_lines_at, shape_for}
+use Rattle.cf_fill.specs.Work.{shape_for}
+use Rattle.cf_run.specs.Hosts.{host_lines_at}
 use Rattle.cf_run.proofs.snapshot.push_hosts.Given as goal
 
 abbrev pub invariant-loop-host : goal.invariant-loop-host

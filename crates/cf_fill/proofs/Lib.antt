@@ -1,0 +1,6 @@
+pub mod Whole
+pub mod Drawing
+pub mod Logs
+pub mod Sealing
+pub mod Filled
+pub mod Taken

@@ -1,0 +1,119 @@
+use Rattle.std.proofs.Common.{◌≡◌, arith, ℕ, List, [], ◌++◌, Option, Result, Err, OnErr, All, sym, ap, subst, ◌∙◌}
+use Rattle.std.proofs.lemmas.Result.{err_from_is_err_and, IfOk-at_ok}
+use Rattle.cf_row.specs.Row.{RowValue, Fits}
+use Rattle.cf_row.specs.declared.schema.Attr.{Attr}
+use Rattle.cf_packet6.specs.declared.PacketSchema.{PacketSchema}
+use Rattle.cf_packet6.specs.Schema6.{attrs_by}
+use Rattle.cf_shape.specs.Lanes.{ShapeValue}
+use Rattle.cf_fill.specs.Filling.{IsFilled}
+use Rattle.cf_fill.proofs.Filled.{keeps_all, keeps_then, waits_few, waits_short}
+use Rattle.cf_intake.specs.Reading.{TakesPackets}
+use Rattle.cf_intake.proofs.Piecewise.{stopped_on, finished_so}
+use Rattle.cf_fill.proofs.fill.fill_packets.Goals as goal
+
+-- what is said of an error, where the result is one
+on_err_at : {T E P : Type 0} (r : Result T E) (y : E) → r ≡ Err y → OnErr r P → P
+on_err_at {P = P} r y is said = subst (λ s. OnErr s P) is said
+
+-- rows of packets fit the schema of a log of packets
+fit_now : (attrs : List Attr) (now shape : ShapeValue) (rows : List RowValue) → now ≡ shape → shape.schema ≡ attrs → All (Fits attrs) rows
+    → All (Fits now.schema) rows
+fit_now attrs now shape rows same are fit =
+    subst (λ (attributes : List Attr). All (Fits attributes) rows) (sym (ap (λ (h : ShapeValue). h.schema) same ∙ are)) fit
+
+pub loop-shelf-init : goal.loop-shelf-init
+loop-shelf-init g c = record {
+  files = c.in_ok-pieces.ensures.files;
+  later = c.in_ok-pieces.ensures.cause.later;
+  schema = c.in_ok-pieces.ensures.schema;
+  fit = c.in_ok-pieces.ensures.fit;
+  few = (
+      let begun = c.in_ok-pieces.ensures.few in
+      let short = waits_short c.args.filling.now [] c.requires.none in
+      omega (arith, begun, short)
+      );
+  keeps = keeps_all c.args.filling.now;
+  taken = ([], c.in_ok-pieces.ensures.read, c.requires.none);
+}
+
+pub take_beside-taken-requires-clause-fit : goal.take_beside-taken-requires-clause-fit
+take_beside-taken-requires-clause-fit g c = λ κs within.
+    let v = c.loop-shelf.invariant in
+    fit_now (attrs_by c.args.schema) c.loop-shelf.filling.segments.shape c.args.filling.now.segments.shape c.loop-shelf.rows.items v.keeps.shape
+    c.requires.attrs v.fit
+
+pub loop-shelf-preserved : goal.loop-shelf-preserved
+loop-shelf-preserved g c =
+    let v = c.loop-shelf.invariant in
+    let beside = c.take_beside-taken.ensures in
+    let before : Option (List ℕ) = g.F.Shelf.rest c.args.shelf.now in
+    let rows : List RowValue = v.taken.0 in
+    let more : List RowValue = rows ++ c.loop-shelf.rows.items in
+    let first = v.later in
+    let then = beside.cause.later in
+    let old = c.loop-shelf.filling in
+    let new = c.take_beside-taken.new.filling in
+    let filled : IsFilled new more = IfOk-at_ok _ c.in_ok-taken.was beside.filled rows v.taken.2 in
+    record {
+      files = beside.files ∙ v.files;
+      later = omega (arith, first, then);
+      schema = beside.schema ∙ v.schema;
+      fit = subst (λ (s : PacketSchema). All (Fits (attrs_by s)) c.in_ok-rows.rows.items) v.schema (IfOk-at_ok _ c.in_ok-rows.was beside.fit);
+      few = (
+          let wait = waits_few old new rows c.loop-shelf.rows.items v.taken.2 filled beside.keeps beside.stops in
+          let ahead = IfOk-at_ok _ c.in_ok-rows.was beside.few before more v.taken.1 in
+          omega (arith, wait, ahead)
+          );
+      keeps = keeps_then c.args.filling.now old new v.keeps beside.keeps;
+      taken = (more, IfOk-at_ok _ c.in_ok-rows.was beside.read before more v.taken.1, filled);
+    }
+
+pub returns-in_err-rows-clause-taken : goal.returns-in_err-rows-clause-taken
+returns-in_err-rows-clause-taken g c =
+    let p = err_from_is_err_and c.from_residual-in_err-rows.result c.from_residual-in_err-rows.ensures.1 in
+    let v = c.loop-shelf.invariant.taken in
+    let stopped = on_err_at _ _ c.in_err-rows.was c.take_beside-taken.ensures.stopped in
+    rw (p.1, p.2) (stopped (g.F.Shelf.rest c.args.shelf.now) (v.0 ++ c.loop-shelf.rows.items) v.1)
+
+pub returns-in_err-taken-clause-taken : goal.returns-in_err-taken-clause-taken
+returns-in_err-taken-clause-taken g c =
+    let p = err_from_is_err_and c.from_residual-in_err-taken.result c.from_residual-in_err-taken.ensures.1 in
+    let before : Option (List ℕ) = g.F.Shelf.rest c.args.shelf.now in
+    let v = c.loop-shelf.invariant.taken in
+    let more : List RowValue = v.0 ++ c.loop-shelf.rows.items in
+    let read = IfOk-at_ok _ c.in_ok-rows.was c.take_beside-taken.ensures.read in
+    rw (p.1, p.2)
+    (stopped_on c.take_beside-taken.new.pieces before (g.F.Shelf.rest c.take_beside-taken.new.shelf) (more ++ c.in_ok-rows.rows.items)
+    (read before more v.1))
+
+pub returns-in_err-take_rows-clause-taken : goal.returns-in_err-take_rows-clause-taken
+returns-in_err-take_rows-clause-taken g c =
+    let p = err_from_is_err_and c.from_residual-in_err-take_rows.result c.from_residual-in_err-take_rows.ensures.1 in
+    let v = c.loop-shelf.invariant.taken in
+    rw (p.1, p.2) (stopped_on c.loop-shelf.pieces (g.F.Shelf.rest c.args.shelf.now) (g.F.Shelf.rest c.loop-shelf.shelf) (v.0 ++ c.loop-shelf.rows.items) v.1)
+
+pub take_rows-requires-clause-fit : goal.take_rows-requires-clause-fit
+take_rows-requires-clause-fit g c = λ κs within.
+    let v = c.loop-shelf.invariant in
+    fit_now (attrs_by c.args.schema) c.loop-shelf.filling.segments.shape c.args.filling.now.segments.shape c.loop-shelf.rows.items v.keeps.shape
+    c.requires.attrs v.fit
+
+pub returns-clause-taken : goal.returns-clause-taken
+returns-clause-taken g c =
+    let before : Option (List ℕ) = g.F.Shelf.rest c.args.shelf.now in
+    let now : Option (List ℕ) = g.F.Shelf.rest c.loop-shelf.shelf in
+    let v = c.loop-shelf.invariant.taken in
+    let all : List RowValue = v.0 ++ c.loop-shelf.rows.items in
+    let filled : IsFilled c.take_rows.new.self all = c.in_ok-take_rows.ensures.filled v.0 v.2 in
+    finished_so c.args.schema c.args.truncated (IsFilled c.take_rows.new.self) before now all c.finish.result
+    (subst (λ (s : PacketSchema). TakesPackets s c.args.truncated (λ (cut : Option ℕ) what. what ≡ record { rows = all; cut = cut }) before now c.finish.result)
+    c.loop-shelf.invariant.schema (c.finish.ensures.taken before now all v.1)) filled
+
+pub returns-clause-cause : goal.returns-clause-cause
+returns-clause-cause g c =
+    let v = c.loop-shelf.invariant.taken in
+    record {
+      later = c.loop-shelf.invariant.later;
+      failed = λ e. absurd
+          (c.finish.ensures.unfailed (g.F.Shelf.rest c.loop-shelf.shelf) (g.F.Shelf.rest c.args.shelf.now) (v.0 ++ c.loop-shelf.rows.items) v.1 e);
+    }

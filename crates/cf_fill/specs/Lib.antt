@@ -1,0 +1,5 @@
+pub mod Work
+pub mod Needs
+pub mod Seals
+pub mod Logs
+pub mod Filling
