@@ -6,7 +6,7 @@ ghost use Rattle.cf_calls.specs.declared.refusals.LineRefusal.{LineRefusal as Li
 ghost use Rattle.cf_store.specs.declared.shown.Head.{Head as HeadValue};
 ghost use Rattle.std.specs.Global.{Global as GlobalValue};
 ghost use Rattle.cf_calls.specs.declared.refusals.MergeRefusal.{MergeRefusal as MergeRefusalValue};
-ghost use Rattle.cf_store.specs.declared.shown.Shown.{Shown as ShownValue};
+ghost use Rattle.cf_store.specs.declared.shown.Shown.{Shown as ShownRow};
 ghost use Rattle.cf_store.specs.Merges.{Merges};
 ghost use Rattle.cf_calls.specs.Codes.{append_code, ask_code, code_number, lane_code, line_code, open_code, row_code};
 ghost use Rattle.cf_store.specs.Opens.{Measures};
@@ -288,7 +288,7 @@ pub fn confluo_row(
     values: &mut [ShownValue],
     count: &mut usize,
 ) -> u32
-    ensures { (r : Result ShownValue CodeValue) × ByHandle (λ m n. IsCoded row_code (ShowsRowAt offset m n values.old values.new)) reader.old.seat.held reader.new.seat.held r
+    ensures { (r : Result ShownRow CodeValue) × ByHandle (λ m n. IsCoded row_code (ShowsRowAt offset m n values.old values.new)) reader.old.seat.held reader.new.seat.held r
         × IfErr r (λ _. values.new ≡ values.old) × (result ≡ number_of r) × (number.new ≡ number_or r number.old) × (count.new ≡ count_or r count.old) }
 {
     match reader.show_row(alloc, offset, values) {
