@@ -53,9 +53,6 @@ none_filled f plan holds one told fresh begins none zero = record {
   idle = λ _. none;
 }
 
--- The rows that wait are loaded, or not.
-module _ (waiting : List RowValue) (s t : SegmentsValue) (old new : LoaderValue) where
-
 pub fit_after : (attrs : List Attr) (before waiting : List RowValue) → All (Fits attrs) (before ++ waiting) → All (Fits attrs) waiting
 fit_after attrs before waiting fit =
     subst (λ (rs : List RowValue). All (Fits attrs) rs) (drop_at before waiting (length before) refl)

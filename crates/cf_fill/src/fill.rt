@@ -43,14 +43,17 @@ fn take_beside<R: Threads + Sync, F: Shelf, G: Gate>(
     ensures stopped { OnErr result.1 (StopsOn pieces.old (F.rest shelf.old) (F.rest shelf.new)) }
     ensures cause { HasStopCause (F.faults shelf.old) (F.faults shelf.new) result.1 }
 {
-    let alloc = context.alloc;
+    let Context { rt, alloc, gate } = *context;
     let wanted = filling.wanted(rows.len());
     let mut take = || -> Result<(), Memory>
         requires { IsSync R.row × IsSync G.row × All (Fits filling.now.segments.shape.schema) rows.now.items × IsFilling filling.now }
         ensures keeps { KeepsLog filling.entry.now filling.exit.now }
         ensures filled { IfOk result (λ _. Fills filling.entry.now filling.exit.now rows.entry.now.items) }
         ensures stops { filling.entry.now.loader.stopped ≡ true → filling.exit.now.loader.stopped ≡ true }
-    { filling.take_rows(context, rows) };
+    {
+        let alloc = filling.alloc();
+        filling.take_rows(&Context { rt, alloc, gate }, rows)
+    };
     let mut read = || -> Result<Vec<Row>, Stop>
         requires { HasMore pieces.now × (0 < wanted) }
         ensures files { F.files shelf.exit.now ≡ F.files shelf.entry.now }
@@ -62,7 +65,7 @@ fn take_beside<R: Threads + Sync, F: Shelf, G: Gate>(
         ensures stopped { OnErr result (StopsOn pieces.entry.now (F.rest shelf.entry.now) (F.rest shelf.exit.now)) }
         ensures cause { HasStopCause (F.faults shelf.entry.now) (F.faults shelf.exit.now) result }
     { pieces.next_rows(alloc, shelf, wanted) };
-    join_mut(context.rt, &mut take, &mut read)
+    join_mut(rt, &mut take, &mut read)
 }
 
 /// Fills the log with the rows of the opened capture by that schema as they come. It is read to its end, or until 2^32 bytes were taken. One that may

@@ -22,6 +22,7 @@ use std::thread::Threads;
 /// waits once no more is loaded, because there are more than the log may hold or a writer has no node left.
 #[derive(Drop)]
 pub struct Filling {
+    alloc: Global,
     segments: Segments,
     loader: Loader,
     waiting: Vec<Row>,
@@ -108,11 +109,17 @@ impl Filling {
         let segments = Segments::open(alloc, shape, most)?;
         let loader = Loader::new(alloc, &segments, plan)?;
         Ok(Filling {
+            alloc,
             segments,
             loader,
             waiting: Vec::new(alloc),
             count: 0,
         })
+    }
+
+    /// Where the log is allocated.
+    pub(crate) fn alloc(&self) -> Global {
+        self.alloc
     }
 
     /// Whether more rows came than the log may hold.

@@ -8,7 +8,7 @@ use Rattle.cf_row.specs.contracts.row.Row as row
 use Rattle.cf_fill.specs.contracts.filling.Filling as filling
 use Rattle.cf_intake.specs.Reading.{IfReadOn}
 use Rattle.cf_fill.proofs.Filled.{ahead_few}
-use Rattle.cf_fill.proofs.fill.take_beside.Lts.{arg-3-1}
+use Rattle.cf_fill.proofs.fill.take_beside.Lts.{arg-2-1}
 use Rattle.cf_fill.proofs.fill.take_beside.Goals as goal
 
 pub returns-clause-few : goal.returns-clause-few
@@ -35,5 +35,5 @@ join_mut-requires-send-F g c κs within =
     let sync_R = c.type_bounds.sync-R in
     let sync_G = c.type_bounds.sync-G in
     param_send 1
-    (arg-3-1 g.row.R g.row.F g.row.G g.R.laws g.F.laws g.G.laws g.R.Threads-dict g.F.Shelf-dict g.G.Gate-dict κs)
+    (arg-2-1 g.row.R g.row.F g.row.G g.R.laws g.F.laws g.G.laws g.R.Threads-dict g.F.Shelf-dict g.G.Gate-dict κs)
     (search (filling_send, row_send, sync_R, sync_G, sendable, crosses) depth 60 fits 100000)
