@@ -1,5 +1,6 @@
 -- Files by name.
-use Rattle.std.specs.Prelude.{◌≡◌, ℕ, List, [], ◌∷◌, drop, if◌then◌else◌, Result, Ok, Err, OnErr}
+use Rattle.std.specs.Prelude.{◌≡◌, ℕ, List, [], ◌∷◌, drop, if◌then◌else◌, Result, Ok, Err, OnErr, MatchResult}
+use Rattle.std.specs.Io.KnownBytes.{Appends, Keeps}
 use Rattle.std.specs.Str.{bytes_eq}
 use Rattle.std.specs.declared.option.Option.{Option}
 use Rattle.std.specs.declared.option.Option.TheVariants.{Some, None}
@@ -37,3 +38,12 @@ pub record PileValue : Type 0 where
 abbrev pub rest_from : Option File → ℕ → List ℕ
 rest_from None at = []
 rest_from (Some file) at = drop at file.bytes
+
+-- A call of `read` is noted: how many bytes it moved stands behind what earlier ones moved. One that failed is not.
+abbrev pub Notes : {E : Type 0} → (before now : Option (List ℕ)) → Result ℕ E → Type 0
+Notes before now result = MatchResult result (λ n. Appends before now (n ∷ [])) (λ _. Keeps before now)
+
+-- what a shelf tells of its reads: what is left of the opened file, and how many bytes each call of `read` has moved
+pub record ShelfView : Type 0 where
+  pub rest : Option (List ℕ)
+  pub moved : Option (List ℕ)

@@ -3,3 +3,4 @@ pub mod Files
 pub mod Script
 pub mod Shown
 pub mod Gate
+pub mod Tries

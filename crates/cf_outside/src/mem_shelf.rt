@@ -3,7 +3,7 @@ ghost use Rattle.std.specs.Prelude.{◌≡◌, ◌≢◌, ◌↔◌, ◌<◌, []
 ghost use Rattle.std.specs.Io.{ReadsAtMost};
 ghost use Rattle.std.specs.Io.KnownBytes.{ReadConsumes};
 ghost use Rattle.cf_outside.specs.Causes.{HasCause, HasOpenCause, is_failed};
-ghost use Rattle.cf_outside.specs.Files.{Opens};
+ghost use Rattle.cf_outside.specs.Files.{Notes, Opens};
 ghost use Rattle.cf_outside.specs.Script.{script_of, fails_next, after_call};
 
 use crate::pile::Pile;
@@ -63,11 +63,13 @@ impl MemShelf {
 }
 
 impl Shelf for MemShelf {
-    ghost use Rattle.std.specs.declared.option.Option.TheVariants.{Some};
+    ghost use Rattle.std.specs.declared.option.Option.TheVariants.{Some, None};
 
     ghost files = { λ s. Some s.files };
 
     ghost rest = { λ s. Some s.rest };
+
+    ghost moved = { λ _. None };
 
     ghost faults = { λ s. s.script.faults };
 
@@ -98,6 +100,7 @@ impl Shelf for MemShelf {
         ensures files { Some self.new.files ≡ Some self.old.files }
         ensures bound { ReadsAtMost result buf.new }
         ensures bytes { ReadConsumes (Some self.old.rest) (Some self.new.rest) result buf.new }
+        ensures noted { Notes None None result }
         ensures cause { HasCause self.old.script.faults self.new.script.faults result }
 
         // It fails exactly where this call is to fail, and else moves as many bytes as it may.

@@ -4,7 +4,7 @@ ghost use Rattle.std.specs.declared.option.Option.{Option};
 ghost use Rattle.std.specs.Io.{ReadsAtMost};
 ghost use Rattle.std.specs.Io.KnownBytes.{ReadConsumes};
 ghost use Rattle.cf_outside.specs.Causes.{HasCause, HasOpenCause};
-ghost use Rattle.cf_outside.specs.Files.{File, Opens};
+ghost use Rattle.cf_outside.specs.Files.{File, Notes, Opens};
 
 use thiserror::Error;
 
@@ -35,6 +35,9 @@ pub trait Shelf {
     /// What is left of the opened file, where the shelf tells it.
     ghost rest: { Self → Option (List ℕ) };
 
+    /// How many bytes each call of `read` has moved that did not fail, the oldest first, where the shelf tells it.
+    ghost moved: { Self → Option (List ℕ) };
+
     /// How often the device has failed. The count stops at 2^64 - 1.
     ghost faults: { Self → ℕ };
 
@@ -43,6 +46,7 @@ pub trait Shelf {
     fn open(&mut self, name: &str) -> Result<(), OpenFault>
         ensures files { files self.new ≡ files self.old }
         ensures opens { Opens (files self.old) name.now (rest self.old) (rest self.new) result }
+        ensures noted { moved self.new ≡ moved self.old }
         ensures cause { HasOpenCause (faults self.old) (faults self.new) result };
 
     /// Moves bytes of the opened file to the front of the buffer, and answers how many. An answer
@@ -51,5 +55,6 @@ pub trait Shelf {
         ensures files { files self.new ≡ files self.old }
         ensures bound { ReadsAtMost result buf.new }
         ensures bytes { ReadConsumes (rest self.old) (rest self.new) result buf.new }
+        ensures noted { Notes (moved self.old) (moved self.new) result }
         ensures cause { HasCause (faults self.old) (faults self.new) result };
 }

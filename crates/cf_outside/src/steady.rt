@@ -4,7 +4,7 @@ ghost use Rattle.std.specs.Io.{ReadsAtMost};
 ghost use Rattle.std.specs.Io.KnownBytes.{ReadConsumes, WriteAppends};
 ghost use Rattle.std.specs.declared.option.Option.TheVariants.{None};
 ghost use Rattle.cf_outside.specs.Causes.{HasCause, HasOpenCause, TakesSome, is_failed};
-ghost use Rattle.cf_outside.specs.Files.{Opens};
+ghost use Rattle.cf_outside.specs.Files.{Notes, Opens};
 
 use crate::pile::Pile;
 use crate::{Failed, Memory, OpenFault, Shelf, Sink};
@@ -49,11 +49,13 @@ impl SteadyShelf {
 }
 
 impl Shelf for SteadyShelf {
-    ghost use Rattle.std.specs.declared.option.Option.TheVariants.{Some};
+    ghost use Rattle.std.specs.declared.option.Option.TheVariants.{Some, None};
 
     ghost files = { λ s. Some s.files };
 
     ghost rest = { λ s. Some s.rest };
+
+    ghost moved = { λ _. None };
 
     ghost faults = { λ _. 0 };
 
@@ -77,6 +79,7 @@ impl Shelf for SteadyShelf {
         ensures files { Some self.new.files ≡ Some self.old.files }
         ensures bound { ReadsAtMost result buf.new }
         ensures bytes { ReadConsumes (Some self.old.rest) (Some self.new.rest) result buf.new }
+        ensures noted { Notes None None result }
         ensures cause { HasCause 0 0 result }
 
         // It never fails, and fills the buffer or reads to the end.

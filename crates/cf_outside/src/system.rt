@@ -1,28 +1,85 @@
-// The real devices. As shelves and sinks they say nothing about content. They count every error
-// except, at an open, a missing file and running out of memory.
-ghost use Rattle.std.specs.Prelude.{◌≡◌, ◌↔◌, [], take, if◌then◌else◌, is_err, IfOk, OnErr, OnOk, Some};
-ghost use Rattle.std.specs.Io.{ReadsAtMost};
-ghost use Rattle.std.specs.Io.KnownBytes.{Appends, ReadConsumes, WriteAppends};
+// The real devices. As shelves and sinks they say nothing about content. They count every call that fails
+// except, at an open, for a missing file or for want of memory. A call that a signal interrupts is tried again.
+ghost use Rattle.std.specs.Prelude.{◌≡◌, [], take, if◌then◌else◌, is_err, IfOk, OnErr, OnOk, Some};
+ghost use Rattle.std.specs.Io.{ReadsAtMost, WritesAtMost};
+ghost use Rattle.std.specs.Io.KnownBytes.{Appends, Keeps, ReadConsumes, WriteAppends};
 ghost use Rattle.std.specs.declared.option.Option.TheVariants.{None};
 ghost use Rattle.cf_outside.specs.Causes.{HasCause, HasOpenCause, TakesSome, count_up, is_failed};
-ghost use Rattle.cf_outside.specs.Files.{Opens};
+ghost use Rattle.cf_outside.specs.Files.{Notes, Opens};
+ghost use Rattle.cf_outside.specs.Tries.{Means, Settles, TakesOpened};
 
 use crate::{Failed, OpenFault, Shelf, Sink};
-use std::fs;
 use std::io::{ErrorKind, Read, Write};
 use std::marker::Model;
 use std::rt::Files;
+use std::{fs, io};
+
+/// A call that was interrupted so often in a row has failed.
+const TRIES: u32 = 1 << 20;
 
 // What an error of std's means at an open.
 fn fault_of(kind: ErrorKind) -> OpenFault
-    ensures missing { (result ≡ OpenFault.Missing) ↔ (kind ≡ ErrorKind.NotFound) }
-    ensures memory { (result ≡ OpenFault.Memory) ↔ (kind ≡ ErrorKind.OutOfMemory) }
+    ensures { Means kind result }
 {
     match kind {
         ErrorKind::NotFound => OpenFault::Missing,
         ErrorKind::OutOfMemory => OpenFault::Memory,
         _ => OpenFault::Failed,
     }
+}
+
+// What a try comes to. One that a signal interrupted has done nothing, and is made again.
+fn settled<T: Drop>(tried: io::Result<T>) -> Option<Result<T, Failed>>
+    ensures { Settles tried result }
+{
+    match tried {
+        Ok(done) => Some(Ok(done)),
+        Err(error) => {
+            if error.kind() == ErrorKind::Interrupted {
+                None
+            } else {
+                Some(Err(Failed))
+            }
+        }
+    }
+}
+
+// Reads, again after each interruption.
+fn read_on<F: Read>(file: &mut F, buf: &mut [u8]) -> Result<usize, Failed>
+    ensures bound { ReadsAtMost result buf.new }
+    ensures bytes { ReadConsumes (F.remaining file.old) (F.remaining file.new) result buf.new }
+{
+    for _ in 0..TRIES {
+        if let Some(outcome) = settled(file.read(buf)) {
+            return outcome;
+        }
+    }
+    Err(Failed)
+}
+
+// Writes, again after each interruption.
+fn write_on<W: Write>(writer: &mut W, piece: &[u8]) -> Result<usize, Failed>
+    ensures bound { WritesAtMost result piece.now }
+    ensures bytes { WriteAppends (W.contents writer.old) (W.contents writer.new) result piece.now }
+{
+    for _ in 0..TRIES {
+        if let Some(outcome) = settled(writer.write(piece)) {
+            return outcome;
+        }
+    }
+    Err(Failed)
+}
+
+// Flushes, again after each interruption.
+fn flush_on<W: Write>(writer: &mut W) -> Result<(), Failed>
+    ensures { Keeps (W.contents writer.old) (W.contents writer.new) }
+{
+    for _ in 0..TRIES {
+        if let Some(outcome) = settled(writer.flush()) {
+            return outcome;
+        }
+    }
+    Err(Failed)
 }
 
 /// The files of the system. Contracts see its count of faults and what the opened file has left,
@@ -54,12 +111,35 @@ impl<'a, R: Files> FileShelf<'a, R> {
             faults: 0,
         }
     }
+
+    // Takes what the system answered to an open: this file, which is read next, or this error.
+    fn take_opened(&mut self, opened: io::Result<R::File>) -> Result<(), OpenFault>
+        ensures taken { TakesOpened R.File.remaining opened self.old.known self.new.known result }
+        ensures cause { HasOpenCause self.old.faults self.new.faults result }
+        ensures counted { self.new.faults ≡ (if is_failed result then count_up self.old.faults else self.old.faults) }
+    {
+        match opened {
+            Ok(file) => {
+                self.file = Some(file);
+                Ok(())
+            }
+            Err(error) => {
+                let fault = fault_of(error.kind());
+                if fault == OpenFault::Failed {
+                    self.faults = self.faults.saturating_add(1);
+                }
+                Err(fault)
+            }
+        }
+    }
 }
 
 impl<'a, R: Files> Shelf for FileShelf<'a, R> {
     ghost files = { λ _. None };
 
     ghost rest = { λ _. None };
+
+    ghost moved = { λ _. None };
 
     ghost faults = { λ s. s.faults };
 
@@ -75,31 +155,21 @@ impl<'a, R: Files> Shelf for FileShelf<'a, R> {
         // What is read next is what some opened file has left.
         ensures opened { OnOk result ((file : R.File) × (self.new.known ≡ R.File.remaining file)) }
     {
-        match fs::open(self.rt, name) {
-            Ok(file) => {
-                self.file = Some(file);
-                Ok(())
-            }
-            Err(error) => {
-                let fault = fault_of(error.kind());
-                if fault == OpenFault::Failed {
-                    self.faults = self.faults.saturating_add(1);
-                }
-                Err(fault)
-            }
-        }
+        let rt = self.rt;
+        self.take_opened(fs::open(rt, name))
     }
 
     fn read(&mut self, buf: &mut [u8]) -> Result<usize, Failed>
         ensures bound { ReadsAtMost result buf.new }
         ensures bytes { ReadConsumes None None result buf.new }
+        ensures noted { Notes None None result }
         ensures cause { HasCause self.old.faults self.new.faults result }
 
         ensures counted { self.new.faults ≡ (if is_err result then count_up self.old.faults else self.old.faults) }
         ensures known { ReadConsumes self.old.known self.new.known result buf.new }
     {
         match &mut self.file {
-            Some(file) => match file.read(buf) {
+            Some(file) => match read_on(file, buf) {
                 Ok(count) => Ok(count),
                 Err(_) => {
                     self.faults = self.faults.saturating_add(1);
@@ -152,8 +222,10 @@ impl<W: Write + Drop> Sink for StdSink<W> {
         ensures counted { self.new.faults ≡ (if is_err result then count_up self.old.faults else self.old.faults) }
         ensures known { IfOk result (λ n. Appends self.old.known self.new.known (take n piece.now)) }
     {
-        let taken = match self.inner.write(piece) {
-            Ok(count) if count > 0 || piece.is_empty() => self.inner.flush().map(|()| count).ok(),
+        let taken = match write_on(&mut self.inner, piece) {
+            Ok(count) if count > 0 || piece.is_empty() => {
+                flush_on(&mut self.inner).map(|()| count).ok()
+            }
             _ => None,
         };
         match taken {
@@ -168,29 +240,44 @@ impl<W: Write + Drop> Sink for StdSink<W> {
 
 #[cfg(test)]
 mod tests {
-    use super::StdSink;
+    use super::{StdSink, read_on};
     use crate::{Failed, Sink};
     use std::io;
-    use std::io::{ErrorKind, Write};
+    use std::io::{ErrorKind, Read, Write};
     use std::test::Fail;
 
-    // Keeps at most so many bytes of a write, and flushes or not.
+    // Keeps at most so many bytes of a write, and flushes or not. Each other call is interrupted if all are to be made twice.
     #[derive(Drop)]
     struct Recorder {
         held: Vec<u8>,
         most: usize,
         flushes: bool,
+        twice: bool,
+        waits: bool,
+    }
+
+    impl Recorder {
+        // Whether this call is interrupted.
+        fn is_interrupted(&mut self) -> bool {
+            self.waits = self.twice && !self.waits;
+            self.waits
+        }
     }
 
     impl Write for Recorder {
         fn write(&mut self, buf: &[u8]) -> io::Result<usize> {
+            if self.is_interrupted() {
+                return Err(ErrorKind::Interrupted.into());
+            }
             let count = self.most.min(buf.len());
             self.held.extend_from_slice(&buf[..count])?;
             Ok(count)
         }
 
         fn flush(&mut self) -> io::Result<()> {
-            if self.flushes {
+            if self.is_interrupted() {
+                Err(ErrorKind::Interrupted.into())
+            } else if self.flushes {
                 Ok(())
             } else {
                 Err(ErrorKind::BrokenPipe.into())
@@ -206,16 +293,54 @@ mod tests {
             (0, true, Err(Failed), 1),
             (9, false, Err(Failed), 1),
         ];
-        for (most, flushes, wanted, faults) in cases {
-            let mut sink = StdSink::new(Recorder {
-                held: Vec::new(rt.alloc()),
-                most,
-                flushes,
-            });
-            assert_eq!(rt; sink.write(b"abcd"), wanted);
-            assert_eq!(rt; sink.faults, faults);
-            assert_eq!(rt; sink.inner.held.len(), most.min(4));
+        for twice in [false, true] {
+            for (most, flushes, wanted, faults) in cases {
+                let mut sink = StdSink::new(Recorder {
+                    held: Vec::new(rt.alloc()),
+                    most,
+                    flushes,
+                    twice,
+                    waits: false,
+                });
+                assert_eq!(rt; sink.write(b"abcd"), wanted);
+                assert_eq!(rt; sink.faults, faults);
+                assert_eq!(rt; sink.inner.held.len(), most.min(4));
+            }
         }
         Ok(())
+    }
+
+    // Is interrupted so often, and then gives a byte, or fails.
+    #[derive(Drop)]
+    struct Signals {
+        left: u32,
+        fails: bool,
+    }
+
+    impl Read for Signals {
+        fn read(&mut self, buf: &mut [u8]) -> io::Result<usize> {
+            if self.left > 0 {
+                self.left -= 1;
+                return Err(ErrorKind::Interrupted.into());
+            }
+            if self.fails || buf.is_empty() {
+                return Err(ErrorKind::BrokenPipe.into());
+            }
+            buf[0] = 7;
+            Ok(1)
+        }
+    }
+
+    #[test]
+    fn a_read_goes_on_after_interruptions(rt: HostRuntime) {
+        let cases = [
+            (0, false, Ok(1)),
+            (1000, false, Ok(1)),
+            (3, true, Err(Failed)),
+        ];
+        for (left, fails, wanted) in cases {
+            let mut buf = [0; 4];
+            assert_eq!(rt; read_on(&mut Signals { left, fails }, &mut buf), wanted);
+        }
     }
 }

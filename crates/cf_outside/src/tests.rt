@@ -1,7 +1,7 @@
 // Each device once, by tables.
 use crate::{
-    Failed, FileShelf, FreeGate, Gate, Held, HoldGate, MemShelf, MemSink, OpenFault, Shelf, Sink,
-    SteadyShelf, SteadySink,
+    Failed, FileShelf, FreeGate, Gate, Held, HoldGate, MemShelf, MemSink, NotingShelf, OpenFault,
+    Shelf, Sink, SteadyShelf, SteadySink,
 };
 use std::fs;
 use std::test::Fail;
@@ -29,6 +29,20 @@ fn mem_shelf_reads_the_newest_file(rt: HostRuntime) -> Result<(), Fail> {
             Err(Failed) => assert_eq!(rt; wanted, None),
         }
     }
+    Ok(())
+}
+
+#[test]
+fn a_noting_shelf_tells_its_reads(rt: HostRuntime) -> Result<(), Fail> {
+    let mut mem = MemShelf::new(rt.alloc(), vec![in rt.alloc(); 3]?, 7);
+    mem.put("capture", b"0123456789")?;
+    let mut shelf = NotingShelf::new(rt.alloc(), mem);
+    assert_eq!(rt; shelf.open("capture"), Ok(()));
+    let mut buf = [0u8; 16];
+    for wanted in [Ok(7), Err(Failed), Ok(3), Ok(0)] {
+        assert_eq!(rt; shelf.read(&mut buf), wanted);
+    }
+    assert_eq!(rt; shelf.moved(), [7, 3, 0].as_slice());
     Ok(())
 }
 
