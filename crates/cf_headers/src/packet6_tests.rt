@@ -268,3 +268,23 @@ fn ipv6_comes_behind_each_link_and_two_tags(rt: HostRuntime) -> Result<(), Fail>
     }
     Ok(())
 }
+
+#[test]
+fn a_long_frame_is_read_as_its_headers(rt: HostRuntime) -> Result<(), Fail> {
+    let alloc = rt.alloc();
+    let frame = ethernet(alloc, &[0x86, 0xdd], &ipv6(alloc, 28, 0, &HOP_TCP)?)?;
+    let wanted = row_of(alloc, 1, &frame)?;
+    for size in [1_501, 65_535, 262_144] {
+        let mut long = frame.as_slice().to_vec(alloc)?;
+        long.resize(size, 0)?;
+        let row = row_of(alloc, 1, &long)?;
+        for attr in 0..24 {
+            assert_eq!(rt;
+                row.number(attr),
+                wanted.number(attr),
+                "attribute {attr} of {size} bytes"
+            );
+        }
+    }
+    Ok(())
+}

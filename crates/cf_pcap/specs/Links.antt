@@ -60,6 +60,10 @@ limited links = record { links = links; length = Limited }
 abbrev pub unlimited : LinkSet → Scope
 unlimited links = record { links = links; length = Any }
 
+-- captures of all links, as long as these may be
+abbrev pub widened : Scope → Scope
+widened scope = record { links = All; length = scope.length }
+
 -- the most bytes that a record may hold of its frame: libpcap's MAXIMUM_SNAPLEN
 abbrev pub longest : ℕ
 longest = 262144

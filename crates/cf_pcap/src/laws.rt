@@ -2,7 +2,8 @@
 ghost use Rattle.std.specs.Prelude.{ℕ, List, ◌++◌};
 ghost use Rattle.cf_pcap.specs.declared.scope.Scope.{Scope};
 ghost use Rattle.cf_pcap.specs.declared.fault.PcapFault.{PcapFault};
-ghost use Rattle.cf_pcap.specs.Capture.{HasPcapFault};
+ghost use Rattle.cf_pcap.specs.Capture.{FrameValue, IsCapture, HasPcapFault};
+ghost use Rattle.cf_pcap.specs.Links.{widened};
 ghost use Rattle.cf_pcap.specs.Stream.{IsFound};
 ghost use Rattle.cf_pcap.specs.Laws.{OneCase, OneGift, JudgedAlike};
 ghost use Rattle.cf_pcap.specs.Truncated.{TruncatedCase};
@@ -31,4 +32,9 @@ pub fn files_are_judged_alike()
 /// frames that its bytes give. Read as truncated, each file says one thing, or has one fault.
 pub fn a_truncated_file_has_its_whole_records()
     ensures { (scope : Scope) (file : List ℕ) → TruncatedCase scope file }
+{}
+
+/// A capture of some frames is one of the same frames where all links are read.
+pub fn a_capture_is_one_of_all_links()
+    ensures { (scope : Scope) (file : List ℕ) (frames : List FrameValue) → IsCapture scope file frames → IsCapture (widened scope) file frames }
 {}

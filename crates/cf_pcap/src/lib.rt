@@ -23,8 +23,8 @@ pub use fault::PcapFault;
 pub use form::Order;
 pub use frame::Frame;
 pub use laws::{
-    a_found_fault_stays, a_truncated_file_has_its_whole_records, each_file_is_in_one_case,
-    each_stream_gives_one_list, files_are_judged_alike,
+    a_capture_is_one_of_all_links, a_found_fault_stays, a_truncated_file_has_its_whole_records,
+    each_file_is_in_one_case, each_stream_gives_one_list, files_are_judged_alike,
 };
 pub use limit::{LIMIT, Length};
 pub use links::{Link, LinkSet};

@@ -12,7 +12,7 @@ use Rattle.cf_pcap.specs.Format.{Wants, Bad, ReadsTo, IsFound}
 use Rattle.cf_pcap.specs.Streams.{Runs}
 use Rattle.cf_pcap.proofs.FormatFeeding as streams
 use Rattle.cf_pcapng.specs.declared.fault.Flaw.{Flaw}
-use Rattle.cf_pcapng.specs.declared.fault.Flaw.TheVariants.{BadMagic, BadVersion, BadLink, FrameTooLong, BadLength, NoInterface}
+use Rattle.cf_pcapng.specs.declared.fault.Flaw.TheVariants.{BadMagic, BadVersion, BadLink, FrameTooLong, BadLength, NoInterface, TooManyInterfaces}
 use Rattle.cf_pcapng.specs.declared.fault.NgFault.{NgFault}
 use Rattle.cf_pcapng.specs.declared.fault.NgFault.TheVariants.{Cut, TooManyBytes, Memory}
 use Rattle.cf_pcap.specs.declared.stage.Stage.{Stage}
@@ -20,15 +20,19 @@ use Rattle.cf_pcap.specs.declared.stage.Stage.TheVariants.{Running, Stopped}
 use Rattle.cf_pcapng.specs.declared.passed.Passed.{Passed}
 use Rattle.cf_pcapng.specs.File.{State, fault_of, step, pcapng}
 use Rattle.cf_pcapng.specs.Position.{listed, PositionValue, state_of}
-use Rattle.cf_pcapng.specs.Reading.{WasPassed, Begins, Breaks, AreReadOn, FitsIn, early_bytes, late_bytes, IsGoneOn, MayGoOn}
+use Rattle.cf_pcapng.specs.Reading.{WasPassed, Begins, Breaks, AreReadOn, FitsIn, early_bytes, late_bytes, AreFew, IsGoneOn, MayGoOn, StaysWithin}
 use Rattle.cf_pcap.specs.Stages.{IsAt, answer_at, kept_at}
 use Rattle.cf_pcap.proofs.Stages.{at_running}
 use Rattle.cf_pcapng.specs.Reader.{PcapNgValue, IsRunning, IsStateOf, IsFed, IsEnded, IsSoundAt, IsSound, IsCalled, state_after, ShowsLate, IsStageAtLimit, IsStageAfter}
 use Rattle.cf_pcapng.specs.declared.interfaces.Interface.{Interface}
 use Rattle.cf_pcapng.specs.declared.position.Reached.{Reached}
+use Rattle.cf_pcapng.specs.declared.head.BlockKind.{BlockKind}
 use Rattle.cf_pcapng.specs.declared.head.BlockKind.TheVariants.{Other}
-use Rattle.cf_pcapng.proofs.Heads.{standing}
-use Rattle.cf_pcapng.proofs.Steps.{stepper}
+use Rattle.cf_pcapng.specs.declared.head.BlockHead.TheVariants.{Short, Stands}
+use Rattle.cf_pcapng.specs.Blocks.{head_of}
+use Rattle.cf_pcap.proofs.FormatUnits.{reads_nothing}
+use Rattle.cf_pcapng.proofs.Heads.{standing, at_most, head_stays}
+use Rattle.cf_pcapng.proofs.Steps.{stepper, step_at, found_short}
 
 -- the reader after a call
 abbrev Later : Scope → Stage NgFault → ℕ → State → Option Passed → List ℕ → PcapNgValue
@@ -219,14 +223,15 @@ flaw_is_fault k BadLink h = cc
 flaw_is_fault k FrameTooLong h = cc
 flaw_is_fault k BadLength h = cc
 flaw_is_fault k NoInterface h = cc
+flaw_is_fault k TooManyInterfaces h = cc
 
 late_is_fault : (flaw : Option Flaw) (t : State) (fault : NgFault) → ShowsLate flaw t fault → fault ≡ Memory → ⊥
 late_is_fault None t fault shows h = let no : TooManyBytes ≡ Memory = sym shows ∙ h in cc
 late_is_fault (Some flaw) t fault shows h = flaw_is_fault t.count flaw (sym shows ∙ h)
 
 sound_stopped : (scope : Scope) (fault : NgFault) (total : ℕ) (t : State) (passed : Option Passed) (held : List ℕ) → (fault ≡ Memory → ⊥)
-    → IsSound (Later scope (Stopped fault) total t passed held)
-sound_stopped scope fault total t passed held h = (h, refl)
+    → AreFew scope.length t.interfaces → IsSound (Later scope (Stopped fault) total t passed held)
+sound_stopped scope fault total t passed held h few = ((h, refl), few)
 
 sound_case : (before : PcapNgValue) (early late : List ℕ) (t : State) (passed : Option Passed) (held : List ℕ) (flaw : Option Flaw) (total : ℕ)
     (stage : Stage NgFault) → FitsIn before.scope.length (before.state.count + length before.held) before.total → IsShort before.scope.length total
@@ -237,20 +242,23 @@ sound_case before early [] t passed held None total stage had small on at is =
     let fits : FitsIn l (t.count + length held) (before.state.count + (length before.held + length early)) =
     subst (λ n. FitsIn l (t.count + length held) (before.state.count + n)) (length-append before.held early) on.fits in
     subst (λ (x : Stage NgFault). IsSound (Later before.scope x total t passed held)) (sym at) (
-      small,
-      fits_after l before.total before.state.count (length before.held) (length early) t.count (length held) total had fits is,
-      on.few,
-      on.room,
+      (
+        small,
+        fits_after l before.total before.state.count (length before.held) (length early) t.count (length held) total had fits is,
+        on.few,
+        on.room,
+      ),
+      on.interfaces,
     )
 sound_case before early (byte ∷ late) t passed held None total stage had small on at is =
     subst (λ (x : Stage NgFault). IsSound (Later before.scope x total t passed held)) (sym at.stage_is)
-    (sound_stopped before.scope at.fault total t passed held (late_is_fault at.flaw at.last at.fault at.shows))
+    (sound_stopped before.scope at.fault total t passed held (late_is_fault at.flaw at.last at.fault at.shows) on.interfaces)
 sound_case before early [] t passed held (Some flaw) total stage had small on at is =
     subst (λ (x : Stage NgFault). IsSound (Later before.scope x total t passed held)) (sym at)
-    (sound_stopped before.scope (fault_of t.count flaw) total t passed held (flaw_is_fault t.count flaw))
+    (sound_stopped before.scope (fault_of t.count flaw) total t passed held (flaw_is_fault t.count flaw) on)
 sound_case before early (byte ∷ late) t passed held (Some flaw) total stage had small on at is =
     subst (λ (x : Stage NgFault). IsSound (Later before.scope x total t passed held)) (sym at)
-    (sound_stopped before.scope (fault_of t.count flaw) total t passed held (flaw_is_fault t.count flaw))
+    (sound_stopped before.scope (fault_of t.count flaw) total t passed held (flaw_is_fault t.count flaw) on)
 
 -- room for one more byte
 pub may_go_on : (before : PcapNgValue) (piece early : List ℕ) (t : State) (passed : Option Passed) (held : List ℕ) (flaw : Option Flaw)
@@ -264,6 +272,7 @@ may_go_on before piece early t passed held None small had early_is on =
     subst (λ n. FitsIn l (t.count + length held) (before.state.count + n)) (length-append before.held early) on.fits in (
       on.room,
       byte_room l before.total before.state.count (length before.held) t.count (length held) piece early small had early_is fits,
+      on.interfaces,
     )
 
 -- a call that takes a piece
@@ -277,7 +286,7 @@ pub called : (before : PcapNgValue) (piece early late bytes : List ℕ) (given :
     → kept ≡ kept_at stage held
     → IsCalled before piece given (record { scope = before.scope; stage = stage; total = total; state = t; passed = passed; held = kept })
 called before piece early late bytes given s t passed held kept flaw total stage running sound early_is late_is bytes_is s_is read on at total_is kept_is =
-    let had = subst (λ (x : Stage NgFault). IsSoundAt x before) running sound in
+    let had = subst (λ (x : Stage NgFault). IsSoundAt x before) running sound.0 in
     let small : IsShort before.scope.length before.total = had.0 in
     let reads : (gone : List ℕ) → WasPassed before.state.order before.passed gone
     → AreReadOn before.scope before.state ((gone ++ before.held) ++ early) given t passed held flaw =
@@ -299,6 +308,69 @@ called before piece early late bytes given s t passed held kept flaw total stage
     ) in
     subst (λ (xs : List ℕ). IsCalled before piece given (record { scope = before.scope; stage = stage; total = total; state = t; passed = passed; held = xs }))
     (sym kept_is) done
+
+-- A piece within a block that is read.
+
+empty_late : (late : List ℕ) → length late ≡ 0 → late ≡ []
+empty_late [] h = refl
+empty_late (byte ∷ late) h = absurd (omega (arith, h))
+
+same_fits : (l : Length) (n m k : ℕ) → n ≡ m → FitsIn l (k + n) (k + m)
+same_fits Any n m k h = tt
+same_fits Limited n m k h = omega (arith, h)
+
+within_short : (section : Option Order) (passed : Option Passed) (held more : List ℕ) → StaysWithin section passed held more
+    → length (held ++ more) < 2 ^ 20
+within_short section passed held more h =
+    let most : h.total ≤ 2 ^ 20 = at_most h.kind h.total (standing section held h.order h.kind h.total h.head).lawful h.read in
+    let len : length (held ++ more) ≡ length held + length more = length-append held more in
+    let short : length held + length more < h.total = h.short in
+    omega (arith, most, len, short)
+
+within_wants : (scope : Scope) (s : State) (passed : Option Passed) (held more : List ℕ) → StaysWithin s.order passed held more
+    → step scope s (held ++ more) ≡ Wants
+within_wants scope s passed held more h =
+    let same : head_of s.order (held ++ more) ≡ Stands h.order h.kind h.total =
+    head_stays s.order held more (λ e. no h.order h.kind h.total (sym e ∙ h.head)) ∙ h.head in
+    let len : length (held ++ more) ≡ length held + length more = length-append held more in
+    let short : length held + length more < h.total = h.short in
+    step_at scope s (held ++ more) (Stands h.order h.kind h.total) same
+    ∙ found_short scope s (held ++ more) h.order h.kind h.total (omega (arith, len, short)) where
+      no : (order : Order) (kind : BlockKind) (total : ℕ) → Short ≡ Stands order kind total → ⊥
+      no order kind total e = cc
+
+begins_within : (scope : Scope) (s : State) (passed : Option Passed) (held more : List ℕ) → StaysWithin s.order passed held more → (gone : List ℕ)
+    → WasPassed s.order passed gone → Begins scope s (gone ++ (held ++ more)) [] s passed (held ++ more)
+begins_within scope s passed held more h gone was =
+    let none : gone ≡ [] = subst (λ (p : Option Passed). WasPassed s.order p gone) h.none was in
+    let bytes : gone ++ (held ++ more) ≡ held ++ more = ap (λ xs. xs ++ (held ++ more)) none in
+    record {
+      gone = gone;
+      was = was;
+      read = reads_nothing (pcapng scope) s (gone ++ (held ++ more));
+      part = ap (λ xs. step scope s xs) bytes ∙ within_wants scope s passed held more h;
+      few = within_short s.order passed held more h;
+    }
+
+pub kept_within : (before : PcapNgValue) (piece early late kept : List ℕ) (total : ℕ) → before.stage ≡ Running → IsSound before
+    → early ≡ early_bytes before.scope.length before.total piece → late ≡ late_bytes before.scope.length before.total piece → length late ≡ 0
+    → StaysWithin before.state.order before.passed before.held early → total ≡ total_on before.scope.length before.total (length early)
+    → kept ≡ before.held ++ early
+    → IsCalled before piece [] (record { scope = before.scope; stage = before.stage; total = total; state = before.state; passed = before.passed; held = kept })
+kept_within before piece early late kept total running sound early_is late_is none within total_is kept_is =
+    let l : Length = before.scope.length in
+    let had = subst (λ (x : Stage NgFault). IsSoundAt x before) running sound.0 in
+    let on : IsGoneOn l before.state (length (before.held ++ early)) before.state before.passed (before.held ++ early) None = record {
+      fits = same_fits l (length (before.held ++ early)) (length (before.held ++ early)) before.state.count refl;
+      room = had.3;
+      few = within_short before.state.order before.passed before.held early within;
+      interfaces = sound.1;
+    } in
+    subst (λ (x : Stage NgFault). IsCalled before piece []
+    (record { scope = before.scope; stage = x; total = total; state = before.state; passed = before.passed; held = kept })) (sym running)
+    (called before piece early [] (before.held ++ early) [] before.state before.state before.passed (before.held ++ early) kept None total Running
+    running sound early_is (sym (empty_late late none) ∙ late_is) refl refl
+    (begins_within before.scope before.state before.passed before.held early within) on refl total_is kept_is)
 
 -- a state by its parts
 abbrev state_by : Option Order → List Interface → Bool → List Interface → ℕ → State

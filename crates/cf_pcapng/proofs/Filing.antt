@@ -8,7 +8,7 @@ use Rattle.cf_pcap.proofs.Limits.{count_first}
 use Rattle.cf_pcap.proofs.FormatUnits.{reads_count}
 use Rattle.cf_pcap.proofs.ByKind.{one_case}
 use Rattle.cf_pcapng.specs.declared.fault.Flaw.{Flaw}
-use Rattle.cf_pcapng.specs.declared.fault.Flaw.TheVariants.{BadMagic, BadVersion, BadLink, FrameTooLong, BadLength, NoInterface}
+use Rattle.cf_pcapng.specs.declared.fault.Flaw.TheVariants.{BadMagic, BadVersion, BadLink, FrameTooLong, BadLength, NoInterface, TooManyInterfaces}
 use Rattle.cf_pcapng.specs.declared.fault.NgFault.{NgFault}
 use Rattle.cf_pcapng.specs.declared.fault.NgFault.TheVariants as faults
 use Rattle.cf_pcapng.specs.File.{State, fault_of, step, pcapng, IsNg, HasNgFault}
@@ -92,6 +92,7 @@ by_flaw scope file k BadLink h = h
 by_flaw scope file k FrameTooLong h = h
 by_flaw scope file k BadLength h = h
 by_flaw scope file k NoInterface h = h
+by_flaw scope file k TooManyInterfaces h = h
 
 part_of : (scope : Scope) (s : State) (bytes : List ℕ) → step scope s bytes ≡ Wants → IsPart scope s bytes
 part_of scope s bytes h = record {
@@ -161,6 +162,7 @@ rules_by_fault scope file (faults.Cut k) h = cut_of scope file k h
 rules_by_fault scope file faults.TooManyBytes h = inl (inr (refl, too_many_of scope file h))
 rules_by_fault scope file (faults.BadLength k) h = inl (inl (shows_of scope (seen scope.length file) k BadLength h))
 rules_by_fault scope file (faults.NoInterface k) h = inl (inl (shows_of scope (seen scope.length file) k NoInterface h))
+rules_by_fault scope file (faults.TooManyInterfaces k) h = inl (inl (shows_of scope (seen scope.length file) k TooManyInterfaces h))
 rules_by_fault scope file faults.Memory h = absurd h
 
 pub file_by_rules : (scope : Scope) (file : List ℕ) → FileByRules scope file

@@ -1,6 +1,8 @@
 pub mod Heads
 pub mod Steps
 pub mod Nexts
+pub mod Places
+pub mod Widening
 pub mod Passing
 pub mod Feeding
 pub mod Ruling

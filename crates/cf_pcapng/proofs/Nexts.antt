@@ -1,7 +1,6 @@
 -- The block at the front, as the code finds it.
 use Rattle.std.proofs.Common.{◌≡◌, inl, inr, ℕ, ◌<◌, ◌≤◌, ◌+◌, ◌-◌, List, ◌++◌, length, take, drop, Option, Result, Ok, Err, IfOk, refl, sym, ap, subst, ◌∙◌, arith}
 use Rattle.std.proofs.lemmas.Bool.{cases_lt}
-use Rattle.cf_pcap.specs.declared.links.LinkSet.{LinkSet}
 use Rattle.cf_pcap.specs.declared.scope.Scope.{Scope}
 use Rattle.cf_pcap.specs.declared.limit.Length.{Length}
 use Rattle.cf_pcap.specs.declared.limit.Length.TheVariants.{Limited, Any}
@@ -24,18 +23,18 @@ use Rattle.cf_pcapng.specs.Reading.{block_next, next_at, next_of, IsEnd, AreRead
 use Rattle.cf_pcapng.proofs.Heads.{below, not_below}
 use Rattle.cf_pcapng.proofs.Steps.{Shown, step_at, length_front}
 
-pub next_by_head : (links : LinkSet) (s : State) (bytes : List ℕ) (head : BlockHead) → head_of s.order bytes ≡ head
-    → next_of links s bytes ≡ next_at links s.interfaces bytes head
+pub next_by_head : (scope : Scope) (s : State) (bytes : List ℕ) (head : BlockHead) → head_of s.order bytes ≡ head
+    → next_of scope s bytes ≡ next_at scope s.interfaces bytes head
 unfolding next_of
-next_by_head links s bytes head h = ap (λ (x : BlockHead). next_at links s.interfaces bytes x) h
+next_by_head scope s bytes head h = ap (λ (x : BlockHead). next_at scope s.interfaces bytes x) h
 
-pub next_part : (links : LinkSet) (s : State) (bytes : List ℕ) (order : Order) (kind : BlockKind) (total : ℕ) → head_of s.order bytes ≡ Stands order kind total
-    → length bytes < total → next_of links s bytes ≡ next.Wants
-next_part links s bytes order kind total h short = next_by_head links s bytes (Stands order kind total) h ∙ rw (below (length bytes) total short) refl
+pub next_part : (scope : Scope) (s : State) (bytes : List ℕ) (order : Order) (kind : BlockKind) (total : ℕ) → head_of s.order bytes ≡ Stands order kind total
+    → length bytes < total → next_of scope s bytes ≡ next.Wants
+next_part scope s bytes order kind total h short = next_by_head scope s bytes (Stands order kind total) h ∙ rw (below (length bytes) total short) refl
 
-pub next_whole : (links : LinkSet) (s : State) (bytes : List ℕ) (order : Order) (kind : BlockKind) (total : ℕ) → head_of s.order bytes ≡ Stands order kind total
-    → total ≤ length bytes → next_of links s bytes ≡ block_next total (content_of links s.interfaces order kind (take total bytes))
-next_whole links s bytes order kind total h whole = next_by_head links s bytes (Stands order kind total) h ∙ rw (not_below (length bytes) total whole) refl
+pub next_whole : (scope : Scope) (s : State) (bytes : List ℕ) (order : Order) (kind : BlockKind) (total : ℕ) → head_of s.order bytes ≡ Stands order kind total
+    → total ≤ length bytes → next_of scope s bytes ≡ block_next total (content_of scope s.interfaces order kind (take total bytes))
+next_whole scope s bytes order kind total h whole = next_by_head scope s bytes (Stands order kind total) h ∙ rw (not_below (length bytes) total whole) refl
 
 -- what the block at the front shows
 abbrev pub shown_by : Length → State → List ℕ → Next → Shown
@@ -50,28 +49,28 @@ by_content l s bytes total (Ok content) whole =
 by_content l s bytes total (Err flaw) whole = refl
 
 by_head : (scope : Scope) (s : State) (bytes : List ℕ) (head : BlockHead)
-    → found_at scope s bytes head ≡ shown_by scope.length s bytes (next_at scope.links s.interfaces bytes head)
+    → found_at scope s bytes head ≡ shown_by scope.length s bytes (next_at scope s.interfaces bytes head)
 by_head scope s bytes Short = refl
 by_head scope s bytes (Flawed flaw) = refl
 by_head scope s bytes (Stands order kind total) = elim (cases_lt (length bytes) total) [
   | inl short ↦ rw (below (length bytes) total short) refl
   | inr whole ↦ rw (not_below (length bytes) total whole)
-      (by_content scope.length s bytes total (content_of scope.links s.interfaces order kind (take total bytes)) whole)
+      (by_content scope.length s bytes total (content_of scope s.interfaces order kind (take total bytes)) whole)
 ]
 
-pub step_by_next : (scope : Scope) (s : State) (bytes : List ℕ) → step scope s bytes ≡ shown_by scope.length s bytes (next_of scope.links s bytes)
+pub step_by_next : (scope : Scope) (s : State) (bytes : List ℕ) → step scope s bytes ≡ shown_by scope.length s bytes (next_of scope s bytes)
 step_by_next scope s bytes =
     step_at scope s bytes (head_of s.order bytes) refl
     ∙ by_head scope s bytes (head_of s.order bytes)
-    ∙ ap (λ (x : Next). shown_by scope.length s bytes x) (sym (next_by_head scope.links s bytes (head_of s.order bytes) refl))
+    ∙ ap (λ (x : Next). shown_by scope.length s bytes x) (sym (next_by_head scope s bytes (head_of s.order bytes) refl))
 
-pub step_of : (scope : Scope) (s : State) (bytes : List ℕ) (found : Next) → found ≡ next_of scope.links s bytes
+pub step_of : (scope : Scope) (s : State) (bytes : List ℕ) (found : Next) → found ≡ next_of scope s bytes
     → step scope s bytes ≡ shown_by scope.length s bytes found
 step_of scope s bytes found h = step_by_next scope s bytes ∙ ap (λ (x : Next). shown_by scope.length s bytes x) (sym h)
 
 -- one more block is read
 pub one_more : (scope : Scope) (s : State) (bytes : List ℕ) (frames : List FrameValue) (t : State) (left : List ℕ) (total : ℕ) (content : Content)
-    → ReadsTo (pcapng scope) s bytes frames t left → next.Block total content ≡ next_of scope.links t left
+    → ReadsTo (pcapng scope) s bytes frames t left → next.Block total content ≡ next_of scope t left
     → ReadsTo (pcapng scope) s bytes (frames ++ frames_of t.count content (take total left)) (after scope.length t content) (drop total left)
 one_more scope s bytes frames t left total content read is =
     reads_on (pcapng scope) s bytes frames (frames_of t.count content (take total left)) t left (after scope.length t content) (drop total left) read

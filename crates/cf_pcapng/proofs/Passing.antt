@@ -25,20 +25,21 @@ use Rattle.cf_pcapng.specs.declared.content.Content.TheVariants.{Nothing}
 use Rattle.cf_pcapng.specs.declared.passed.Passed.{Passed}
 use Rattle.cf_pcapng.specs.Blocks.{head_of, last_total, content_of, is_section}
 use Rattle.cf_pcapng.specs.File.{State, fault_of, found_at, block_found, step, pcapng}
-use Rattle.cf_pcapng.specs.Reading.{AreRead, WasPassed, Begins, Breaks, AreReadOn, AreReadOnAfter, IsLetGo, IsPassedAt, KeepsLastField, FitsIn, IsSoundOn, IsGoneOn, size_by, missing_of}
+use Rattle.cf_pcapng.specs.Reading.{AreRead, WasPassed, Begins, Breaks, AreReadOn, AreReadOnAfter, IsLetGo, IsPassedAt, KeepsLastField, FitsIn, AreFew, IsSoundOn, IsGoneOn, size_by, missing_of}
 use Rattle.cf_pcapng.proofs.Heads.{head_stays, head_by_8, section_first, standing, at_least, at_most, seen_size}
+use Rattle.cf_pcapng.proofs.Places.{reads_few}
 use Rattle.cf_pcapng.proofs.Steps.{Shown, step_at, found_short, found_whole, length_front, block_not_wants, stepper}
 
 -- What a block of an unknown type shows.
 
 content_true : (scope : Scope) (interfaces : List Interface) (order : Order) (block : List ℕ) → last_total order block ≡ length block
-    → content_of scope.links interfaces order Other block ≡ Ok Nothing
+    → content_of scope interfaces order Other block ≡ Ok Nothing
 unfolding content_of
 content_true scope interfaces order block h = let same : eqb (last_total order block) (length block) ≡ true =
     eq-eqb (last_total order block) (length block) h in rw same refl
 
 content_false : (scope : Scope) (interfaces : List Interface) (order : Order) (block : List ℕ) → (last_total order block ≡ length block → ⊥)
-    → content_of scope.links interfaces order Other block ≡ Err BadLength
+    → content_of scope interfaces order Other block ≡ Err BadLength
 unfolding content_of
 content_false scope interfaces order block h = let other : eqb (last_total order block) (length block) ≡ false = grind (arith, nat_tests) in rw other refl
 
@@ -113,7 +114,7 @@ few_at scope s rest (Stands order kind total) is h none = elim (cases_lt (length
       let most : total ≤ 2 ^ 20 = at_most kind total it.lawful (λ e. none order total short (is ∙ ap (λ (k : BlockKind). Stands order k total) e)) in
       omega (arith, short, most)
   | inr whole ↦ absurd
-      (block_not_wants scope s (take total rest) (content_of scope.links s.interfaces order kind (take total rest))
+      (block_not_wants scope s (take total rest) (content_of scope s.interfaces order kind (take total rest))
       (sym (found_whole scope s rest order kind total whole) ∙ h))
 ]
 
@@ -238,9 +239,10 @@ fits_same Limited k n m few = omega (arith, few)
 
 -- what a reader has is no more than it had and what came
 pub sound_of : (scope : Scope) (s : State) (bytes : List ℕ) (frames : List FrameValue) (t : State) (passed : Option Passed) (held : List ℕ)
-    (flaw : Option Flaw) → AreReadOn scope s bytes frames t passed held flaw → IsGoneOn scope.length s (length bytes) t passed held flaw
-sound_of scope s bytes frames t passed held (Some flaw) on = tt
-sound_of scope s bytes frames t passed held None on =
+    (flaw : Option Flaw) → AreFew scope.length s.interfaces → AreReadOn scope s bytes frames t passed held flaw
+    → IsGoneOn scope.length s (length bytes) t passed held flaw
+sound_of scope s bytes frames t passed held (Some flaw) few on = reads_few scope s bytes frames t on.rest on.read few
+sound_of scope s bytes frames t passed held None few on =
     let fit : length frames + length (on.gone ++ held) ≤ length bytes = reads_fit (pcapng scope) (stepper scope) s bytes frames t (on.gone ++ held) on.read in
     let count : t.count ≡ count_on scope.length s.count (length frames) =
     reads_count (pcapng scope) (stepper scope) s bytes frames t (on.gone ++ held) on.read in
@@ -249,6 +251,7 @@ sound_of scope s bytes frames t passed held None on =
       fits = fits_on scope.length s.count (length frames) t.count (length held) (length bytes) count (omega (arith, fit, len));
       room = room_of t.order passed on.gone on.was;
       few = on.few;
+      interfaces = reads_few scope s bytes frames t (on.gone ++ held) on.read few;
     } where
       room_of : (order : Option Order) (passed : Option Passed) (gone : List ℕ) → WasPassed order passed gone → KeepsLastField passed
       room_of order None gone was = tt
@@ -257,20 +260,21 @@ sound_of scope s bytes frames t passed held None on =
 -- the same, where fewer bytes count
 sound_more : (l : Length) (s : State) (size more : ℕ) (t : State) (passed : Option Passed) (held : List ℕ) (flaw : Option Flaw) → size ≤ more
     → IsGoneOn l s size t passed held flaw → IsGoneOn l s more t passed held flaw
-sound_more l s size more t passed held (Some flaw) few on = tt
+sound_more l s size more t passed held (Some flaw) few on = on
 sound_more l s size more t passed held None few on =
-    record { fits = fits_more l (t.count + length held) s.count size more few on.fits; room = on.room; few = on.few }
+    record { fits = fits_more l (t.count + length held) s.count size more few on.fits; room = on.room; few = on.few; interfaces = on.interfaces }
 
 pub sound_over : (scope : Scope) (s : State) (bytes : List ℕ) (left : ℕ) (frames : List FrameValue) (t : State) (passed : Option Passed) (held : List ℕ)
-    (flaw : Option Flaw) → AreReadOn scope s (drop left bytes) frames t passed held flaw → IsGoneOn scope.length s (length bytes) t passed held flaw
-sound_over scope s bytes left frames t passed held flaw on =
+    (flaw : Option Flaw) → AreFew scope.length s.interfaces → AreReadOn scope s (drop left bytes) frames t passed held flaw
+    → IsGoneOn scope.length s (length bytes) t passed held flaw
+sound_over scope s bytes left frames t passed held flaw few on =
     let len : length (drop left bytes) ≡ length bytes - left = length-drop left bytes in
     sound_more scope.length s (length (drop left bytes)) (length bytes) t passed held flaw (omega (arith, len))
-    (sound_of scope s (drop left bytes) frames t passed held flaw on)
+    (sound_of scope s (drop left bytes) frames t passed held flaw few on)
 
-pub sound_within : (l : Length) (s : State) (block passed : Passed) (some : ℕ) (bytes : List ℕ) → IsLetGo block (length bytes) passed some
+pub sound_within : (l : Length) (s : State) (block passed : Passed) (some : ℕ) (bytes : List ℕ) → AreFew l s.interfaces → IsLetGo block (length bytes) passed some
     → IsSoundOn l s (length bytes) s (Some passed) (drop some bytes)
-sound_within l s block passed some bytes go =
+sound_within l s block passed some bytes few go =
     let len : length (drop some bytes) ≡ length bytes - some = length-drop some bytes in
     let left : length bytes < some + 4 = go.left in
     let room : passed.gone + 4 ≤ block.total = go.room in
@@ -279,6 +283,7 @@ sound_within l s block passed some bytes go =
       fits = fits_same l s.count (length (drop some bytes)) (length bytes) (omega (arith, len));
       room = omega (arith, room, total_is);
       few = omega (arith, len, left);
+      interfaces = few;
     }
 
 -- Reading on, after what was read.

@@ -5,13 +5,15 @@ use Rattle.std.proofs.lemmas.Bool.Decides.{nat_tests}
 use Rattle.byteorder.specs.Endian.{little_number}
 use Rattle.cf_lemmas.proofs.Truths.{both}
 use Rattle.cf_pcap.specs.declared.links.LinkSet.{LinkSet}
+use Rattle.cf_pcap.specs.declared.limit.Length.{Length}
+use Rattle.cf_pcap.specs.declared.limit.Length.TheVariants.{Limited, Any}
 use Rattle.cf_pcap.specs.declared.scope.Scope.{Scope}
 use Rattle.cf_pcap.specs.declared.form.Order.{Order}
 use Rattle.cf_pcap.specs.Capture.{FrameValue, number_in}
 use Rattle.cf_pcap.specs.Links.{is_link, longest}
 use Rattle.cf_pcap.specs.Format.{Wants, Bad, Takes}
 use Rattle.cf_pcapng.specs.declared.fault.Flaw.{Flaw}
-use Rattle.cf_pcapng.specs.declared.fault.Flaw.TheVariants.{BadMagic, BadVersion, BadLink, FrameTooLong, BadLength, NoInterface}
+use Rattle.cf_pcapng.specs.declared.fault.Flaw.TheVariants.{BadMagic, BadVersion, BadLink, FrameTooLong, BadLength, NoInterface, TooManyInterfaces}
 use Rattle.cf_pcapng.specs.declared.fault.NgFault.{NgFault}
 use Rattle.cf_pcapng.specs.declared.head.BlockKind.{BlockKind}
 use Rattle.cf_pcapng.specs.declared.head.BlockKind.TheVariants.{SectionHeader, InterfaceDescription, EnhancedPacket, SimplePacket, Other}
@@ -20,10 +22,10 @@ use Rattle.cf_pcapng.specs.declared.interfaces.Interface.{Interface}
 use Rattle.cf_pcapng.specs.declared.content.Packet.{Packet}
 use Rattle.cf_pcapng.specs.declared.content.Content.{Content}
 use Rattle.cf_pcapng.specs.declared.content.Content.TheVariants.{NewSection, NewInterface, Captures, Nothing}
-use Rattle.cf_pcapng.specs.Blocks.{is_section, kind_of, order_at, least, is_within, is_total, total_at, sized, in_order, block_head, head_of, packet_of, enhanced_packet, enhanced_of, simple_packet, simple_of, stated, last_total, content_of, interface_at}
+use Rattle.cf_pcapng.specs.Blocks.{is_section, kind_of, order_at, least, is_within, is_total, total_at, sized, in_order, block_head, head_of, packet_of, enhanced_packet, enhanced_of, simple_packet, simple_of, stated, last_total, content_of, interface_at, interface_of}
 use Rattle.cf_pcapng.specs.File.{State, fault_of, frames_of, after, block_found, step}
-use Rattle.cf_pcapng.specs.Rules.{IsSectionType, IsType, BeginsAs, IsLawfulTotal, HasHead, BreaksRule1, BreaksRule2, BreaksRule3, HeadBreaks, IsLink, PacketBreaks, IsLawfulPacket, PacketOfBreaks, PacketOfStates, BlockBreaks, BlockStates, HasBlock, HasFlaw, IsBlock, StepsByRules}
-use Rattle.cf_pcapng.proofs.Heads.{head_section, head_block, section_long, block_long, head_short, section_short, block_short, at_least, at_most}
+use Rattle.cf_pcapng.specs.Rules.{IsSectionType, IsType, BeginsAs, IsLawfulTotal, HasHead, BreaksRule1, BreaksRule2, BreaksRule3, HeadBreaks, IsLink, PacketBreaks, IsLawfulPacket, PacketOfBreaks, PacketOfStates, IsFull, HasPlace, BlockBreaks, BlockStates, HasBlock, HasFlaw, IsBlock, StepsByRules}
+use Rattle.cf_pcapng.proofs.Heads.{below, not_below, head_section, head_block, section_long, block_long, head_short, section_short, block_short, at_least, at_most}
 use Rattle.cf_pcapng.proofs.Steps.{Shown, step_at, found_short, found_whole, length_front, wants_not_bad, wants_not_takes, bad_not_takes, taken_size, taken_items, taken_state}
 
 err_same : (a b : Flaw) → ◌≡◌ {A = Result Content Flaw} (Err a) (Err b) → a ≡ b
@@ -95,8 +97,9 @@ packet_broken links room packet BadLength h = packet_over links room packet h.0 
 packet_broken links room packet BadMagic h = absurd h
 packet_broken links room packet BadVersion h = absurd h
 packet_broken links room packet NoInterface h = absurd h
+packet_broken links room packet TooManyInterfaces h = absurd h
 
--- Rules 5 to 9.
+-- Rules 5 to 10.
 
 -- what a whole block comes to
 data BlockCase (found : Result Content Flaw) (Breaks : Flaw → Type 0) (States : Content → Type 0) : Type 0 where
@@ -125,25 +128,44 @@ simple_case links (Some interface) order block =
     by_packet links interface (length block - 16) (λ i. simple_packet i order block)
     (packet_case links (length block - 16) (simple_packet interface order block))
 
-section_true : (links : LinkSet) (interfaces : List Interface) (order : Order) (block : List ℕ) → number_in order 2 (drop 12 block) ≡ 1
-    → stated links interfaces order SectionHeader block ≡ Ok (NewSection order)
-section_true links interfaces order block h = let test : eqb (number_in order 2 (drop 12 block)) 1 ≡ true = eq-eqb (number_in order 2 (drop 12 block)) 1 h in
+section_true : (scope : Scope) (interfaces : List Interface) (order : Order) (block : List ℕ) → number_in order 2 (drop 12 block) ≡ 1
+    → stated scope interfaces order SectionHeader block ≡ Ok (NewSection order)
+section_true scope interfaces order block h = let test : eqb (number_in order 2 (drop 12 block)) 1 ≡ true = eq-eqb (number_in order 2 (drop 12 block)) 1 h in
     rw test refl
 
-section_false : (links : LinkSet) (interfaces : List Interface) (order : Order) (block : List ℕ) → (number_in order 2 (drop 12 block) ≡ 1 → ⊥)
-    → stated links interfaces order SectionHeader block ≡ Err BadVersion
-section_false links interfaces order block h = let test : eqb (number_in order 2 (drop 12 block)) 1 ≡ false = grind (arith, nat_tests) in rw test refl
+section_false : (scope : Scope) (interfaces : List Interface) (order : Order) (block : List ℕ) → (number_in order 2 (drop 12 block) ≡ 1 → ⊥)
+    → stated scope interfaces order SectionHeader block ≡ Err BadVersion
+section_false scope interfaces order block h = let test : eqb (number_in order 2 (drop 12 block)) 1 ≡ false = grind (arith, nat_tests) in rw test refl
 
-stated_case : (links : LinkSet) (interfaces : List Interface) (order : Order) (kind : BlockKind) (block : List ℕ)
-    → BlockCase (stated links interfaces order kind block) (BlockBreaks links interfaces order kind block) (BlockStates links interfaces order kind block)
-stated_case links interfaces order SectionHeader block = elim (cases_eq (number_in order 2 (drop 12 block)) 1) [
-  | inl one ↦ Stating (NewSection order) (section_true links interfaces order block one) (one, refl)
-  | inr other ↦ Breaking BadVersion (section_false links interfaces order block other) (refl, other)
+interface_placed : (l : Length) (interfaces : List Interface) (interface : Interface) → HasPlace l interfaces
+    → interface_of l interfaces interface ≡ Ok (NewInterface interface)
+interface_placed Limited interfaces interface h = refl
+interface_placed Any interfaces interface h = rw (below (length interfaces) 65536 h) refl
+
+interface_full : (l : Length) (interfaces : List Interface) (interface : Interface) → IsFull l interfaces
+    → interface_of l interfaces interface ≡ Err TooManyInterfaces
+interface_full Limited interfaces interface h = absurd h
+interface_full Any interfaces interface h = rw (not_below (length interfaces) 65536 h) refl
+
+interface_case : (l : Length) (interfaces : List Interface) (interface : Interface)
+    → BlockCase (interface_of l interfaces interface) (λ flaw. (flaw ≡ TooManyInterfaces) × IsFull l interfaces)
+    (λ content. HasPlace l interfaces × (content ≡ NewInterface interface))
+interface_case Limited interfaces interface = Stating (NewInterface interface) refl (tt, refl)
+interface_case Any interfaces interface = elim (cases_lt (length interfaces) 65536) [
+  | inl some ↦ Stating (NewInterface interface) (interface_placed Any interfaces interface some) (some, refl)
+  | inr full ↦ Breaking TooManyInterfaces (interface_full Any interfaces interface full) (refl, full)
 ]
-stated_case links interfaces order InterfaceDescription block = Stating (NewInterface (interface_at order block)) refl refl
-stated_case links interfaces order EnhancedPacket block = enhanced_case links (slice_get interfaces (number_in order 4 (drop 8 block))) order block
-stated_case links interfaces order SimplePacket block = simple_case links (slice_get interfaces 0) order block
-stated_case links interfaces order Other block = Stating Nothing refl refl
+
+stated_case : (scope : Scope) (interfaces : List Interface) (order : Order) (kind : BlockKind) (block : List ℕ)
+    → BlockCase (stated scope interfaces order kind block) (BlockBreaks scope interfaces order kind block) (BlockStates scope interfaces order kind block)
+stated_case scope interfaces order SectionHeader block = elim (cases_eq (number_in order 2 (drop 12 block)) 1) [
+  | inl one ↦ Stating (NewSection order) (section_true scope interfaces order block one) (one, refl)
+  | inr other ↦ Breaking BadVersion (section_false scope interfaces order block other) (refl, other)
+]
+stated_case scope interfaces order InterfaceDescription block = interface_case scope.length interfaces (interface_at order block)
+stated_case scope interfaces order EnhancedPacket block = enhanced_case scope.links (slice_get interfaces (number_in order 4 (drop 8 block))) order block
+stated_case scope interfaces order SimplePacket block = simple_case scope.links (slice_get interfaces 0) order block
+stated_case scope interfaces order Other block = Stating Nothing refl refl
 
 packet_of_broken : (links : LinkSet) (found : Option Interface) (room : ℕ) (packet : Interface → Packet) (flaw : Flaw) (result : Result Content Flaw)
     → ((is : found ≡ None) → result ≡ Err NoInterface) → ((i : Interface) → found ≡ Some i → result ≡ packet_of links room (packet i))
@@ -157,44 +179,46 @@ packet_of_lawful links None room packet content result some h = absurd h
 packet_of_lawful links (Some interface) room packet content result some h =
     some interface refl ∙ packet_fits links room (packet interface) h.0.link_is h.0.short h.0.fits ∙ ap (λ (c : Content). Ok c) (sym h.1)
 
-stated_broken : (links : LinkSet) (interfaces : List Interface) (order : Order) (kind : BlockKind) (block : List ℕ) (flaw : Flaw)
-    → BlockBreaks links interfaces order kind block flaw → stated links interfaces order kind block ≡ Err flaw
-stated_broken links interfaces order SectionHeader block flaw h = section_false links interfaces order block h.1 ∙ ap (λ (f : Flaw). Err f) (sym h.0)
-stated_broken links interfaces order InterfaceDescription block flaw h = absurd h
-stated_broken links interfaces order EnhancedPacket block flaw h =
-    packet_of_broken links (slice_get interfaces (number_in order 4 (drop 8 block))) (length block - 32) (λ i. enhanced_packet i order block) flaw
-    (stated links interfaces order EnhancedPacket block) (λ is. ap (λ (o : Option Interface). enhanced_of links o order block) is)
-    (λ i is. ap (λ (o : Option Interface). enhanced_of links o order block) is) h
-stated_broken links interfaces order SimplePacket block flaw h =
-    packet_of_broken links (slice_get interfaces 0) (length block - 16) (λ i. simple_packet i order block) flaw
-    (stated links interfaces order SimplePacket block) (λ is. ap (λ (o : Option Interface). simple_of links o order block) is)
-    (λ i is. ap (λ (o : Option Interface). simple_of links o order block) is) h
-stated_broken links interfaces order Other block flaw h = absurd h
+stated_broken : (scope : Scope) (interfaces : List Interface) (order : Order) (kind : BlockKind) (block : List ℕ) (flaw : Flaw)
+    → BlockBreaks scope interfaces order kind block flaw → stated scope interfaces order kind block ≡ Err flaw
+stated_broken scope interfaces order SectionHeader block flaw h = section_false scope interfaces order block h.1 ∙ ap (λ (f : Flaw). Err f) (sym h.0)
+stated_broken scope interfaces order InterfaceDescription block flaw h =
+    interface_full scope.length interfaces (interface_at order block) h.1 ∙ ap (λ (f : Flaw). Err f) (sym h.0)
+stated_broken scope interfaces order EnhancedPacket block flaw h =
+    packet_of_broken scope.links (slice_get interfaces (number_in order 4 (drop 8 block))) (length block - 32) (λ i. enhanced_packet i order block) flaw
+    (stated scope interfaces order EnhancedPacket block) (λ is. ap (λ (o : Option Interface). enhanced_of scope.links o order block) is)
+    (λ i is. ap (λ (o : Option Interface). enhanced_of scope.links o order block) is) h
+stated_broken scope interfaces order SimplePacket block flaw h =
+    packet_of_broken scope.links (slice_get interfaces 0) (length block - 16) (λ i. simple_packet i order block) flaw
+    (stated scope interfaces order SimplePacket block) (λ is. ap (λ (o : Option Interface). simple_of scope.links o order block) is)
+    (λ i is. ap (λ (o : Option Interface). simple_of scope.links o order block) is) h
+stated_broken scope interfaces order Other block flaw h = absurd h
 
-stated_lawful : (links : LinkSet) (interfaces : List Interface) (order : Order) (kind : BlockKind) (block : List ℕ) (content : Content)
-    → BlockStates links interfaces order kind block content → stated links interfaces order kind block ≡ Ok content
-stated_lawful links interfaces order SectionHeader block content h = section_true links interfaces order block h.0 ∙ ap (λ (c : Content). Ok c) (sym h.1)
-stated_lawful links interfaces order InterfaceDescription block content h = ap (λ (c : Content). Ok c) (sym h)
-stated_lawful links interfaces order EnhancedPacket block content h =
-    packet_of_lawful links (slice_get interfaces (number_in order 4 (drop 8 block))) (length block - 32) (λ i. enhanced_packet i order block) content
-    (stated links interfaces order EnhancedPacket block) (λ i is. ap (λ (o : Option Interface). enhanced_of links o order block) is) h
-stated_lawful links interfaces order SimplePacket block content h =
-    packet_of_lawful links (slice_get interfaces 0) (length block - 16) (λ i. simple_packet i order block) content
-    (stated links interfaces order SimplePacket block) (λ i is. ap (λ (o : Option Interface). simple_of links o order block) is) h
-stated_lawful links interfaces order Other block content h = ap (λ (c : Content). Ok c) (sym h)
+stated_lawful : (scope : Scope) (interfaces : List Interface) (order : Order) (kind : BlockKind) (block : List ℕ) (content : Content)
+    → BlockStates scope interfaces order kind block content → stated scope interfaces order kind block ≡ Ok content
+stated_lawful scope interfaces order SectionHeader block content h = section_true scope interfaces order block h.0 ∙ ap (λ (c : Content). Ok c) (sym h.1)
+stated_lawful scope interfaces order InterfaceDescription block content h =
+    interface_placed scope.length interfaces (interface_at order block) h.0 ∙ ap (λ (c : Content). Ok c) (sym h.1)
+stated_lawful scope interfaces order EnhancedPacket block content h =
+    packet_of_lawful scope.links (slice_get interfaces (number_in order 4 (drop 8 block))) (length block - 32) (λ i. enhanced_packet i order block) content
+    (stated scope interfaces order EnhancedPacket block) (λ i is. ap (λ (o : Option Interface). enhanced_of scope.links o order block) is) h
+stated_lawful scope interfaces order SimplePacket block content h =
+    packet_of_lawful scope.links (slice_get interfaces 0) (length block - 16) (λ i. simple_packet i order block) content
+    (stated scope interfaces order SimplePacket block) (λ i is. ap (λ (o : Option Interface). simple_of scope.links o order block) is) h
+stated_lawful scope interfaces order Other block content h = ap (λ (c : Content). Ok c) (sym h)
 
 -- Rule 4.
 
-closed : (links : LinkSet) (interfaces : List Interface) (order : Order) (kind : BlockKind) (block : List ℕ) → last_total order block ≡ length block
-    → content_of links interfaces order kind block ≡ stated links interfaces order kind block
+closed : (scope : Scope) (interfaces : List Interface) (order : Order) (kind : BlockKind) (block : List ℕ) → last_total order block ≡ length block
+    → content_of scope interfaces order kind block ≡ stated scope interfaces order kind block
 unfolding content_of
-closed links interfaces order kind block h = let same : eqb (last_total order block) (length block) ≡ true =
+closed scope interfaces order kind block h = let same : eqb (last_total order block) (length block) ≡ true =
     eq-eqb (last_total order block) (length block) h in rw same refl
 
-not_closed : (links : LinkSet) (interfaces : List Interface) (order : Order) (kind : BlockKind) (block : List ℕ) → (last_total order block ≡ length block → ⊥)
-    → content_of links interfaces order kind block ≡ Err BadLength
+not_closed : (scope : Scope) (interfaces : List Interface) (order : Order) (kind : BlockKind) (block : List ℕ) → (last_total order block ≡ length block → ⊥)
+    → content_of scope interfaces order kind block ≡ Err BadLength
 unfolding content_of
-not_closed links interfaces order kind block h = let other : eqb (last_total order block) (length block) ≡ false = grind (arith, nat_tests) in rw other refl
+not_closed scope interfaces order kind block h = let other : eqb (last_total order block) (length block) ≡ false = grind (arith, nat_tests) in rw other refl
 
 -- Rules 1 to 3.
 
@@ -306,6 +330,7 @@ head_flawed section bytes BadVersion h = absurd h
 head_flawed section bytes BadLink h = absurd h
 head_flawed section bytes FrameTooLong h = absurd h
 head_flawed section bytes NoInterface h = absurd h
+head_flawed section bytes TooManyInterfaces h = absurd h
 
 -- what a head comes to
 data HeadCase (section : Option Order) (bytes : List ℕ) : Type 0 where
@@ -365,12 +390,12 @@ head_case section bytes = elim (cases_lt (length bytes) 4) [
 -- what the bytes at the front come to
 data StepCase (scope : Scope) (s : State) (bytes : List ℕ) : Type 0 where
   Wanting : step scope s bytes ≡ Wants → StepCase scope s bytes
-  Flaws : (flaw : Flaw) → step scope s bytes ≡ Bad (fault_of s.count flaw) → HasFlaw scope.links s bytes flaw → StepCase scope s bytes
+  Flaws : (flaw : Flaw) → step scope s bytes ≡ Bad (fault_of s.count flaw) → HasFlaw scope s bytes flaw → StepCase scope s bytes
   Block : (n : ℕ) (content : Content) → step scope s bytes ≡ Takes n (frames_of s.count content (take n bytes)) (after scope.length s content)
       → IsBlock scope s bytes n (frames_of s.count content (take n bytes)) (after scope.length s content) → StepCase scope s bytes
 
 step_content : (scope : Scope) (s : State) (bytes : List ℕ) (order : Order) (kind : BlockKind) (total : ℕ) (found : Result Content Flaw)
-    → HasBlock s.order bytes order kind total → content_of scope.links s.interfaces order kind (take total bytes) ≡ found
+    → HasBlock s.order bytes order kind total → content_of scope s.interfaces order kind (take total bytes) ≡ found
     → step scope s bytes ≡ block_found scope.length s (take total bytes) found
 step_content scope s bytes order kind total found h is =
     step_at scope s bytes (Stands order kind total) (head_stands s.order bytes order kind total h.head)
@@ -379,35 +404,35 @@ step_content scope s bytes order kind total found h is =
 
 step_block : (scope : Scope) (s : State) (bytes : List ℕ) (order : Order) (kind : BlockKind) (total : ℕ) (content : Content)
     → HasBlock s.order bytes order kind total → last_total order (take total bytes) ≡ total
-    → BlockStates scope.links s.interfaces order kind (take total bytes) content
+    → BlockStates scope s.interfaces order kind (take total bytes) content
     → step scope s bytes ≡ Takes total (frames_of s.count content (take total bytes)) (after scope.length s content)
 step_block scope s bytes order kind total content h last states =
     let size : length (take total bytes) ≡ total = length_front total bytes h.whole in
     step_content scope s bytes order kind total (Ok content) h
-    (closed scope.links s.interfaces order kind (take total bytes) (last ∙ sym size)
-    ∙ stated_lawful scope.links s.interfaces order kind (take total bytes) content states)
+    (closed scope s.interfaces order kind (take total bytes) (last ∙ sym size)
+    ∙ stated_lawful scope s.interfaces order kind (take total bytes) content states)
     ∙ ap (λ n. Takes n (frames_of s.count content (take total bytes)) (after scope.length s content)) size
 
-step_flawed : (scope : Scope) (s : State) (bytes : List ℕ) (flaw : Flaw) → HasFlaw scope.links s bytes flaw → step scope s bytes ≡ Bad (fault_of s.count flaw)
+step_flawed : (scope : Scope) (s : State) (bytes : List ℕ) (flaw : Flaw) → HasFlaw scope s bytes flaw → step scope s bytes ≡ Bad (fault_of s.count flaw)
 step_flawed scope s bytes flaw (inl h) = step_at scope s bytes (Flawed flaw) (head_flawed s.order bytes flaw h)
 step_flawed scope s bytes flaw (inr (inl h)) =
     let it = h.1 in
     let size : length (take it.total bytes) ≡ it.total = length_front it.total bytes it.block.whole in
     step_content scope s bytes it.order it.kind it.total (Err BadLength) it.block
-    (not_closed scope.links s.interfaces it.order it.kind (take it.total bytes) (λ e. it.last (e ∙ size)))
+    (not_closed scope s.interfaces it.order it.kind (take it.total bytes) (λ e. it.last (e ∙ size)))
     ∙ ap (λ (f : Flaw). Bad (fault_of s.count f)) (sym h.0)
 step_flawed scope s bytes flaw (inr (inr it)) =
     let size : length (take it.total bytes) ≡ it.total = length_front it.total bytes it.block.whole in
     step_content scope s bytes it.order it.kind it.total (Err flaw) it.block
-    (closed scope.links s.interfaces it.order it.kind (take it.total bytes) (it.last ∙ sym size)
-    ∙ stated_broken scope.links s.interfaces it.order it.kind (take it.total bytes) flaw it.breaks)
+    (closed scope s.interfaces it.order it.kind (take it.total bytes) (it.last ∙ sym size)
+    ∙ stated_broken scope s.interfaces it.order it.kind (take it.total bytes) flaw it.breaks)
 
 by_content : (scope : Scope) (s : State) (bytes : List ℕ) (order : Order) (kind : BlockKind) (total : ℕ) → HasBlock s.order bytes order kind total
     → last_total order (take total bytes) ≡ total
-    → BlockCase (stated scope.links s.interfaces order kind (take total bytes)) (BlockBreaks scope.links s.interfaces order kind (take total bytes))
-    (BlockStates scope.links s.interfaces order kind (take total bytes)) → StepCase scope s bytes
+    → BlockCase (stated scope s.interfaces order kind (take total bytes)) (BlockBreaks scope s.interfaces order kind (take total bytes))
+    (BlockStates scope s.interfaces order kind (take total bytes)) → StepCase scope s bytes
 by_content scope s bytes order kind total block last (Breaking flaw is h) =
-    let breaks : HasFlaw scope.links s bytes flaw = inr (inr (record { order = order; kind = kind; total = total; block = block; last = last; breaks = h })) in
+    let breaks : HasFlaw scope s bytes flaw = inr (inr (record { order = order; kind = kind; total = total; block = block; last = last; breaks = h })) in
     Flaws flaw (step_flawed scope s bytes flaw breaks) breaks
 by_content scope s bytes order kind total block last (Stating content is h) =
     Block total content (step_block scope s bytes order kind total content block last h)
@@ -416,9 +441,9 @@ by_content scope s bytes order kind total block last (Stating content is h) =
 by_block : (scope : Scope) (s : State) (bytes : List ℕ) (order : Order) (kind : BlockKind) (total : ℕ) → HasBlock s.order bytes order kind total
     → StepCase scope s bytes
 by_block scope s bytes order kind total block = elim (cases_eq (last_total order (take total bytes)) total) [
-  | inl last ↦ by_content scope s bytes order kind total block last (stated_case scope.links s.interfaces order kind (take total bytes))
+  | inl last ↦ by_content scope s bytes order kind total block last (stated_case scope s.interfaces order kind (take total bytes))
   | inr other ↦
-      let breaks : HasFlaw scope.links s bytes BadLength =
+      let breaks : HasFlaw scope s bytes BadLength =
       inr (inl (refl, record { order = order; kind = kind; total = total; block = block; last = other })) in
       Flaws BadLength (step_flawed scope s bytes BadLength breaks) breaks
 ]
@@ -435,7 +460,7 @@ bad_same : (a b : NgFault) → ◌≡◌ {A = Shown} (Bad a) (Bad b) → a ≡ b
 bad_same a b h = cc
 
 bad_by_rules : (scope : Scope) (s : State) (bytes : List ℕ) (fault : NgFault) → step scope s bytes ≡ Bad fault → StepCase scope s bytes → (flaw : Flaw)
-    × (fault ≡ fault_of s.count flaw) × HasFlaw scope.links s bytes flaw
+    × (fault ≡ fault_of s.count flaw) × HasFlaw scope s bytes flaw
 bad_by_rules scope s bytes fault h (Wanting is) = absurd (wants_not_bad fault (sym is ∙ h))
 bad_by_rules scope s bytes fault h (Flaws flaw is breaks) = (flaw, bad_same fault (fault_of s.count flaw) (sym h ∙ is), breaks)
 bad_by_rules scope s bytes fault h (Block n content is block) =

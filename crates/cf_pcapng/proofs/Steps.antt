@@ -75,7 +75,7 @@ pub record Taken (scope : Scope) (s : State) (bytes : List ℕ) (n : ℕ) (items
   pub stands : Standing s.order bytes order kind n
   pub whole : n ≤ length bytes
   pub content : Content
-  pub states : content_of scope.links s.interfaces order kind (take n bytes) ≡ Ok content
+  pub states : content_of scope s.interfaces order kind (take n bytes) ≡ Ok content
   pub items_are : items ≡ frames_of s.count content (take n bytes)
   pub after_is : t ≡ after scope.length s content
 
@@ -93,7 +93,7 @@ length_front n bytes h = omega (arith, h, length-take n bytes)
 
 taken_of_content : (scope : Scope) (s : State) (bytes : List ℕ) (order : Order) (kind : BlockKind) (total n : ℕ) (items : List FrameValue) (t : State)
     → Standing s.order bytes order kind total → total ≤ length bytes → (found : Result Content Flaw)
-    → content_of scope.links s.interfaces order kind (take total bytes) ≡ found → block_found scope.length s (take total bytes) found ≡ Takes n items t
+    → content_of scope s.interfaces order kind (take total bytes) ≡ found → block_found scope.length s (take total bytes) found ≡ Takes n items t
     → Taken scope s bytes n items t
 taken_of_content scope s bytes order kind total n items t stands whole (Err flaw) is h = absurd (bad_not_takes (fault_of s.count flaw) n items t h)
 taken_of_content scope s bytes order kind total n items t stands whole (Ok content) is h =
@@ -105,7 +105,7 @@ taken_of_content scope s bytes order kind total n items t stands whole (Ok conte
       stands = subst (λ (m : ℕ). Standing s.order bytes order kind m) total_is stands;
       whole = subst (λ (m : ℕ). m ≤ length bytes) total_is whole;
       content = content;
-      states = subst (λ (m : ℕ). content_of scope.links s.interfaces order kind (take m bytes) ≡ Ok content) total_is is;
+      states = subst (λ (m : ℕ). content_of scope s.interfaces order kind (take m bytes) ≡ Ok content) total_is is;
       items_are = sym (taken_items (length block) n (frames_of s.count content block) items (after scope.length s content) t h)
           ∙ ap (λ m. frames_of s.count content (take m bytes)) total_is;
       after_is = sym (taken_state (length block) n (frames_of s.count content block) items (after scope.length s content) t h);
@@ -117,7 +117,7 @@ found_short scope s bytes order kind total h = rw (below (length bytes) total h)
 
 pub found_whole : (scope : Scope) (s : State) (bytes : List ℕ) (order : Order) (kind : BlockKind) (total : ℕ) → total ≤ length bytes
     → found_at scope s bytes (Stands order kind total) ≡ block_found scope.length s (take total bytes)
-    (content_of scope.links s.interfaces order kind (take total bytes))
+    (content_of scope s.interfaces order kind (take total bytes))
 found_whole scope s bytes order kind total h = rw (not_below (length bytes) total h) refl
 
 taken_at : (scope : Scope) (s : State) (bytes : List ℕ) (n : ℕ) (items : List FrameValue) (t : State) (head : BlockHead) → head_of s.order bytes ≡ head
@@ -127,7 +127,7 @@ taken_at scope s bytes n items t (Flawed flaw) is h = absurd (bad_not_takes (fau
 taken_at scope s bytes n items t (Stands order kind total) is h = elim (cases_lt (length bytes) total) [
   | inl short ↦ absurd (wants_not_takes n items t (sym (found_short scope s bytes order kind total short) ∙ h))
   | inr whole ↦ taken_of_content scope s bytes order kind total n items t (standing s.order bytes order kind total is) whole
-      (content_of scope.links s.interfaces order kind (take total bytes)) refl (sym (found_whole scope s bytes order kind total whole) ∙ h)
+      (content_of scope s.interfaces order kind (take total bytes)) refl (sym (found_whole scope s bytes order kind total whole) ∙ h)
 ]
 
 pub taken : (scope : Scope) (s : State) (bytes : List ℕ) (n : ℕ) (items : List FrameValue) (t : State) → step scope s bytes ≡ Takes n items t
@@ -156,7 +156,7 @@ taken_least scope s bytes n items t it =
 -- A block that gives a frame has 16 bytes at least.
 
 content_least : (scope : Scope) (interfaces : List Interface) (order : Order) (kind : BlockKind) (block : List ℕ) (k : ℕ) (content : Content)
-    → stated scope.links interfaces order kind block ≡ Ok content → 16 * length (frames_of k content block) ≤ least kind
+    → stated scope interfaces order kind block ≡ Ok content → 16 * length (frames_of k content block) ≤ least kind
 content_least scope interfaces order SectionHeader block k content h = let few = frames_few k content block in omega (arith, few)
 content_least scope interfaces order InterfaceDescription block k content h = let few = frames_few k content block in omega (arith, few)
 content_least scope interfaces order EnhancedPacket block k content h = let few = frames_few k content block in omega (arith, few)
@@ -164,7 +164,7 @@ content_least scope interfaces order SimplePacket block k content h = let few = 
 content_least scope interfaces order Other block k content h = let is : content ≡ Nothing = cc h in rw is (omega arith)
 
 content_stated : (scope : Scope) (interfaces : List Interface) (order : Order) (kind : BlockKind) (block : List ℕ) (content : Content)
-    → content_of scope.links interfaces order kind block ≡ Ok content → stated scope.links interfaces order kind block ≡ Ok content
+    → content_of scope interfaces order kind block ≡ Ok content → stated scope interfaces order kind block ≡ Ok content
 unfolding content_of
 content_stated scope interfaces order kind block content h = elim (cases_Bool (last_total order block == length block)) [
   | inl same ↦ sym (rw same refl) ∙ h
@@ -187,7 +187,7 @@ taken_total : (scope : Scope) (s : State) (bytes : List ℕ) (order : Order) (ki
     → found_at scope s bytes (Stands order kind total) ≡ Takes n items t → total ≡ n
 taken_total scope s bytes order kind total n items t h = elim (cases_lt (length bytes) total) [
   | inl short ↦ absurd (wants_not_takes n items t (sym (found_short scope s bytes order kind total short) ∙ h))
-  | inr whole ↦ by_content whole (content_of scope.links s.interfaces order kind (take total bytes))
+  | inr whole ↦ by_content whole (content_of scope s.interfaces order kind (take total bytes))
       (sym (found_whole scope s bytes order kind total whole) ∙ h)
 ] where
   by_content : total ≤ length bytes → (found : Result Content Flaw) → block_found scope.length s (take total bytes) found ≡ Takes n items t → total ≡ n
@@ -215,7 +215,7 @@ late_at scope s bytes more n items t (Stands order kind total) is wants takes wh
       let one : total ≡ n =
       taken_total scope s (bytes ++ more) order kind total n items t (sym (step_at scope s (bytes ++ more) (Stands order kind total) same) ∙ takes) in
       omega (arith, short, whole, one)
-  | inr long ↦ block_not_wants scope s (take total bytes) (content_of scope.links s.interfaces order kind (take total bytes))
+  | inr long ↦ block_not_wants scope s (take total bytes) (content_of scope s.interfaces order kind (take total bytes))
       (sym (found_whole scope s bytes order kind total long) ∙ (sym (step_at scope s bytes (Stands order kind total) is) ∙ wants))
 ] where
   short_not_stands : (order : Order) (kind : BlockKind) (total : ℕ) → Short ≡ Stands order kind total → ⊥

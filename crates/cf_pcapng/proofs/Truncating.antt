@@ -10,7 +10,7 @@ use Rattle.cf_pcap.proofs.ByKind.{IsJudgedBy}
 use Rattle.cf_pcap.proofs.ByKind as kinds
 use Rattle.cf_pcap.proofs.Wholes.{EndsIn, MayEnd, begun_or_not}
 use Rattle.cf_pcapng.specs.declared.fault.Flaw.{Flaw}
-use Rattle.cf_pcapng.specs.declared.fault.Flaw.TheVariants.{BadMagic, BadVersion, BadLink, FrameTooLong, BadLength, NoInterface}
+use Rattle.cf_pcapng.specs.declared.fault.Flaw.TheVariants.{BadMagic, BadVersion, BadLink, FrameTooLong, BadLength, NoInterface, TooManyInterfaces}
 use Rattle.cf_pcapng.specs.declared.fault.NgFault.{NgFault}
 use Rattle.cf_pcapng.specs.declared.fault.NgFault.TheVariants.{Cut, TooManyBytes}
 use Rattle.cf_pcapng.specs.declared.head.BlockKind.{BlockKind}
@@ -36,8 +36,8 @@ block_some : (scope : Scope) (s : State) (bytes : List ℕ) (n : ℕ) (frames : 
     → is_some t.order ≡ true
 block_some scope s bytes n frames t h = ap (λ (x : State). is_some x.order) h.after_is ∙ elim h.block.head.begins [
   | inl section ↦
-      let states : BlockStates scope.links s.interfaces h.order SectionHeader (take n bytes) h.content =
-      subst (λ (k : BlockKind). BlockStates scope.links s.interfaces h.order k (take n bytes) h.content) section.0 h.states in
+      let states : BlockStates scope s.interfaces h.order SectionHeader (take n bytes) h.content =
+      subst (λ (k : BlockKind). BlockStates scope s.interfaces h.order k (take n bytes) h.content) section.0 h.states in
       ap (λ (c : Content). is_some (after scope.length s c).order) states.1
   | inr other ↦ after_some scope.length s h.content (ap (λ (x : Option Order). is_some x) other.within)
 ]
@@ -53,6 +53,7 @@ not_flaw k n BadLink h = cc
 not_flaw k n FrameTooLong h = cc
 not_flaw k n BadLength h = cc
 not_flaw k n NoInterface h = cc
+not_flaw k n TooManyInterfaces h = cc
 
 pub not_found : (scope : Scope) (file : List ℕ) (k : ℕ) → IsFound (pcapng scope) file (Cut k) → ⊥
 not_found scope file k (inl shows) =

@@ -4,12 +4,15 @@ use Rattle.std.specs.Prelude.{ℕ, zero, suc, ◌+◌, ◌-◌, ◌*◌, ◌/◌
 use Rattle.std.specs.Prelude.{List, length, drop, slice_range, slice_index, slice_get, Option, Some, None, Result, Ok, Err}
 use Rattle.byteorder.specs.Endian.{little_number, big_number}
 use Rattle.cf_pcap.specs.declared.links.LinkSet.{LinkSet}
+use Rattle.cf_pcap.specs.declared.limit.Length.{Length}
+use Rattle.cf_pcap.specs.declared.limit.Length.TheVariants.{Limited, Any}
+use Rattle.cf_pcap.specs.declared.scope.Scope.{Scope}
 use Rattle.cf_pcap.specs.declared.form.Order.{Order}
 use Rattle.cf_pcap.specs.declared.form.Order.TheVariants.{Little, Big}
 use Rattle.cf_pcap.specs.Capture.{number_in}
 use Rattle.cf_pcap.specs.Links.{is_link, longest}
 use Rattle.cf_pcapng.specs.declared.fault.Flaw.{Flaw}
-use Rattle.cf_pcapng.specs.declared.fault.Flaw.TheVariants.{BadMagic, BadVersion, BadLink, FrameTooLong, BadLength, NoInterface}
+use Rattle.cf_pcapng.specs.declared.fault.Flaw.TheVariants.{BadMagic, BadVersion, BadLink, FrameTooLong, BadLength, NoInterface, TooManyInterfaces}
 use Rattle.cf_pcapng.specs.declared.head.BlockKind.{BlockKind}
 use Rattle.cf_pcapng.specs.declared.head.BlockKind.TheVariants.{SectionHeader, InterfaceDescription, EnhancedPacket, SimplePacket, Other}
 use Rattle.cf_pcapng.specs.declared.head.BlockHead.{BlockHead}
@@ -138,6 +141,15 @@ interface_at order block = record {
   resolution = resolution_of order (slice_range block 16 (length block - 4));
 }
 
+-- one more interface has a place in a section: in a stream of any length, whose reader keeps them, a section has 65,536 at most
+abbrev pub has_place : Length → List Interface → Bool
+has_place Limited interfaces = true
+has_place Any interfaces = nat_lt (length interfaces) 65536
+
+-- rule 10, of an interface description
+abbrev pub interface_of : Length → List Interface → Interface → Result Content Flaw
+interface_of limit interfaces interface = if has_place limit interfaces then Ok (NewInterface interface) else Err TooManyInterfaces
+
 -- rules 7 to 9, of a packet in a block with room for so many bytes
 unfoldable pub packet_of : LinkSet → ℕ → Packet → Result Content Flaw
 packet_of links room packet =
@@ -184,18 +196,18 @@ abbrev pub simple_of : LinkSet → Option Interface → Order → List ℕ → R
 simple_of links None order block = Err NoInterface
 simple_of links (Some interface) order block = packet_of links (length block - 16) (simple_packet interface order block)
 
--- rules 5 to 9, by the kind of block, in a section with these interfaces
-abbrev pub stated : LinkSet → List Interface → Order → BlockKind → List ℕ → Result Content Flaw
-stated links interfaces order SectionHeader block = if number_in order 2 (drop 12 block) == 1 then Ok (NewSection order) else Err BadVersion
-stated links interfaces order InterfaceDescription block = Ok (NewInterface (interface_at order block))
-stated links interfaces order EnhancedPacket block = enhanced_of links (slice_get interfaces (number_in order 4 (drop 8 block))) order block
-stated links interfaces order SimplePacket block = simple_of links (slice_get interfaces 0) order block
-stated links interfaces order Other block = Ok Nothing
+-- rules 5 to 10, by the kind of block, in a section with these interfaces
+abbrev pub stated : Scope → List Interface → Order → BlockKind → List ℕ → Result Content Flaw
+stated scope interfaces order SectionHeader block = if number_in order 2 (drop 12 block) == 1 then Ok (NewSection order) else Err BadVersion
+stated scope interfaces order InterfaceDescription block = interface_of scope.length interfaces (interface_at order block)
+stated scope interfaces order EnhancedPacket block = enhanced_of scope.links (slice_get interfaces (number_in order 4 (drop 8 block))) order block
+stated scope interfaces order SimplePacket block = simple_of scope.links (slice_get interfaces 0) order block
+stated scope interfaces order Other block = Ok Nothing
 
 -- the total length that the last field states
 abbrev pub last_total : Order → List ℕ → ℕ
 last_total order block = number_in order 4 (drop (length block - 4) block)
 
--- rules 4 to 9: what a whole block states, or the first rule that it breaks
-unfoldable pub content_of : LinkSet → List Interface → Order → BlockKind → List ℕ → Result Content Flaw
-content_of links interfaces order kind block = if last_total order block == length block then stated links interfaces order kind block else Err BadLength
+-- rules 4 to 10: what a whole block states, or the first rule that it breaks
+unfoldable pub content_of : Scope → List Interface → Order → BlockKind → List ℕ → Result Content Flaw
+content_of scope interfaces order kind block = if last_total order block == length block then stated scope interfaces order kind block else Err BadLength

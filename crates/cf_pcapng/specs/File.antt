@@ -7,7 +7,7 @@ use Rattle.cf_pcap.specs.declared.limit.Length.{Length}
 use Rattle.cf_pcap.specs.Limits.{count_on}
 use Rattle.cf_pcap.specs.Format.{Found, Wants, Bad, Takes, Format, IsWhole, HasFault}
 use Rattle.cf_pcapng.specs.declared.fault.Flaw.{Flaw}
-use Rattle.cf_pcapng.specs.declared.fault.Flaw.TheVariants.{BadMagic, BadVersion, BadLink, FrameTooLong, BadLength, NoInterface}
+use Rattle.cf_pcapng.specs.declared.fault.Flaw.TheVariants.{BadMagic, BadVersion, BadLink, FrameTooLong, BadLength, NoInterface, TooManyInterfaces}
 use Rattle.cf_pcapng.specs.declared.fault.NgFault.{NgFault}
 use Rattle.cf_pcapng.specs.declared.fault.NgFault.TheVariants as faults
 use Rattle.cf_pcapng.specs.declared.head.BlockHead.{BlockHead}
@@ -32,6 +32,7 @@ fault_of k BadLink = faults.BadLink k
 fault_of k FrameTooLong = faults.FrameTooLong k
 fault_of k BadLength = faults.BadLength k
 fault_of k NoInterface = faults.NoInterface k
+fault_of k TooManyInterfaces = faults.TooManyInterfaces k
 
 -- the frames that a block gives, as number k
 abbrev pub frames_of : ℕ → Content → List ℕ → List FrameValue
@@ -65,7 +66,7 @@ found_at scope s bytes Short = Wants
 found_at scope s bytes (Flawed flaw) = Bad (fault_of s.count flaw)
 found_at scope s bytes (Stands order kind total) =
     if nat_lt (length bytes) total then Wants
-    else block_found scope.length s (take total bytes) (content_of scope.links s.interfaces order kind (take total bytes))
+    else block_found scope.length s (take total bytes) (content_of scope s.interfaces order kind (take total bytes))
 
 -- what the bytes at the front show in a state: no whole block yet, a fault, or a block with its frames and the state after it
 unfoldable pub step : Scope → State → List ℕ → Found State FrameValue NgFault

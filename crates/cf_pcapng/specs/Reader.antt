@@ -1,5 +1,5 @@
 -- What a reader's state says of the stream that led to it.
-use Rattle.std.specs.Prelude.{◌≡◌, ℕ, ◌+◌, ◌<◌, ◌^◌, List, [], ◌∷◌, ◌++◌, length, Option, Some, None, Result}
+use Rattle.std.specs.Prelude.{◌≡◌, ℕ, ◌+◌, ◌<◌, ◌^◌, Bool, true, false, List, [], ◌∷◌, ◌++◌, length, Option, Some, None, Result}
 use Rattle.cf_pcap.specs.declared.scope.Scope.{Scope}
 use Rattle.cf_pcap.specs.Capture.{FrameValue}
 use Rattle.cf_pcap.specs.Limits.{IsShort, IsTotal}
@@ -18,7 +18,7 @@ use Rattle.cf_pcapng.specs.declared.position.Reached.{Reached}
 use Rattle.cf_pcapng.specs.declared.reader.Called.{Called}
 use Rattle.cf_pcapng.specs.File.{State, fault_of, pcapng}
 use Rattle.cf_pcapng.specs.Position.{listed}
-use Rattle.cf_pcapng.specs.Reading.{WasPassed, AreReadOn, KeepsLastField, FitsIn}
+use Rattle.cf_pcapng.specs.Reading.{WasPassed, AreReadOn, KeepsLastField, FitsIn, AreFew}
 
 -- a reader as contracts see it: the scope that it reads, how far it is, how many bytes it has had, and what it has of the block at hand
 pub record PcapNgValue : Type 0 where
@@ -58,9 +58,9 @@ IsSoundAt stage reader = stages.IsSoundAt Memory reader.held stage
     (IsShort reader.scope.length reader.total
     × FitsIn reader.scope.length (reader.state.count + length reader.held) reader.total × (length reader.held < 2 ^ 20) × KeepsLastField reader.passed)
 
--- what holds of every reader, whatever its stage
+-- what holds of every reader, whatever its stage: that, and its section has few interfaces
 abbrev pub IsSound : PcapNgValue → Type 0
-IsSound reader = IsSoundAt reader.stage reader
+IsSound reader = IsSoundAt reader.stage reader × AreFew reader.scope.length reader.state.interfaces
 
 -- the state that a piece brings a reader to, which had these interfaces
 abbrev pub state_after : List Interface → Reached → State
@@ -81,6 +81,11 @@ reader_after before called = record {
 abbrev pub IsCalled : PcapNgValue → List ℕ → List FrameValue → PcapNgValue → Type 0
 IsCalled before piece given reader =
     IsSound reader × ((stream : List ℕ) → IsRunning before stream → IsFed stream piece given (answer_at reader.stage) reader)
+
+-- a piece within a block that is read was kept, or, where it doesn't lie so, nothing was done
+abbrev pub IsKept : Bool → PcapNgValue → List ℕ → PcapNgValue → Type 0
+IsKept true before piece after = IsCalled before piece [] after × (after.stage ≡ Running) × (after.scope ≡ before.scope)
+IsKept false before piece after = after ≡ before
 
 -- what one more byte shows that comes too late for a frame: a flaw, or that there are too many bytes
 abbrev pub ShowsLate : Option Flaw → State → NgFault → Type 0

@@ -1,6 +1,5 @@
 -- What the parts of a reader do.
 use Rattle.std.specs.Prelude.{◌≡◌, ℕ, ◌+◌, ◌-◌, ◌≤◌, ◌<◌, ◌^◌, nat_lt, if◌then◌else◌, List, [], ◌∷◌, ◌++◌, length, take, drop, Option, Some, None, Result, Ok, Err}
-use Rattle.cf_pcap.specs.declared.links.LinkSet.{LinkSet}
 use Rattle.cf_pcap.specs.declared.scope.Scope.{Scope}
 use Rattle.cf_pcap.specs.declared.limit.Length.{Length}
 use Rattle.cf_pcap.specs.declared.limit.Length.TheVariants.{Limited, Any}
@@ -9,6 +8,7 @@ use Rattle.cf_pcap.specs.declared.form.Order.{Order}
 use Rattle.cf_pcap.specs.Capture.{FrameValue, number_in}
 use Rattle.cf_pcap.specs.Format.{Wants, Bad, ReadsTo}
 use Rattle.cf_pcapng.specs.declared.fault.Flaw.{Flaw}
+use Rattle.cf_pcapng.specs.declared.head.BlockKind.{BlockKind}
 use Rattle.cf_pcapng.specs.declared.head.BlockKind.TheVariants.{SectionHeader, InterfaceDescription, EnhancedPacket, SimplePacket, Other}
 use Rattle.cf_pcapng.specs.declared.head.BlockHead.{BlockHead}
 use Rattle.cf_pcapng.specs.declared.head.BlockHead.TheVariants.{Short, Flawed, Stands}
@@ -39,15 +39,15 @@ block_next total (Ok content) = next.Block total content
 block_next total (Err flaw) = next.Flawed flaw
 
 -- what stands at the front, by its head, in a section with these interfaces: no whole block yet, a flaw or a block
-abbrev pub next_at : LinkSet → List Interface → List ℕ → BlockHead → Next
-next_at links interfaces bytes Short = next.Wants
-next_at links interfaces bytes (Flawed flaw) = next.Flawed flaw
-next_at links interfaces bytes (Stands order kind total) =
-    if nat_lt (length bytes) total then next.Wants else block_next total (content_of links interfaces order kind (take total bytes))
+abbrev pub next_at : Scope → List Interface → List ℕ → BlockHead → Next
+next_at scope interfaces bytes Short = next.Wants
+next_at scope interfaces bytes (Flawed flaw) = next.Flawed flaw
+next_at scope interfaces bytes (Stands order kind total) =
+    if nat_lt (length bytes) total then next.Wants else block_next total (content_of scope interfaces order kind (take total bytes))
 
 -- what stands at the front in a state: no whole block yet, a flaw, or a block with its total length and what it states
-unfoldable pub next_of : LinkSet → State → List ℕ → Next
-next_of links s bytes = next_at links s.interfaces bytes (head_of s.order bytes)
+unfoldable pub next_of : Scope → State → List ℕ → Next
+next_of scope s bytes = next_at scope s.interfaces bytes (head_of s.order bytes)
 
 -- a block at the front has so many bytes, and a packet's bytes lie in it
 abbrev pub IsNextIn : ℕ → Next → Type 0
@@ -146,20 +146,27 @@ early_bytes length total piece = first_of length (2 ^ 32 - 1 - total) piece
 abbrev pub late_bytes : Length → ℕ → List ℕ → List ℕ
 late_bytes length total piece = others_of length (2 ^ 32 - 1 - total) piece
 
--- what a reader has after `size` more bytes is no more than it had before and these
+-- a section has few interfaces: 65,536 at most, where any number of bytes may come
+abbrev pub AreFew : Length → List Interface → Type 0
+AreFew Limited interfaces = Unit {0}
+AreFew Any interfaces = length interfaces ≤ 65536
+
+-- what a reader has after `size` more bytes is no more than it had before and these, and few interfaces
 pub record IsSoundOn (l : Length) (s : State) (size : ℕ) (t : State) (passed : Option Passed) (held : List ℕ) : Type 0 where
   pub fits : FitsIn l (t.count + length held) (s.count + size)
   pub room : KeepsLastField passed
   pub few : length held < 2 ^ 20
+  pub interfaces : AreFew l t.interfaces
 
--- after `size` more bytes with no flaw (None) a reader has no more than it had and these; after a flaw nothing is said
+-- after `size` more bytes with no flaw (None) a reader has no more than it had and these; after a flaw it has few interfaces
 abbrev pub IsGoneOn : Length → State → ℕ → State → Option Passed → List ℕ → Option Flaw → Type 0
 IsGoneOn l s size t passed held None = IsSoundOn l s size t passed held
-IsGoneOn l s size t passed held (Some flaw) = Unit {0}
+IsGoneOn l s size t passed held (Some flaw) = AreFew l t.interfaces
 
 -- so many more bytes may be read on, after a reader came so far
 abbrev pub MayReadOn : Length → State → Option Passed → List ℕ → Option Flaw → ℕ → Type 0
-MayReadOn l t passed held None size = KeepsLastField passed × (length held < 2 ^ 20) × HasRoom l (t.count + (length held + size))
+MayReadOn l t passed held None size =
+    KeepsLastField passed × (length held < 2 ^ 20) × HasRoom l (t.count + (length held + size)) × AreFew l t.interfaces
 MayReadOn l t passed held (Some flaw) size = Unit {0}
 
 -- how long a block is, as far as its head shows: 12 bytes at least. One that is passed over is let go as soon as its head stands.
@@ -179,9 +186,19 @@ missing_of section passed [] more = 0
 missing_of section (Some block) (byte ∷ held) more = 4 - length (byte ∷ held)
 missing_of section None (byte ∷ held) more = size_by (head_of section (take 12 ((byte ∷ held) ++ more))) - length (byte ∷ held)
 
+-- a block that is read begins with the held bytes, of which none were let go, and isn't whole with those that come either
+pub record StaysWithin (section : Option Order) (passed : Option Passed) (held more : List ℕ) : Type 0 where
+  pub none : passed ≡ None
+  pub order : Order
+  pub kind : BlockKind
+  pub total : ℕ
+  pub head : head_of section held ≡ Stands order kind total
+  pub read : kind ≡ Other → ⊥
+  pub short : length held + length more < total
+
 -- one more byte may come
 abbrev pub MayGoOn : Length → State → Option Passed → List ℕ → Option Flaw → Type 0
-MayGoOn l t passed held None = KeepsLastField passed × HasRoom l (t.count + length held + 1)
+MayGoOn l t passed held None = KeepsLastField passed × HasRoom l (t.count + length held + 1) × AreFew l t.interfaces
 MayGoOn l t passed held (Some flaw) = Unit {0}
 
 -- of these bytes, from a state, that was read

@@ -2,6 +2,8 @@
 use Rattle.std.specs.Prelude.{◌≡◌, ◌⊎◌, ℕ, ◌-◌, ◌%◌, ◌^◌, ◌<◌, ◌≤◌, true, false, List, [], ◌∷◌, length, take, drop, slice_get, Option, Some, None, is_some}
 use Rattle.byteorder.specs.Endian.{little_number}
 use Rattle.cf_pcap.specs.declared.links.LinkSet.{LinkSet}
+use Rattle.cf_pcap.specs.declared.limit.Length.{Length}
+use Rattle.cf_pcap.specs.declared.limit.Length.TheVariants.{Limited, Any}
 use Rattle.cf_pcap.specs.declared.scope.Scope.{Scope}
 use Rattle.cf_pcap.specs.Limits.{IsShort, IsLong, number_of}
 use Rattle.cf_pcap.specs.declared.form.Order.{Order}
@@ -10,7 +12,7 @@ use Rattle.cf_pcap.specs.Kinds as kinds
 use Rattle.cf_pcap.specs.Links.{is_link, longest}
 use Rattle.cf_pcap.specs.Format.{Bad, Takes, Part, items_of, seen}
 use Rattle.cf_pcapng.specs.declared.fault.Flaw.{Flaw}
-use Rattle.cf_pcapng.specs.declared.fault.Flaw.TheVariants.{BadMagic, BadVersion, BadLink, FrameTooLong, BadLength, NoInterface}
+use Rattle.cf_pcapng.specs.declared.fault.Flaw.TheVariants.{BadMagic, BadVersion, BadLink, FrameTooLong, BadLength, NoInterface, TooManyInterfaces}
 use Rattle.cf_pcapng.specs.declared.fault.NgFault.{NgFault}
 use Rattle.cf_pcapng.specs.declared.fault.NgFault.TheVariants as faults
 use Rattle.cf_pcapng.specs.declared.head.BlockKind.{BlockKind}
@@ -90,6 +92,7 @@ HeadBreaks section bytes BadVersion = ⊥
 HeadBreaks section bytes BadLink = ⊥
 HeadBreaks section bytes FrameTooLong = ⊥
 HeadBreaks section bytes NoInterface = ⊥
+HeadBreaks section bytes TooManyInterfaces = ⊥
 
 -- one of the links that are read
 abbrev pub IsLink : LinkSet → ℕ → Type 0
@@ -103,6 +106,7 @@ PacketBreaks links room packet BadLength = IsLink links packet.link × (packet.c
 PacketBreaks links room packet BadMagic = ⊥
 PacketBreaks links room packet BadVersion = ⊥
 PacketBreaks links room packet NoInterface = ⊥
+PacketBreaks links room packet TooManyInterfaces = ⊥
 
 -- a packet that breaks none of rules 7 to 9, in a block with room for so many bytes
 pub record IsLawfulPacket (links : LinkSet) (room : ℕ) (packet : Packet) : Type 0 where
@@ -120,25 +124,35 @@ abbrev pub PacketOfStates : LinkSet → Option Interface → ℕ → (Interface 
 PacketOfStates links None room packet content = ⊥
 PacketOfStates links (Some interface) room packet content = IsLawfulPacket links room (packet interface) × (content ≡ Captures (packet interface))
 
--- rules 5 to 9, of a whole block in a section with these interfaces
-abbrev pub BlockBreaks : LinkSet → List Interface → Order → BlockKind → List ℕ → Flaw → Type 0
-BlockBreaks links interfaces order SectionHeader block flaw = (flaw ≡ BadVersion) × (number_in order 2 (drop 12 block) ≡ 1 → ⊥)
-BlockBreaks links interfaces order InterfaceDescription block flaw = ⊥
-BlockBreaks links interfaces order EnhancedPacket block flaw =
-    PacketOfBreaks links (slice_get interfaces (number_in order 4 (drop 8 block))) (length block - 32) (λ i. enhanced_packet i order block) flaw
-BlockBreaks links interfaces order SimplePacket block flaw =
-    PacketOfBreaks links (slice_get interfaces 0) (length block - 16) (λ i. simple_packet i order block) flaw
-BlockBreaks links interfaces order Other block flaw = ⊥
+-- rule 10: a section with these interfaces has no place for one more. Where any number of bytes may come, it has 65,536 at most.
+abbrev pub IsFull : Length → List Interface → Type 0
+IsFull Limited interfaces = ⊥
+IsFull Any interfaces = 65536 ≤ length interfaces
+
+-- it has a place
+abbrev pub HasPlace : Length → List Interface → Type 0
+HasPlace Limited interfaces = Unit {0}
+HasPlace Any interfaces = length interfaces < 65536
+
+-- rules 5 to 10, of a whole block in a section with these interfaces
+abbrev pub BlockBreaks : Scope → List Interface → Order → BlockKind → List ℕ → Flaw → Type 0
+BlockBreaks scope interfaces order SectionHeader block flaw = (flaw ≡ BadVersion) × (number_in order 2 (drop 12 block) ≡ 1 → ⊥)
+BlockBreaks scope interfaces order InterfaceDescription block flaw = (flaw ≡ TooManyInterfaces) × IsFull scope.length interfaces
+BlockBreaks scope interfaces order EnhancedPacket block flaw =
+    PacketOfBreaks scope.links (slice_get interfaces (number_in order 4 (drop 8 block))) (length block - 32) (λ i. enhanced_packet i order block) flaw
+BlockBreaks scope interfaces order SimplePacket block flaw =
+    PacketOfBreaks scope.links (slice_get interfaces 0) (length block - 16) (λ i. simple_packet i order block) flaw
+BlockBreaks scope interfaces order Other block flaw = ⊥
 
 -- what a whole block states that breaks no rule
-abbrev pub BlockStates : LinkSet → List Interface → Order → BlockKind → List ℕ → Content → Type 0
-BlockStates links interfaces order SectionHeader block content = (number_in order 2 (drop 12 block) ≡ 1) × (content ≡ NewSection order)
-BlockStates links interfaces order InterfaceDescription block content = content ≡ NewInterface (interface_at order block)
-BlockStates links interfaces order EnhancedPacket block content =
-    PacketOfStates links (slice_get interfaces (number_in order 4 (drop 8 block))) (length block - 32) (λ i. enhanced_packet i order block) content
-BlockStates links interfaces order SimplePacket block content =
-    PacketOfStates links (slice_get interfaces 0) (length block - 16) (λ i. simple_packet i order block) content
-BlockStates links interfaces order Other block content = content ≡ Nothing
+abbrev pub BlockStates : Scope → List Interface → Order → BlockKind → List ℕ → Content → Type 0
+BlockStates scope interfaces order SectionHeader block content = (number_in order 2 (drop 12 block) ≡ 1) × (content ≡ NewSection order)
+BlockStates scope interfaces order InterfaceDescription block content = HasPlace scope.length interfaces × (content ≡ NewInterface (interface_at order block))
+BlockStates scope interfaces order EnhancedPacket block content =
+    PacketOfStates scope.links (slice_get interfaces (number_in order 4 (drop 8 block))) (length block - 32) (λ i. enhanced_packet i order block) content
+BlockStates scope interfaces order SimplePacket block content =
+    PacketOfStates scope.links (slice_get interfaces 0) (length block - 16) (λ i. simple_packet i order block) content
+BlockStates scope interfaces order Other block content = content ≡ Nothing
 
 -- a block stands whole at the front: so many bytes
 pub record HasBlock (section : Option Order) (bytes : List ℕ) (order : Order) (kind : BlockKind) (total : ℕ) : Type 0 where
@@ -153,19 +167,19 @@ pub record BreaksRule4 (section : Option Order) (bytes : List ℕ) : Type 0 wher
   pub block : HasBlock section bytes order kind total
   pub last : last_total order (take total bytes) ≡ total → ⊥
 
--- rules 5 to 9: the block at the front is whole, its two total lengths agree, and what it states has this flaw
-pub record BreaksRules5To9 (links : LinkSet) (section : Option Order) (interfaces : List Interface) (bytes : List ℕ) (flaw : Flaw) : Type 0 where
+-- rules 5 to 10: the block at the front is whole, its two total lengths agree, and what it states has this flaw
+pub record BreaksRules5To10 (scope : Scope) (section : Option Order) (interfaces : List Interface) (bytes : List ℕ) (flaw : Flaw) : Type 0 where
   pub order : Order
   pub kind : BlockKind
   pub total : ℕ
   pub block : HasBlock section bytes order kind total
   pub last : last_total order (take total bytes) ≡ total
-  pub breaks : BlockBreaks links interfaces order kind (take total bytes) flaw
+  pub breaks : BlockBreaks scope interfaces order kind (take total bytes) flaw
 
 -- the first rule that the block at the front breaks
-abbrev pub HasFlaw : LinkSet → State → List ℕ → Flaw → Type 0
-HasFlaw links s bytes flaw = HeadBreaks s.order bytes flaw
-    ⊎ (((flaw ≡ BadLength) × BreaksRule4 s.order bytes) ⊎ BreaksRules5To9 links s.order s.interfaces bytes flaw)
+abbrev pub HasFlaw : Scope → State → List ℕ → Flaw → Type 0
+HasFlaw scope s bytes flaw = HeadBreaks s.order bytes flaw
+    ⊎ (((flaw ≡ BadLength) × BreaksRule4 s.order bytes) ⊎ BreaksRules5To10 scope s.order s.interfaces bytes flaw)
 
 -- a block of n bytes at the front breaks none, and gives these frames and this state
 pub record IsBlock (scope : Scope) (s : State) (bytes : List ℕ) (n : ℕ) (frames : List FrameValue) (t : State) : Type 0 where
@@ -174,14 +188,14 @@ pub record IsBlock (scope : Scope) (s : State) (bytes : List ℕ) (n : ℕ) (fra
   pub content : Content
   pub block : HasBlock s.order bytes order kind n
   pub last : last_total order (take n bytes) ≡ n
-  pub states : BlockStates scope.links s.interfaces order kind (take n bytes) content
+  pub states : BlockStates scope s.interfaces order kind (take n bytes) content
   pub frames_are : frames ≡ frames_of s.count content (take n bytes)
   pub after_is : t ≡ after scope.length s content
 
 -- what the step of a pcapng file finds is what the rules say, both ways
 pub record StepsByRules (scope : Scope) (s : State) (bytes : List ℕ) : Type 0 where
-  pub bad : (fault : NgFault) → (pcapng scope).step s bytes ≡ Bad fault → (flaw : Flaw) × (fault ≡ fault_of s.count flaw) × HasFlaw scope.links s bytes flaw
-  pub flaw : (flaw : Flaw) → HasFlaw scope.links s bytes flaw → (pcapng scope).step s bytes ≡ Bad (fault_of s.count flaw)
+  pub bad : (fault : NgFault) → (pcapng scope).step s bytes ≡ Bad fault → (flaw : Flaw) × (fault ≡ fault_of s.count flaw) × HasFlaw scope s bytes flaw
+  pub flaw : (flaw : Flaw) → HasFlaw scope s bytes flaw → (pcapng scope).step s bytes ≡ Bad (fault_of s.count flaw)
   pub takes : (n : ℕ) (frames : List FrameValue) (t : State) → (pcapng scope).step s bytes ≡ Takes n frames t → IsBlock scope s bytes n frames t
   pub block : (n : ℕ) (frames : List FrameValue) (t : State) → IsBlock scope s bytes n frames t → (pcapng scope).step s bytes ≡ Takes n frames t
 
@@ -213,11 +227,11 @@ pub record ShowsFlaw (scope : Scope) (file : List ℕ) (k : ℕ) (flaw : Flaw) :
   pub rest : List ℕ
   pub read : BeginsWith scope file frames last rest
   pub number_is : k ≡ number_of scope.length (length frames)
-  pub breaks : HasFlaw scope.links last rest flaw
+  pub breaks : HasFlaw scope last rest flaw
 
 -- neither a whole block nor one with a flaw
 pub record IsPart (scope : Scope) (s : State) (bytes : List ℕ) : Type 0 where
-  pub no_flaw : (flaw : Flaw) → HasFlaw scope.links s bytes flaw → ⊥
+  pub no_flaw : (flaw : Flaw) → HasFlaw scope s bytes flaw → ⊥
   pub no_block : (n : ℕ) (frames : List FrameValue) (t : State) → IsBlock scope s bytes n frames t → ⊥
 
 -- a file that is no longer than it may be ends within a block after k frames, or before its first section header
@@ -246,6 +260,7 @@ HasFaultOf scope file (faults.Cut k) = EndsWithin scope file k
 HasFaultOf scope file faults.TooManyBytes = IsTooLong scope file
 HasFaultOf scope file (faults.BadLength k) = ShowsFlaw scope (seen scope.length file) k BadLength
 HasFaultOf scope file (faults.NoInterface k) = ShowsFlaw scope (seen scope.length file) k NoInterface
+HasFaultOf scope file (faults.TooManyInterfaces k) = ShowsFlaw scope (seen scope.length file) k TooManyInterfaces
 HasFaultOf scope file faults.Memory = ⊥
 
 -- captures of blocks, of this scope

@@ -8,7 +8,7 @@ use crate::content::{Content, content_of};
 use crate::fault::Flaw;
 use crate::head::{BlockHead, head_of};
 use crate::position::Position;
-use cf_pcap::{Frame, LinkSet, Scope};
+use cf_pcap::{Frame, Scope};
 use std::alloc::{AllocError, Global};
 
 /// What stands at the front of some bytes.
@@ -31,8 +31,8 @@ pub(crate) struct BlocksRead<'a, 'b> {
 }
 
 // The block at the front.
-fn next_of(links: LinkSet, position: &Position<'_>, bytes: &[u8]) -> Next
-    ensures value { result ≡ next_block links (state_of position.now) bytes.now }
+fn next_of(scope: Scope, position: &Position<'_>, bytes: &[u8]) -> Next
+    ensures value { result ≡ next_block scope (state_of position.now) bytes.now }
     ensures within { IsNextIn (length bytes.now) result }
 {
     match head_of(position.order(), bytes) {
@@ -43,7 +43,7 @@ fn next_of(links: LinkSet, position: &Position<'_>, bytes: &[u8]) -> Next
                 return Next::Wants;
             }
             let block = bytes.split_at(total as usize).0;
-            match content_of(links, position.interfaces(), order, kind, block) {
+            match content_of(scope, position.interfaces(), order, kind, block) {
                 Ok(content) => Next::Block(total, content),
                 Err(flaw) => Next::Flawed(flaw),
             }
@@ -85,7 +85,7 @@ pub(crate) fn read_blocks<'a, 'b>(
 {
     let mut left = bytes;
     loop {
-        match next_of(scope.links, &position, left) {
+        match next_of(scope, &position, left) {
             Next::Block(total, content) => {
                 let (block, after) = left.split_at(total as usize);
                 position.pass(alloc, scope.length, content, block, &mut frames)?;

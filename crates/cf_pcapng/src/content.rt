@@ -11,7 +11,7 @@ use crate::head::BlockKind;
 use crate::interfaces::{Interface, Interfaces};
 use crate::options::resolution_of;
 use crate::times::nanoseconds_of;
-use cf_pcap::{LONGEST, LinkSet, Order};
+use cf_pcap::{LONGEST, LinkSet, Order, Scope};
 
 /// A packet of a block.
 #[derive(Clone, Copy, Debug, PartialEq, Eq)]
@@ -139,7 +139,7 @@ fn interface_of(order: Order, block: &[u8]) -> Interface
 
 // What a block of this kind states, if its last field is its length.
 fn content_of_kind(
-    links: LinkSet,
+    scope: Scope,
     interfaces: &Interfaces<'_>,
     order: Order,
     kind: BlockKind,
@@ -147,7 +147,7 @@ fn content_of_kind(
 ) -> Result<Content, Flaw>
     requires least { least kind ≤ length block.now }
     requires most { length block.now < 2 ^ 32 }
-    ensures value { result ≡ stated_by links (interfaces_of interfaces.now) order kind block.now }
+    ensures value { result ≡ stated_by scope (interfaces_of interfaces.now) order kind block.now }
     ensures fits { IfOk result (LiesIn (length block.now)) }
 {
     match kind {
@@ -157,9 +157,14 @@ fn content_of_kind(
             }
             Ok(Content::NewSection(order))
         }
-        BlockKind::InterfaceDescription => Ok(Content::NewInterface(interface_of(order, block))),
-        BlockKind::EnhancedPacket => enhanced_packet(links, interfaces, order, block),
-        BlockKind::SimplePacket => simple_packet(links, interfaces, order, block),
+        BlockKind::InterfaceDescription => {
+            if !interfaces.has_place(scope.length) {
+                return Err(Flaw::TooManyInterfaces);
+            }
+            Ok(Content::NewInterface(interface_of(order, block)))
+        }
+        BlockKind::EnhancedPacket => enhanced_packet(scope.links, interfaces, order, block),
+        BlockKind::SimplePacket => simple_packet(scope.links, interfaces, order, block),
         BlockKind::Other => Ok(Content::Nothing),
     }
 }
@@ -167,7 +172,7 @@ fn content_of_kind(
 // What a whole block states, or its flaw.
 #[tactic(auto, unfolding(crate::specs::Blocks::content_of))]
 pub(crate) fn content_of(
-    links: LinkSet,
+    scope: Scope,
     interfaces: &Interfaces<'_>,
     order: Order,
     kind: BlockKind,
@@ -175,12 +180,12 @@ pub(crate) fn content_of(
 ) -> Result<Content, Flaw>
     requires least { least kind ≤ length block.now }
     requires most { length block.now < 2 ^ 32 }
-    ensures value { result ≡ content_by_rules links (interfaces_of interfaces.now) order kind block.now }
+    ensures value { result ≡ content_by_rules scope (interfaces_of interfaces.now) order kind block.now }
     ensures fits { IfOk result (LiesIn (length block.now)) }
 {
     let last = order.read_u32(&block[block.len() - 4..]);
     if last as usize != block.len() {
         return Err(Flaw::BadLength);
     }
-    content_of_kind(links, interfaces, order, kind, block)
+    content_of_kind(scope, interfaces, order, kind, block)
 }

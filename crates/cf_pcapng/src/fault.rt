@@ -33,6 +33,9 @@ pub enum NgFault {
     /// A packet's interface isn't one of its section.
     #[error("the interface of packet {0} isn't one of its section")]
     NoInterface(u32),
+    /// A section has more than 65,536 interfaces, in a stream of any length ([`cf_pcap::Length::Any`]), whose reader keeps them.
+    #[error("a section has more than 65536 interfaces, after {0} frames")]
+    TooManyInterfaces(u32),
     /// Out of memory, which is no fault of the stream.
     #[error("out of memory")]
     Memory,
@@ -47,6 +50,7 @@ pub(crate) enum Flaw {
     FrameTooLong,
     BadLength,
     NoInterface,
+    TooManyInterfaces,
 }
 
 impl Flaw {
@@ -61,6 +65,7 @@ impl Flaw {
             Flaw::FrameTooLong => NgFault::FrameTooLong(count),
             Flaw::BadLength => NgFault::BadLength(count),
             Flaw::NoInterface => NgFault::NoInterface(count),
+            Flaw::TooManyInterfaces => NgFault::TooManyInterfaces(count),
         }
     }
 }

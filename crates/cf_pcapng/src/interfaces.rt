@@ -1,9 +1,14 @@
 // The interfaces of a section.
-ghost use Rattle.std.specs.Prelude.{◌≡◌, ◌++◌, ◌∷◌, [], IfOk, slice_get, true, false};
+ghost use Rattle.std.specs.Prelude.{◌≡◌, ◌++◌, ◌∷◌, [], IfOk, length, slice_get, true, false};
+ghost use Rattle.cf_pcapng.specs.Blocks.{has_place as has_place_in};
 ghost use Rattle.cf_pcapng.specs.Position.{interfaces_of};
 
+use cf_pcap::Length;
 use std::alloc::{AllocError, Global};
 use std::marker::Model;
+
+/// The most interfaces of a section in a stream of any length.
+const MOST: usize = 65_536;
 
 /// An interface of a section.
 #[derive(Clone, Copy, Debug, PartialEq, Eq)]
@@ -65,6 +70,26 @@ impl<'a> Interfaces<'a> {
             return self.had.get(number).copied();
         }
         self.came.as_slice().get(number - self.had.len()).copied()
+    }
+
+    // How many the section has.
+    fn len(&self) -> usize
+        ensures { result ≡ length (interfaces_of self.now) }
+    {
+        if self.anew {
+            return self.came.len();
+        }
+        self.had.len() + self.came.len()
+    }
+
+    // Whether one more has a place in the section.
+    pub(crate) fn has_place(&self, limit: Length) -> bool
+        ensures { result ≡ has_place_in limit (interfaces_of self.now) }
+    {
+        match limit {
+            Length::Limited => true,
+            Length::Any => self.len() < MOST,
+        }
     }
 
     // A section begins.

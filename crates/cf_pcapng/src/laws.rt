@@ -3,7 +3,9 @@ ghost use Rattle.std.specs.Prelude.{ℕ, List};
 ghost use Rattle.cf_pcap.specs.declared.scope.Scope.{Scope};
 ghost use Rattle.cf_pcapng.specs.File.{State};
 ghost use Rattle.cf_pcapng.specs.Laws.{OneCase, OneGift};
-ghost use Rattle.cf_pcapng.specs.Rules.{StepsByRules, FileByRules};
+ghost use Rattle.cf_pcap.specs.Capture.{FrameValue};
+ghost use Rattle.cf_pcap.specs.Links.{widened};
+ghost use Rattle.cf_pcapng.specs.Rules.{StepsByRules, FileByRules, IsFileOf};
 ghost use Rattle.cf_pcapng.specs.Truncated.{TruncatedCase};
 
 /// Each file is a capture of one list of frames, or has one fault.
@@ -30,4 +32,9 @@ pub fn files_are_judged_by_the_rules()
 /// the frames that its bytes give. Read as truncated, each file says one thing, or has one fault.
 pub fn a_truncated_file_has_its_whole_blocks()
     ensures { (scope : Scope) (file : List ℕ) → TruncatedCase scope file }
+{}
+
+/// A capture of some frames is one of the same frames where all links are read.
+pub fn a_capture_is_one_of_all_links()
+    ensures { (scope : Scope) (file : List ℕ) (frames : List FrameValue) → IsFileOf scope file frames → IsFileOf (widened scope) file frames }
 {}

@@ -1,12 +1,12 @@
 // Blocks that are passed over.
-ghost use Rattle.std.specs.Prelude.{◌≡◌, ℕ, List, ◌++◌, ◌+◌, ◌<◌, ◌≤◌, length, IfOk};
+ghost use Rattle.std.specs.Prelude.{◌≡◌, ℕ, List, ◌++◌, ◌+◌, ◌<◌, ◌≤◌, length, IfOk, IsTrue};
 ghost use Rattle.cf_pcap.specs.Limits.{HasRoom};
 ghost use Rattle.cf_pcap.specs.declared.scope.Scope.{Scope};
 ghost use Rattle.cf_pcapng.specs.File.{State};
 ghost use Rattle.cf_pcapng.specs.Position.{state_of};
 ghost use Rattle.cf_pcapng.specs.Blocks.{head_of as head_at};
 ghost use Rattle.cf_pcap.specs.Capture.{FrameValue};
-ghost use Rattle.cf_pcapng.specs.Reading.{WasPassed, IsResumed, IsLetGo, IsPassedAt, KeepsLastField, MayReadOn, Gave, GaveAfter, IsFew, LetsGo, size_by, missing_of};
+ghost use Rattle.cf_pcapng.specs.Reading.{WasPassed, IsResumed, IsLetGo, IsPassedAt, KeepsLastField, AreFew, MayReadOn, StaysWithin, Gave, GaveAfter, IsFew, LetsGo, size_by, missing_of};
 
 use crate::blocks::{BlocksRead, read_blocks};
 use crate::fault::Flaw;
@@ -120,6 +120,25 @@ fn size_of(section: Option<Order>, bytes: &[u8]) -> usize
     }
 }
 
+// Whether a block that is read begins with the held bytes and isn't whole with those that come either.
+pub(crate) fn stays_within(
+    section: Option<Order>,
+    passed: Option<Passed>,
+    held: &[u8],
+    more: &[u8],
+) -> bool
+    ensures { IsTrue result → StaysWithin section passed held.now more.now }
+{
+    if passed.is_some() {
+        return false;
+    }
+    match head_of(section, held) {
+        BlockHead::Stands(_, BlockKind::Other, _) => false,
+        BlockHead::Stands(_, _, total) => held.len() + more.len() < total as usize,
+        _ => false,
+    }
+}
+
 // How many bytes more the block needs that hung over, as far as its head shows with those that come.
 fn missing(
     alloc: Global,
@@ -200,6 +219,7 @@ fn resume_passed_block<'a>(
 ) -> Result<StreamRead<'a>, AllocError>
     requires block { block.gone + 4 ≤ block.total }
     requires room { HasRoom scope.length (position.count + length bytes.now) }
+    requires few { AreFew scope.length (state_of position).interfaces }
     ensures sound { IfOk result (IsFew scope.length (state_of position.entry) (length bytes.now)) }
     ensures read { IfOk result (GaveAfter scope (state_of position.entry) (Some block) bytes.now frames.items) }
     ensures had { IfOk result (λ given. given.position.listed.had ≡ position.entry.listed.had) }
@@ -240,6 +260,7 @@ fn read_next<'a>(
 ) -> Result<StreamRead<'a>, AllocError>
     requires block { KeepsLastField passed }
     requires room { HasRoom scope.length (position.count + length bytes.now) }
+    requires few { AreFew scope.length (state_of position).interfaces }
     ensures sound { IfOk result (IsFew scope.length (state_of position.entry) (length bytes.now)) }
     ensures read { IfOk result (GaveAfter scope (state_of position.entry) passed bytes.now frames.items) }
     ensures had { IfOk result (λ given. given.position.listed.had ≡ position.entry.listed.had) }
@@ -293,6 +314,7 @@ pub(crate) fn read_piece<'a>(
 ) -> Result<StreamRead<'a>, AllocError>
     requires block { KeepsLastField passed }
     requires room { HasRoom scope.length (position.count + length (held.now ++ more.now)) }
+    requires few { AreFew scope.length (state_of position).interfaces }
     ensures sound { IfOk result (IsFew scope.length (state_of position.entry) (length (held.now ++ more.now))) }
     ensures read { IfOk result (λ given. (gone : List ℕ) → WasPassed position.entry.order passed gone
         → Gave scope (state_of position.entry) (gone ++ (held.now ++ more.now)) given) }

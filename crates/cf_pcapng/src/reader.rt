@@ -1,6 +1,7 @@
 // The reader of a capture, which comes in pieces.
-ghost use Rattle.std.specs.Prelude.{◌≡◌, ◌≢◌, ℕ, List, [], ◌++◌, ◌≤◌, ◌+◌, length, IfOk, MatchResult, is_ok, if◌then◌else◌, Err};
+ghost use Rattle.std.specs.Prelude.{◌≡◌, ◌≢◌, ℕ, List, [], ◌++◌, ◌≤◌, ◌+◌, length, IfOk, OnErr, MatchResult, is_ok, if◌then◌else◌, Err};
 ghost use Rattle.cf_pcap.specs.Capture.{FrameValue};
+ghost use Rattle.cf_pcap.specs.declared.limit.Length.TheVariants.{Any};
 ghost use Rattle.cf_pcap.specs.declared.links.LinkSet.TheVariants.{Basic};
 ghost use Rattle.cf_pcap.specs.Links.{limited};
 ghost use Rattle.cf_pcap.specs.Limits.{HasRoom};
@@ -8,14 +9,14 @@ ghost use Rattle.cf_pcap.specs.Streams.{AreGiven};
 ghost use Rattle.cf_pcap.specs.declared.stage.Stage.TheVariants.{Running};
 ghost use Rattle.cf_pcapng.specs.File.{pcapng};
 ghost use Rattle.cf_pcapng.specs.Position.{listed, state_of};
-ghost use Rattle.cf_pcapng.specs.Reading.{KeepsLastField, MayGoOn, early_bytes, late_bytes};
-ghost use Rattle.cf_pcapng.specs.Reader.{IsStateOf, IsFed, IsEnded, AnswersFound, IsStageAtLimit, IsStageAfter, IsCalled, reader_after};
+ghost use Rattle.cf_pcapng.specs.Reading.{KeepsLastField, AreFew, MayGoOn, early_bytes, late_bytes};
+ghost use Rattle.cf_pcapng.specs.Reader.{IsStateOf, IsFed, IsEnded, AnswersFound, IsStageAtLimit, IsStageAfter, IsCalled, IsKept, reader_after};
 ghost use Rattle.cf_pcap.specs.Stages.{found_at, kept_at};
 ghost use Rattle.cf_pcapng.specs.Truncated.{Says, Breaks};
 
 use crate::fault::NgFault;
 use crate::interfaces::Interface;
-use crate::passed::{Passed, StreamRead, read_piece};
+use crate::passed::{Passed, StreamRead, read_piece, stays_within};
 use crate::position::{Position, Reached};
 use cf_pcap::{Frame, LIMIT, Length, LinkSet, Order, Scope, Stage};
 use std::alloc::{AllocError, Global};
@@ -89,6 +90,7 @@ fn stage_at_limit(
     requires one { length byte.now ≡ 1 }
     requires block { KeepsLastField given.now.passed }
     requires room { HasRoom scope.length (given.now.position.count + length given.now.held.items + 1) }
+    requires few { AreFew scope.length (state_of given.now.position).interfaces }
     ensures { IfOk result (IsStageAtLimit scope (state_of given.now.position) given.now.passed given.now.held.items byte.now) }
 {
     let position = given.position.copy(alloc)?;
@@ -199,6 +201,9 @@ impl PcapNg {
         if let Stage::Stopped(fault) = self.stage {
             return Err(fault);
         }
+        if self.keep_within(piece)? {
+            return Ok(());
+        }
         let Called {
             stage,
             total,
@@ -221,6 +226,22 @@ impl PcapNg {
         self.passed = passed;
         self.held = held;
         stage.answer()
+    }
+
+    // Keeps a piece that lies within a block that is read, and says whether it does. The held bytes are not copied then.
+    fn keep_within(&mut self, piece: &[u8]) -> Result<bool, AllocError>
+        requires { self.old.stage ≡ Running }
+        ensures kept { IfOk result (λ kept. IsKept kept self.old piece.now self.new) }
+        ensures memory { OnErr result (self.new ≡ self.old) }
+    {
+        let limit = self.scope.length;
+        let (early, late) = split_late(limit, self.total, piece);
+        if !late.is_empty() || !stays_within(self.order, self.passed, &self.held, early) {
+            return Ok(false);
+        }
+        self.held.extend_from_slice(early)?;
+        self.total = limit.total_after(self.total, early.len());
+        Ok(true)
     }
 
     // What a call that takes a piece comes to.
@@ -250,13 +271,20 @@ impl PcapNg {
         })
     }
 
-    /// How many bytes of the stream are held: those of a block that has only begun. The interfaces of the section, which
-    /// are kept beside them, don't count.
+    /// How many bytes of the stream are held: those of a block that has only begun.
     pub fn held(&self) -> usize
         ensures value { result ≡ length self.now.held }
         ensures few { result ≤ 1048580 }
     {
         self.held.len()
+    }
+
+    /// How many interfaces of the section are kept beside the held bytes: in a stream of any length 65,536 at most.
+    pub fn interfaces(&self) -> usize
+        ensures value { result ≡ length self.now.state.interfaces }
+        ensures few { self.now.scope.length ≡ Any → result ≤ 65536 }
+    {
+        self.interfaces.len()
     }
 
     /// The fault that was found, if one was. The stream has it, whatever follows.

@@ -566,3 +566,47 @@ fn a_long_block_is_passed_over_and_not_held(rt: HostRuntime) -> Result<(), Fail>
     }
     Ok(())
 }
+
+/// What the end of a stream answers, as it is and where it may be truncated.
+fn both_ends(
+    alloc: Global,
+    scope: Scope,
+    stream: &[u8],
+) -> Result<(Result<u32, NgFault>, Result<Option<u32>, NgFault>), AllocError> {
+    let mut out: Vec<Frame> = Vec::new(alloc);
+    let told = feed_all(alloc, scope, stream, 65_536, &mut out)?;
+    let end = end_truncated(alloc, scope, stream, 65_536, &mut out)?;
+    Ok((told.end, end))
+}
+
+#[test]
+fn a_section_has_at_most_65536_interfaces(rt: HostRuntime) -> Result<(), Fail> {
+    let alloc = rt.alloc();
+    let one = interface(alloc, 1, 0, &[])?;
+    let packet = enhanced(alloc, 0, 7)?;
+    let mut full = joined(alloc, &[&SECTION, &one, &packet])?;
+    for _ in 1..65_536 {
+        full.extend_from_slice(&one)?;
+    }
+    let other_end = joined(alloc, &[part(&one, 0, 16), &[0x15, 0, 0, 0]])?;
+    let anew = joined(alloc, &[&SECTION, &one])?;
+    // What follows, and what the end answers: the number of frames, or the fault of a stream of any length and below 2^32 bytes.
+    let bad = Err(NgFault::BadLength(1));
+    let many = Err(NgFault::TooManyInterfaces(1));
+    let cases: [(Vec<u8>, Result<u32, NgFault>, Result<u32, NgFault>); 4] = [
+        (joined(alloc, &[&full, &packet])?, Ok(2), Ok(2)),
+        (joined(alloc, &[&full, &one])?, many, Ok(1)),
+        (joined(alloc, &[&full, &other_end])?, bad, bad),
+        (joined(alloc, &[&full, &anew])?, Ok(1), Ok(1)),
+    ];
+    for (stream, any, limited) in cases {
+        for (scope, end) in [
+            (Scope::unlimited(LinkSet::Basic), any),
+            (Scope::limited(LinkSet::Basic), limited),
+        ] {
+            let ends = both_ends(alloc, scope, &stream)?;
+            assert_eq!(rt; ends, (end, end.map(|_| None)));
+        }
+    }
+    Ok(())
+}

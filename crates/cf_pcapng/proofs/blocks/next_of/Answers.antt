@@ -12,14 +12,14 @@ pub returns-in-Short-clause-value : goal.returns-in-Short-clause-value
 returns-in-Short-clause-value c =
     let bytes = c.args.bytes.now in
     let head : head_of c.args.position.now.order bytes ≡ Short = sym (c.in-Short.ensures ∙ ap (λ (o : Option Order). head_of o bytes) c.order.ensures) in
-    sym (next_by_head c.args.links (state_of c.args.position.now) bytes Short head)
+    sym (next_by_head c.args.scope (state_of c.args.position.now) bytes Short head)
 
 pub returns-in-Flawed-clause-value : goal.returns-in-Flawed-clause-value
 returns-in-Flawed-clause-value c =
     let bytes = c.args.bytes.now in
     let head : head_of c.args.position.now.order bytes ≡ Flawed c.in-Flawed.flaw =
     sym (c.in-Flawed.ensures ∙ ap (λ (o : Option Order). head_of o bytes) c.order.ensures) in
-    sym (next_by_head c.args.links (state_of c.args.position.now) bytes (Flawed c.in-Flawed.flaw) head)
+    sym (next_by_head c.args.scope (state_of c.args.position.now) bytes (Flawed c.in-Flawed.flaw) head)
 
 pub returns-then-bytes-total-clause-value : goal.returns-then-bytes-total-clause-value
 returns-then-bytes-total-clause-value c =
@@ -27,7 +27,7 @@ returns-then-bytes-total-clause-value c =
     let at = c.in-Stands in
     let head : head_of c.args.position.now.order bytes ≡ Stands at.order at.kind at.total =
     sym (at.ensures ∙ ap (λ (o : Option Order). head_of o bytes) c.order.ensures) in
-    sym (next_part c.args.links (state_of c.args.position.now) bytes at.order at.kind at.total head (omega arith))
+    sym (next_part c.args.scope (state_of c.args.position.now) bytes at.order at.kind at.total head (omega arith))
 
 pub content_of-requires-clause-least : goal.content_of-requires-clause-least
 content_of-requires-clause-least c =
@@ -44,11 +44,11 @@ returns-in-Ok-clause-value c =
     let at = c.in-Stands in
     let head : head_of c.args.position.now.order bytes ≡ Stands at.order at.kind at.total =
     sym (at.ensures ∙ ap (λ (o : Option Order). head_of o bytes) c.order.ensures) in
-    let content : Ok c.in-Ok.content ≡ content_of c.args.links (interfaces_of c.args.position.now.listed) at.order at.kind (take at.total bytes) =
-    c.in-Ok.ensures.value ∙ ap (λ l. content_of c.args.links (interfaces_of l) at.order at.kind c.split_at.result.0.now) c.interfaces.ensures
-    ∙ ap (λ xs. content_of c.args.links (interfaces_of c.args.position.now.listed) at.order at.kind xs) c.split_at.ensures.front in
+    let content : Ok c.in-Ok.content ≡ content_of c.args.scope (interfaces_of c.args.position.now.listed) at.order at.kind (take at.total bytes) =
+    c.in-Ok.ensures.value ∙ ap (λ l. content_of c.args.scope (interfaces_of l) at.order at.kind c.split_at.result.0.now) c.interfaces.ensures
+    ∙ ap (λ xs. content_of c.args.scope (interfaces_of c.args.position.now.listed) at.order at.kind xs) c.split_at.ensures.front in
     ap (λ (x : Result _ _). block_next at.total x) content
-    ∙ sym (next_whole c.args.links (state_of c.args.position.now) bytes at.order at.kind at.total head (omega arith))
+    ∙ sym (next_whole c.args.scope (state_of c.args.position.now) bytes at.order at.kind at.total head (omega arith))
 
 pub returns-in-Ok-clause-within : goal.returns-in-Ok-clause-within
 returns-in-Ok-clause-within c =
@@ -66,8 +66,8 @@ returns-in-Err-clause-value c =
     let at = c.in-Stands in
     let head : head_of c.args.position.now.order bytes ≡ Stands at.order at.kind at.total =
     sym (at.ensures ∙ ap (λ (o : Option Order). head_of o bytes) c.order.ensures) in
-    let content : Err c.in-Err.flaw ≡ content_of c.args.links (interfaces_of c.args.position.now.listed) at.order at.kind (take at.total bytes) =
-    c.in-Err.ensures.value ∙ ap (λ l. content_of c.args.links (interfaces_of l) at.order at.kind c.split_at.result.0.now) c.interfaces.ensures
-    ∙ ap (λ xs. content_of c.args.links (interfaces_of c.args.position.now.listed) at.order at.kind xs) c.split_at.ensures.front in
+    let content : Err c.in-Err.flaw ≡ content_of c.args.scope (interfaces_of c.args.position.now.listed) at.order at.kind (take at.total bytes) =
+    c.in-Err.ensures.value ∙ ap (λ l. content_of c.args.scope (interfaces_of l) at.order at.kind c.split_at.result.0.now) c.interfaces.ensures
+    ∙ ap (λ xs. content_of c.args.scope (interfaces_of c.args.position.now.listed) at.order at.kind xs) c.split_at.ensures.front in
     ap (λ (x : Result _ _). block_next at.total x) content
-    ∙ sym (next_whole c.args.links (state_of c.args.position.now) bytes at.order at.kind at.total head (omega arith))
+    ∙ sym (next_whole c.args.scope (state_of c.args.position.now) bytes at.order at.kind at.total head (omega arith))

@@ -11,7 +11,7 @@ returns-in_ok-read-in-None-clause-sound c =
     let all = c.in_ok-read-in-None.ensures.read in
     by_ok c.drop_passed_block.result _ _
     (λ given on. sound_of c.args.scope (state_of c.args.position) c.args.bytes.now all.more
-    (state_of given.position) given.passed given.held.items given.flaw
+    (state_of given.position) given.passed given.held.items given.flaw c.requires.few
     (on.1 c.args.scope (state_of c.args.position) c.args.bytes.now all.more all.read)) c.drop_passed_block.ensures.read
 
 pub returns-in_ok-read-in-None-clause-read : goal.returns-in_ok-read-in-None-clause-read

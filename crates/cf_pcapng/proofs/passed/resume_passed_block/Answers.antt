@@ -55,7 +55,7 @@ returns-in_ok-read-in-Over-clause-sound c =
     let rest : AreRead c.args.scope s (drop left bytes) all.more (state_of read.position) read.rest.now read.flaw =
     subst (λ (xs : List ℕ). AreRead c.args.scope s xs all.more (state_of read.position) read.rest.now read.flaw) c.split_at.ensures.back all.read in
     by_ok c.drop_passed_block.result _ _
-    (λ given on. sound_over c.args.scope s bytes left all.more (state_of given.position) given.passed given.held.items given.flaw
+    (λ given on. sound_over c.args.scope s bytes left all.more (state_of given.position) given.passed given.held.items given.flaw c.requires.few
     (on.1 c.args.scope s (drop left bytes) all.more rest)) c.drop_passed_block.ensures.read
 
 pub returns-in_ok-held-in-Within-clause-sound : goal.returns-in_ok-held-in-Within-clause-sound
@@ -66,4 +66,4 @@ returns-in_ok-held-in-Within-clause-sound c =
     let some = c.in-Within.some in
     let held : c.in_ok-held-in-Within.held.items ≡ drop some bytes = search rules in
     subst (λ (xs : List ℕ). IsSoundOn c.args.scope.length s (length bytes) s (Some passed) xs) (sym held)
-    (sound_within c.args.scope.length s c.args.block passed some bytes c.in-Within.ensures.1)
+    (sound_within c.args.scope.length s c.args.block passed some bytes c.requires.few c.in-Within.ensures.1)

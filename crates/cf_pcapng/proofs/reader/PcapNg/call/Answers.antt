@@ -75,7 +75,7 @@ stage_after-requires c =
     let early = c.split_late.result.0.now in
     let l = inside.scope.length in
     let running : reader.stage ≡ Running = subst (λ (r : PcapNgValue). r.stage ≡ Running) (sym c.self.view_is) c.requires in
-    let sound = subst (λ (x : Stage NgFault). IsSoundAt x reader) running c.self.invariant in
+    let sound = subst (λ (x : Stage NgFault). IsSoundAt x reader) running c.self.invariant.0 in
     let on : IsGoneOn l reader.state (length (reader.held ++ early)) (state_of given.position) given.passed given.held.items given.flaw =
     subst (λ (xs : List ℕ). IsGoneOn l reader.state (length (xs ++ early)) (state_of given.position) given.passed given.held.items given.flaw)
     c.deref-2.ensures.value
