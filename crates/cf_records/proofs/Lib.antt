@@ -4,3 +4,4 @@ pub mod Nexts
 pub mod Outcomes
 pub mod OneOutcome
 pub mod SomeOutcome
+pub mod First

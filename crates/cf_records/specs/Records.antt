@@ -1,5 +1,5 @@
 -- Files of typed records: a record with the schema's names, and then records with a value of each attribute.
-use Rattle.std.specs.Prelude.{◌≡◌, ◌≢◌, Bool, true, false, ℕ, ◌+◌, ◌<◌, ◌≤◌, ◌^◌, ⊤, List, [], ◌∷◌, ◌++◌, length, map, take, Some, Result, Ok, Err, slice_get}
+use Rattle.std.specs.Prelude.{◌≡◌, ◌≢◌, Bool, true, false, ℕ, ◌+◌, ◌<◌, ◌≤◌, ◌^◌, ⊤, List, [], ◌∷◌, ◌++◌, length, map, take, All, Some, Result, Ok, Err, slice_get}
 use Rattle.std.specs.Borrow.{Bor}
 use Rattle.csv.specs.Reading.{AreRecords, Reached, Ready, default_config, strip_bom, source_of, reader_trim, reader_config, reader_state}
 use Rattle.csv.specs.declared.parser.State.TheVariants as st
@@ -7,7 +7,7 @@ use Rattle.csv.specs.declared.reader.Trim.TheVariants as trim
 use Rattle.csv.specs.declared.reader.Reader.{Reader}
 use Rattle.cf_row.specs.declared.schema.Attr.{Attr}
 use Rattle.cf_row.specs.declared.row.Value.{Value}
-use Rattle.cf_row.specs.Row.{RowValue}
+use Rattle.cf_row.specs.Row.{Fits, RowValue}
 use Rattle.cf_filter.specs.Grammar.{ValueText}
 use Rattle.cf_records.specs.declared.fault.RecordFault.{RecordFault}
 use Rattle.cf_records.specs.declared.fault.RecordFault.TheVariants.{NoHeader, BadHeader, BadCount, BadValue, TooManyBytes, Memory}
@@ -62,6 +62,13 @@ pub record IsRecordFile (attrs : List Attr) (text : List ℕ) (rows : List RowVa
   pub records : List (List (List ℕ))
   pub read : AreRead text (names_of attrs ∷ records)
   pub rows_are : AreRows attrs 0 records rows
+
+-- the first rows of such a text, so many of them at most
+pub record AreFirst (attrs : List Attr) (text : List ℕ) (most : ℕ) (first : List RowValue) : Type 0 where
+  pub rows : List RowValue
+  pub file : IsRecordFile attrs text rows
+  pub fit : All (Fits attrs) rows
+  pub first_are : first ≡ take most rows
 
 -- the first faulty record
 pub record HasFaultyRecord (attrs : List Attr) (text : List ℕ) (fault : RecordFault) : Type 0 where

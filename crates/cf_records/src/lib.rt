@@ -10,4 +10,4 @@ mod tests;
 
 pub use fault::RecordFault;
 pub use laws::each_text_is_one_thing;
-pub use read::read_records;
+pub use read::{read_first, read_records};

@@ -1,12 +1,12 @@
 // The records of a file.
-ghost use Rattle.std.specs.Prelude.{◌≡◌, ◌⊎◌, ◌≤◌, ◌<◌, ◌^◌, ℕ, List, [], length, All, IfOk, MatchResult};
+ghost use Rattle.std.specs.Prelude.{◌≡◌, ◌⊎◌, ◌≤◌, ◌<◌, ◌^◌, ◌++◌, ℕ, List, [], ◌∷◌, length, take, All, IfOk, OnOk, MatchResult};
 ghost use Rattle.csv.specs.Records.{fields_of};
-ghost use Rattle.cf_row.specs.Row.{Fits};
-ghost use Rattle.cf_records.specs.Records.{IsRecordFile, HasRecordsFault, HasRead, ReadsOn};
+ghost use Rattle.cf_row.specs.Row.{Fits, RowValue};
+ghost use Rattle.cf_records.specs.Records.{AreFirst, IsRecordFile, HasRecordsFault, HasRead, ReadsOn};
 
 use crate::RecordFault;
 use crate::row::{is_header, row_of};
-use cf_row::{Row, Schema};
+use cf_row::{Memory, Row, Schema};
 use csv::{ByteRecord, Reader, ReaderBuilder};
 use std::alloc::{AllocError, Global};
 
@@ -36,11 +36,26 @@ fn reader_of<'a>(alloc: Global, bytes: &'a [u8]) -> Reader<&'a [u8]>
         .from_reader(alloc, bytes)
 }
 
-// The rows of a text of less than 2^24 bytes.
-fn read_rows(alloc: Global, schema: &Schema, bytes: &[u8]) -> Result<Vec<Row>, RecordFault>
+// Keeps a row behind the others, unless these are as many as are wanted.
+fn keep_row(rows: &mut Vec<Row>, row: Row, most: usize) -> Result<(), Memory>
+    ensures { OnOk result ((all : List RowValue) → rows.old.items ≡ take most all → rows.new.items ≡ take most (all ++ (row ∷ []))) }
+{
+    if rows.len() < most {
+        rows.push(row)?;
+    }
+    Ok(())
+}
+
+// The first rows of a text of less than 2^24 bytes, so many at most. The others are judged as well.
+fn read_rows(
+    alloc: Global,
+    schema: &Schema,
+    bytes: &[u8],
+    most: usize,
+) -> Result<Vec<Row>, RecordFault>
     requires small { length bytes.now < 2 ^ 24 }
-    ensures answer { MatchResult result (λ rows. IsRecordFile schema.now bytes.now rows.items) (λ fault. (fault ≡ RecordFault.Memory) ⊎ HasRecordsFault schema.now bytes.now fault) }
-    ensures fit { IfOk result (λ rows. All (Fits schema.now) rows.items) }
+    ensures answer { MatchResult result (λ rows. AreFirst schema.now bytes.now most rows.items) (λ fault. (fault ≡ RecordFault.Memory) ⊎ HasRecordsFault schema.now bytes.now fault) }
+    ensures all { 2 ^ 24 ≤ most → IfOk result (λ rows. IsRecordFile schema.now bytes.now rows.items × All (Fits schema.now) rows.items) }
 {
     let mut reader = reader_of(alloc, bytes);
     let mut line = ByteRecord::new(alloc);
@@ -56,7 +71,7 @@ fn read_rows(alloc: Global, schema: &Schema, bytes: &[u8]) -> Result<Vec<Row>, R
             return Ok(rows);
         }
         match row_of(alloc, schema, num, &line) {
-            Ok(row) => rows.push(row)?,
+            Ok(row) => keep_row(&mut rows, row, most)?,
             Err(fault) => return Err(fault),
         }
     }
@@ -70,8 +85,21 @@ pub fn read_records(alloc: Global, schema: &Schema, bytes: &[u8]) -> Result<Vec<
     ensures answer { MatchResult result (λ rows. IsRecordFile schema.now bytes.now rows.items) (λ fault. (fault ≡ RecordFault.Memory) ⊎ HasRecordsFault schema.now bytes.now fault) }
     ensures fit { IfOk result (λ rows. All (Fits schema.now) rows.items) }
 {
+    read_first(alloc, schema, bytes, LIMIT)
+}
+
+/// The same, of which the first rows alone are kept, so many at most. Each record is judged all the same.
+pub fn read_first(
+    alloc: Global,
+    schema: &Schema,
+    bytes: &[u8],
+    most: usize,
+) -> Result<Vec<Row>, RecordFault>
+    ensures answer { MatchResult result (λ rows. AreFirst schema.now bytes.now most rows.items) (λ fault. (fault ≡ RecordFault.Memory) ⊎ HasRecordsFault schema.now bytes.now fault) }
+    ensures all { 2 ^ 24 ≤ most → IfOk result (λ rows. IsRecordFile schema.now bytes.now rows.items × All (Fits schema.now) rows.items) }
+{
     if bytes.len() >= LIMIT {
         return Err(RecordFault::TooManyBytes);
     }
-    read_rows(alloc, schema, bytes)
+    read_rows(alloc, schema, bytes, most)
 }

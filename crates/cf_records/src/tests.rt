@@ -58,6 +58,24 @@ fn records_are_rows_or_have_a_first_fault(rt: HostRuntime) -> Result<(), Fail> {
 }
 
 #[test]
+fn first_rows_are_kept_and_all_are_judged(rt: HostRuntime) -> Result<(), Fail> {
+    let alloc = rt.alloc();
+    let schema = schema(alloc)?;
+    let text = b"ts,dport\n0,80\n0,81\n0,82\n".as_slice();
+    for (most, wanted) in [(0, 0), (2, 2), (3, 3), (4, 3)] {
+        assert_eq!(rt; read_first(alloc, &schema, text, most)?.len(), wanted);
+    }
+    let faulty = b"ts,dport\n0,80\n0,81\n0,x\n".as_slice();
+    for most in [0, 2, 9] {
+        match read_first(alloc, &schema, faulty, most) {
+            Ok(_) => assert!(rt; false),
+            Err(fault) => assert_eq!(rt; fault, RecordFault::BadValue(2, 1)),
+        }
+    }
+    Ok(())
+}
+
+#[test]
 fn a_file_is_shorter_than_2_to_24_bytes(rt: HostRuntime) -> Result<(), Fail> {
     let alloc = rt.alloc();
     let schema = schema(alloc)?;
