@@ -13,7 +13,7 @@ ghost use Rattle.cf_query.specs.Asking.{HasAsked};
 ghost use Rattle.cf_query.specs.Walking.{AsksOne, AsksBucket, lane_of, steps_of_one, steps_of_bucket};
 
 use crate::asks::tail;
-use crate::scans::{scan, total_of};
+use crate::scans::finding_stretch;
 use cf_plain::{Ask, Finding, Groups};
 use cf_row::Memory;
 use cf_table::{MultiLog, Pass, Steps};
@@ -64,7 +64,10 @@ pub fn finding_seen<P: Pass, L: Ledger>(
     ensures loads { CountsLoads (P.held pass.old) (P.held pass.new) steps.old steps.new }
 {
     match ask {
-        Ask::List(expr) => Ok(Finding::Places(scan(log, alloc, pass, expr, steps)?)),
+        Ask::List(_) | Ask::Total(..) => {
+            let whole = (0, pass.covered());
+            finding_stretch(log, alloc, pass, ask, whole, steps)
+        }
         Ask::Find(lane, low, high) => {
             let places = find(log, alloc, pass, *lane, (*low, *high), steps)?;
             Ok(Finding::Places(places))
@@ -79,10 +82,6 @@ pub fn finding_seen<P: Pass, L: Ledger>(
         }
         Ask::Fired(trigger) => groups_of(log, alloc, pass, trigger.agg, steps),
         Ask::Top(lane, _, _) => groups_of(log, alloc, pass, *lane, steps),
-        Ask::Total(attr, expr) => {
-            let total = total_of(log, alloc, pass, *attr, expr, steps)?;
-            Ok(Finding::Total(total))
-        }
     }
 }
 

@@ -16,4 +16,5 @@ pub use asks::{ask, ask_seen, groups, measure, tail};
 pub use findings::{finding, finding_seen};
 pub use history::{questions_keep_their_place, seals_are_histories};
 pub use rows::row;
+pub use scans::{finding_stretch, goes_over_all};
 pub use tags::push_tags;

@@ -1,70 +1,115 @@
-// What questions that go over all entries find.
-ghost use Rattle.std.specs.Prelude.{◌≡◌, ◌≤◌, length, IfOk};
-ghost use Rattle.cf_row.specs.Expr.{IsOfSchema, holds_of};
+// What questions find that go over all entries.
+ghost use Rattle.std.specs.Prelude.{◌≡◌, ◌≤◌, length, true, IfOk};
+ghost use Rattle.cf_row.specs.Expr.{holds_of};
+ghost use Rattle.cf_shape.specs.Lanes.{IsShape};
 ghost use Rattle.cf_table.specs.Loads.{CountsLoads};
 ghost use Rattle.cf_table.specs.Values.{IsOf};
 ghost use Rattle.cf_table.specs.Moves.{OnlyLooked, AreFit};
-ghost use Rattle.cf_plain.specs.Asks.{places, rows_in};
+ghost use Rattle.cf_plain.specs.Asks.{Suits, places, rows_in};
+ghost use Rattle.cf_plain.specs.Segments.{finding_in};
 ghost use Rattle.cf_plain.specs.Totals.{IsNarrow, total};
+ghost use Rattle.cf_query.specs.Stretches.{IsStretch, goes_over_all as goes_over_all_of, stretch};
 
 use crate::selection::Selection;
 use cf_fold::Quad;
-use cf_plain::Places;
-use cf_row::{Expr, Memory};
+use cf_plain::{Ask, Finding, Places};
+use cf_row::Memory;
 use cf_table::{MultiLog, Pass, Steps};
 use std::alloc::Global;
 use std::sync::ledger::Ledger;
 
-// The places of the entries of which the expression holds. They are asked one after the other, and none is kept.
-pub(crate) fn scan<P: Pass, L: Ledger>(
-    log: &MultiLog,
+// The places of the selected entries from one offset up to another, counted from the first.
+fn scan<P: Pass, L: Ledger>(
+    selection: &Selection,
     alloc: Global,
     pass: &mut P,
-    expr: &Expr,
+    from: u32,
+    to: u32,
     steps: &mut Steps<L>,
 ) -> Result<Places, Memory>
-    requires of { IsOf (P.held pass.old) log.now }
-    requires suits { IsOfSchema log.now.shape.schema expr.now }
-    requires fit { AreFit log.now.shape (P.held pass.old).view }
-    ensures found { IfOk result (λ found. found ≡ places (holds_of expr.now) (rows_in (P.held pass.old).view.seen)) }
+    requires of { IsOf (P.held pass.old) selection.now.log }
+    requires fit { AreFit selection.now.log.shape (P.held pass.old).view }
+    requires stretch { IsStretch from to (P.held pass.old).view.seen }
+    ensures found { IfOk result (λ found. found ≡ places (holds_of selection.now.expr) (rows_in (stretch from to (P.held pass.old).view.seen))) }
     ensures looked { OnlyLooked (P.held pass.old) (P.held pass.new) }
     ensures loads { CountsLoads (P.held pass.old) (P.held pass.new) steps.old steps.new }
 {
-    let selection = Selection::new(log, alloc, expr);
     let mut found = Vec::new(alloc);
-    for offset in 0..pass.covered() {
+    for offset in from..to {
         if selection.selects(pass, offset, steps)? {
-            found.push(offset)?;
+            found.push(offset - from)?;
         }
     }
     Ok(Places::new(found))
 }
 
-// The quad of the attribute over the entries of which the expression holds. They are asked one after the other, and none is
-// kept.
-pub(crate) fn total_of<P: Pass, L: Ledger>(
-    log: &MultiLog,
-    alloc: Global,
+// The quad of the attribute over the selected entries from one offset up to another.
+fn total_of<P: Pass, L: Ledger>(
+    selection: &Selection,
     pass: &mut P,
     attr: u8,
-    expr: &Expr,
+    from: u32,
+    to: u32,
     steps: &mut Steps<L>,
 ) -> Result<Quad, Memory>
-    requires of { IsOf (P.held pass.old) log.now }
-    requires narrow { IsNarrow log.now.shape.schema attr }
-    requires suits { IsOfSchema log.now.shape.schema expr.now }
-    requires few { length (P.held pass.old).view.seen ≤ log.now.shape.capacity }
-    requires fit { AreFit log.now.shape (P.held pass.old).view }
-    ensures found { IfOk result (λ found. found ≡ total attr expr.now (rows_in (P.held pass.old).view.seen)) }
+    requires of { IsOf (P.held pass.old) selection.now.log }
+    requires lawful { IsShape selection.now.log.shape }
+    requires narrow { IsNarrow selection.now.log.shape.schema attr }
+    requires few { length (P.held pass.old).view.seen ≤ selection.now.log.shape.capacity }
+    requires fit { AreFit selection.now.log.shape (P.held pass.old).view }
+    requires stretch { IsStretch from to (P.held pass.old).view.seen }
+    ensures found { IfOk result (λ found. found ≡ total attr selection.now.expr (rows_in (stretch from to (P.held pass.old).view.seen))) }
     ensures looked { OnlyLooked (P.held pass.old) (P.held pass.new) }
     ensures loads { CountsLoads (P.held pass.old) (P.held pass.new) steps.old steps.new }
 {
-    let selection = Selection::new(log, alloc, expr);
     let mut total = Quad::EMPTY;
-    for place in 0..pass.covered() {
+    for place in from..to {
         if selection.selects(pass, place, steps)? {
             total = total.add(selection.number(pass, place, attr, steps) as u32);
         }
     }
     Ok(total)
+}
+
+/// Whether the question goes over all entries, as a list and a total do, which no lane answers.
+pub fn goes_over_all(ask: &Ask) -> bool
+    ensures { result ≡ goes_over_all_of ask.now }
+{
+    matches!(ask, Ask::List(_) | Ask::Total(..))
+}
+
+/// What a list or a total finds in the entries from the first of these offsets up to the second, which the pass has seen: what it
+/// finds where there are no others, so that places are counted from the first offset. The entries are asked one after the other,
+/// and none is kept. If memory runs out, nothing is found, and the pass has looked at words alone.
+pub fn finding_stretch<P: Pass, L: Ledger>(
+    log: &MultiLog,
+    alloc: Global,
+    pass: &mut P,
+    ask: &Ask,
+    ends: (u32, u32),
+    steps: &mut Steps<L>,
+) -> Result<Finding, Memory>
+    requires of { IsOf (P.held pass.old) log.now }
+    requires all { goes_over_all_of ask.now ≡ true }
+    requires suits { Suits log.now.shape ask.now }
+    requires few { length (P.held pass.old).view.seen ≤ log.now.shape.capacity }
+    requires fit { AreFit log.now.shape (P.held pass.old).view }
+    requires stretch { IsStretch ends.0 ends.1 (P.held pass.old).view.seen }
+    ensures found { IfOk result (λ found. found ≡ finding_in log.now.shape ask.now (rows_in (stretch ends.0 ends.1 (P.held pass.old).view.seen))) }
+    ensures looked { OnlyLooked (P.held pass.old) (P.held pass.new) }
+    ensures loads { CountsLoads (P.held pass.old) (P.held pass.new) steps.old steps.new }
+{
+    let (from, to) = ends;
+    match ask {
+        Ask::List(expr) => {
+            let selection = Selection::new(log, alloc, expr);
+            Ok(Finding::Places(scan(&selection, alloc, pass, from, to, steps)?))
+        }
+        Ask::Total(attr, expr) => {
+            let selection = Selection::new(log, alloc, expr);
+            let total = total_of(&selection, pass, *attr, from, to, steps)?;
+            Ok(Finding::Total(total))
+        }
+        _ => unreachable!(),
+    }
 }

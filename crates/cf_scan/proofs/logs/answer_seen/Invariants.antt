@@ -1,0 +1,4 @@
+use Rattle.cf_scan.proofs.logs.answer_seen.Given as goal
+
+abbrev pub ghosts-answer_walked : goal.ghosts-answer_walked
+ghosts-answer_walked g a = record { name = a.blank.name; parts = a.blank.parts }
