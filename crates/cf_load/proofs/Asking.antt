@@ -1,5 +1,5 @@
 -- The passes by which questions are asked of what the segments' roots have seen.
-use Rattle.std.proofs.Common.{◌≡◌, ◌<◌, ◌≤◌, ◌+◌, ◌*◌, ℕ, List, [], ◌∷◌, ◌++◌, length, get_or, map, Some, Ok, IfOk, slice_get, refl, sym, ap, ap₂, subst, ◌∙◌, arith, length-append, mul_comm, mul-le-mul_left}
+use Rattle.std.proofs.Common.{◌≡◌, ◌<◌, ◌≤◌, ◌+◌, ◌*◌, ◌^◌, ℕ, true, List, [], ◌∷◌, ◌++◌, length, get_or, map, Some, Ok, IfOk, slice_get, refl, sym, ap, ap₂, subst, ◌∙◌, arith, length-append, mul_comm, mul-le-mul_left}
 use Rattle.std.proofs.lemmas.List.{ext_get_or, get_or-map, length-map}
 use Rattle.std.proofs.lemmas.List.Elements.{All-map}
 use Rattle.std.proofs.lemmas.Option.{slice_get-get_or}
@@ -22,13 +22,17 @@ use Rattle.cf_walk.specs.Walks.{OnlyWalked}
 use Rattle.cf_query.proofs.Walking.{walked_seen}
 use Rattle.cf_load.specs.Planned.{IsMarks, as_marks, body_of, marks_on}
 use Rattle.cf_load.specs.Readers.{AreReaders, CanBeAsked, IsQuestion, answer_by, seen_by}
+use Rattle.cf_query.specs.Stretches.{goes_over_all}
 use Rattle.cf_table.specs.Moves.{IsReading}
-use Rattle.cf_segments.specs.Readers.{Reads, behind, log_in}
+use Rattle.cf_scan.specs.Parts.{IsPart, behind}
+use Rattle.cf_scan.specs.declared.parts.Part.{Part}
+use Rattle.cf_segments.specs.Readers.{ArePartsOf, Reads, log_in}
 use Rattle.cf_segments.specs.Segments.{SegmentsValue, IsSegments, KeepsAll, KeepsSegment, all_of, entries_of, seen_of}
 use Rattle.cf_load.specs.declared.finals.Question.{Question}
+use Rattle.cf_load.specs.declared.finals.Question.TheVariants as questions
 use Rattle.cf_segments.specs.declared.segments.Segment.{Segment}
 use Rattle.cf_segments.proofs.Zips.{zip_at, zip_long, zip_get}
-use Rattle.cf_segments.proofs.Kept.{kept_each}
+use Rattle.cf_segments.proofs.Kept.{kept_each, kept_entries, kept_shape}
 
 -- a pass that walked reads the log as before
 pub reader_walked : (log : LogValue) (m n : PassValue) → IsReading log m → OnlyWalked m n → IsReading log n
@@ -96,14 +100,27 @@ module _ (s : SegmentsValue) (is : IsSegments s) (logs : List (Bor LogValue)) (s
       }
 
   -- each question can be asked
+  can_one : (ask : Ask) (q : Question) → Suits s.shape ask → IsQuestion s ask q → CanBeAsked s.shape logs q
+  can_one ask (questions.Walk own readers) suits is = (subst (Suits s.shape) (sym is.0) suits, logs_read readers.items is.1)
+  can_one ask (questions.Scan own parts) suits is =
+      let are = is.2 in record {
+        all = subst (λ (a : Ask). goes_over_all a ≡ true) (sym is.0) is.1;
+        suits = subst (Suits s.shape) (sym is.0) suits;
+        each = subst (λ (ls : List LogValue). All (IsPart s.shape ls) parts.items) (sym same) are.each;
+        few = subst (λ (es : List Entry). length es ≤ 2 ^ 20) (sym are.entries) are.few;
+      }
+
   pub can_ask : (asks : List Ask) (qs : List Question) → All (Suits s.shape) asks → AllZip (IsQuestion s) asks qs → All (CanBeAsked s.shape logs) qs
   can_ask asks qs suit are k q lt =
       let at = zip_get (IsQuestion s) asks qs k no_ask q are lt in
       let long = zip_long (IsQuestion s) asks qs are in
-      record {
-        suits = subst (Suits s.shape) (sym at.ask_is) (suit k no_ask (omega (arith, lt, long)));
-        readers = logs_read (get_or qs k q).readers.items at.readers;
-      }
+      can_one (get_or asks k no_ask) (get_or qs k q) (suit k no_ask (omega (arith, lt, long))) at
+
+-- the answer to a question is that on all entries
+answers_all : (s : SegmentsValue) (ask : Ask) (q : Question) → IsQuestion s ask q → answer_by s.shape q ≡ answer_on s.shape (entries_of s) ask
+answers_all s ask (questions.Walk own readers) is =
+    ap₂ (λ (es : List Entry) (a : Ask). answer_on s.shape es a) (all_seen (all_of s) readers.items is.1) is.0
+answers_all s ask (questions.Scan own parts) is = ap₂ (λ (es : List Entry) (a : Ask). answer_on s.shape es a) (is.2).entries is.0
 
 -- the answers are those on all entries
 pub all_answers : (s : SegmentsValue) (asks : List Ask) (qs : List Question) (results : List (Result Answer AllocError)) (all : List Answer)
@@ -130,8 +147,7 @@ all_answers s asks qs results all are long each is =
     subst (λ (r : Result Answer AllocError). IfOk r (λ a. a ≡ answer_by s.shape (get_or qs k q))) made (each k (Ok d) q there) in
     one
     ∙ (ap (answer_by s.shape) at
-    ∙ (ap₂ (λ (es : List Entry) (a : Ask). answer_on s.shape es a) (all_seen (all_of s) q.readers.items (z.2).readers) (z.2).ask_is
-    ∙ sym (get_or-map f asks k no_ask d low))))
+    ∙ (answers_all s (get_or asks k no_ask) q z.2 ∙ sym (get_or-map f asks k no_ask d low))))
 
 -- what read a segment reads it still, where that keeps what it holds
 all_after : (fs gs : List Segment) (rs : List PassValue) → AllZip KeepsSegment fs gs → AllZip Reads fs rs → AllZip Reads gs rs
@@ -144,15 +160,42 @@ all_after (f ∷ fs) (g ∷ gs) (r ∷ rs) keeps reads = (
   all_after fs gs rs keeps.1 reads.1,
 )
 
-pub questions_after : (s t : SegmentsValue) (asks : List Ask) (qs : List Question) → KeepsAll s t → AllZip (IsQuestion s) asks qs
-    → AllZip (IsQuestion t) asks qs
-questions_after s t [] [] keeps are = are
-questions_after s t [] (q ∷ qs) keeps are = absurd are
-questions_after s t (a ∷ asks) [] keeps are = absurd are
-questions_after s t (a ∷ asks) (q ∷ qs) keeps are = (
-  record { ask_is = (are.0).ask_is; readers = all_after (all_of s) (all_of t) q.readers.items (kept_each s t keeps) (are.0).readers },
-  questions_after s t asks qs keeps are.1,
-)
+-- the parts of segments are those of others with the same logs and entries
+parts_same : (s t : SegmentsValue) (parts : List Part) → t.shape ≡ s.shape → map log_in (all_of t) ≡ map log_in (all_of s) → entries_of t ≡ entries_of s
+    → ArePartsOf s parts → ArePartsOf t parts
+parts_same s t parts shape logs entries are = record {
+  each = subst (λ (h : ShapeValue). All (IsPart h (map log_in (all_of t))) parts) (sym shape)
+      (subst (λ (ls : List LogValue). All (IsPart s.shape ls) parts) (sym logs) are.each);
+  entries = are.entries ∙ sym entries;
+  few = subst (λ (es : List Entry). length es ≤ 2 ^ 20) (sym entries) are.few;
+}
+
+logs_kept : (fs gs : List Segment) → AllZip KeepsSegment fs gs → map log_in gs ≡ map log_in fs
+logs_kept [] [] keeps = refl
+logs_kept [] (g ∷ gs) keeps = absurd keeps
+logs_kept (f ∷ fs) [] keeps = absurd keeps
+logs_kept (f ∷ fs) (g ∷ gs) keeps = ap₂ (λ (l : LogValue) (ls : List LogValue). l ∷ ls) (keeps.0).log (logs_kept fs gs keeps.1)
+
+-- a question of segments is one of them before and after, where they keep what they hold
+module _ (s t : SegmentsValue) (keeps : KeepsAll s t) where
+  same_logs : map log_in (all_of t) ≡ map log_in (all_of s)
+  same_logs = logs_kept (all_of s) (all_of t) (kept_each s t keeps)
+
+  pub question_before : (ask : Ask) (q : Question) → IsQuestion t ask q → IsQuestion s ask q
+  question_before ask (questions.Walk own readers) is = (is.0, all_before (all_of s) (all_of t) readers.items (kept_each s t keeps) is.1)
+  question_before ask (questions.Scan own parts) is =
+      (is.0, is.1, parts_same t s parts.items (sym (kept_shape s t keeps)) (sym same_logs) (sym (kept_entries s t keeps)) is.2)
+
+  question_after : (ask : Ask) (q : Question) → IsQuestion s ask q → IsQuestion t ask q
+  question_after ask (questions.Walk own readers) is = (is.0, all_after (all_of s) (all_of t) readers.items (kept_each s t keeps) is.1)
+  question_after ask (questions.Scan own parts) is =
+      (is.0, is.1, parts_same s t parts.items (kept_shape s t keeps) same_logs (kept_entries s t keeps) is.2)
+
+  pub questions_after : (asks : List Ask) (qs : List Question) → AllZip (IsQuestion s) asks qs → AllZip (IsQuestion t) asks qs
+  questions_after [] [] are = are
+  questions_after [] (q ∷ qs) are = absurd are
+  questions_after (a ∷ asks) [] are = absurd are
+  questions_after (a ∷ asks) (q ∷ qs) are = (question_after a q are.0, questions_after asks qs are.1)
 
 -- each answer about a trigger has marks
 pub are_marks : (shape : ShapeValue) (entries : List Entry) (ts : List Trigger)

@@ -1,18 +1,22 @@
-// The answers on all entries: the questions are asked in threads of their own.
+// The answers on all entries: the questions are asked in threads of their own, and lists and totals are split among more.
 ghost use Rattle.std.specs.Prelude.{◌≡◌, ◌+◌, ◌<◌, ◌≤◌, ℕ, All, Ok, map, length, IfOk, slice_index_or};
 ghost use Rattle.std.specs.List.{AllZip, flat_map};
+ghost use Rattle.std.specs.Thread.{IsSync};
 ghost use Rattle.cf_plain.specs.Asks.{Suits};
 ghost use Rattle.cf_plain.specs.Answered.{answer_on};
 ghost use Rattle.cf_query.specs.Walking.{AsksOne, AsksBucket};
 ghost use Rattle.cf_load.specs.Costs.{CountLoads, bucket_steps_in, key_steps_in};
 ghost use Rattle.cf_load.specs.Planned.{IsMarks, IsPlan, as_marks, body_of, marks_on};
-ghost use Rattle.cf_load.specs.Readers.{AreReaders, CanBeAsked, IsQuestion, answer_by, seen_by};
+ghost use Rattle.cf_load.specs.Readers.{AreReaders, CanBeAsked, CanScan, IsQuestion, answer_by, seen_by};
+ghost use Rattle.cf_scan.specs.Parts.{entries_in};
 ghost use Rattle.cf_segments.specs.Segments.{KeepsAll, entries_of};
 
 use crate::prior::find_behind;
 use crate::{LivePlan, Segments};
 use cf_plain::{Answer, Ask, Body, Finding, Live, Loaded, Marks};
+use cf_query::goes_over_all;
 use cf_row::Memory;
+use cf_scan::{Part, scan_parts};
 use cf_shape::Shape;
 use cf_table::{MultiLog, ReaderPass, Steps};
 use std::alloc::Global;
@@ -20,11 +24,13 @@ use std::marker::Brand;
 use std::sync::ledger::{Blank, Ledger};
 use std::thread::{Threads, map_vec};
 
-// A question, and a pass for each segment by which it is asked.
+// A question, and the passes by which it is asked.
 #[derive(Drop)]
-struct Question {
-    ask: Ask,
-    readers: Vec<ReaderPass>,
+enum Question {
+    // It walks a lane, by a pass for each segment.
+    Walk(Ask, Vec<ReaderPass>),
+    // It goes over all entries, by a pass for each part of them.
+    Scan(Ask, Vec<Part>),
 }
 
 // The question's answer on all that the passes have seen, each in its log.
@@ -56,25 +62,45 @@ fn ask_all<L: Ledger>(
     Ok(Answer { tail, body })
 }
 
-// The question's answer. Nobody reads how many steps it made.
-fn ask_counted<L: Ledger>(
+// The answer to a question that walks a lane. Nobody reads how many steps it made.
+fn answer_walked<L: Ledger>(
     shape: &Shape,
     logs: &[&MultiLog],
     alloc: Global,
-    question: Question,
+    ask: &Ask,
+    readers: Vec<ReaderPass>,
     blank: Blank,
 ) -> Result<Answer, Memory>
-    requires can { CanBeAsked shape.now logs.now question }
+    requires suits { Suits shape.now ask.now }
+    requires readers { AreReaders shape.now logs.now readers.items }
     requires blank { (blank.name ≡ L.name) × (blank.parts ≡ L.parts) × (0 < L.parts) }
-    ensures { IfOk result (λ answer. answer ≡ answer_by shape.now question) }
+    ensures { IfOk result (λ answer. answer ≡ answer_on shape.now (flat_map seen_by readers.items) ask.now) }
 {
     let mut steps = Steps::<L>::new(blank);
-    let Question { ask, mut readers } = question;
-    ask_all(shape, logs, alloc, readers.as_mut_slice(), &ask, &mut steps)
+    let mut readers = readers;
+    ask_all(shape, logs, alloc, readers.as_mut_slice(), ask, &mut steps)
 }
 
-// The question's answer, as `ask_counted` gives it.
-fn ask_one(
+// The answer to a question that goes over all entries.
+fn answer_scanned<R: Threads + Sync>(
+    rt: &R,
+    shape: &Shape,
+    logs: &[&MultiLog],
+    alloc: Global,
+    ask: &Ask,
+    parts: Vec<Part>,
+) -> Result<Answer, Memory>
+    requires can { CanScan shape.now logs.now ask.now parts.items }
+    ensures { IfOk result (λ answer. answer ≡ answer_on shape.now (flat_map entries_in parts.items) ask.now) }
+{
+    let (tail, found) = scan_parts(rt, alloc, shape, logs, ask, parts)?;
+    let body = found.body(alloc, ask)?;
+    Ok(Answer { tail, body })
+}
+
+// The question's answer. One that goes over all entries is split among threads.
+fn ask_one<R: Threads + Sync>(
+    rt: &R,
     shape: &Shape,
     logs: &[&MultiLog],
     alloc: Global,
@@ -83,10 +109,15 @@ fn ask_one(
     requires can { CanBeAsked shape.now logs.now question }
     ensures { IfOk result (λ answer. answer ≡ answer_by shape.now question) }
 {
-    ask_counted::<Brand>(shape, logs, alloc, question, Blank::new(1))
+    match question {
+        Question::Walk(ask, readers) => {
+            answer_walked::<Brand>(shape, logs, alloc, &ask, readers, Blank::new(1))
+        }
+        Question::Scan(ask, parts) => answer_scanned(rt, shape, logs, alloc, &ask, parts),
+    }
 }
 
-// Asks each question in a thread of its own where one can be made.
+// Asks each question in a thread of its own where one can be made. One that goes over all entries starts more.
 fn ask_each<R: Threads + Sync>(
     rt: &R,
     shape: &Shape,
@@ -103,9 +134,9 @@ fn ask_each<R: Threads + Sync>(
         rt,
         questions,
         &|question: Question| -> Result<Answer, Memory>
-            requires { CanBeAsked shape.now logs.now question }
+            requires { IsSync R.row × CanBeAsked shape.now logs.now question }
             ensures { IfOk result (λ answer. answer ≡ answer_by shape.entry.now question) }
-        { ask_one(shape, logs, alloc, question) },
+        { ask_one(rt, shape, logs, alloc, question) },
     )
 }
 
@@ -118,6 +149,24 @@ fn all_given(alloc: Global, answers: Vec<Result<Answer, Memory>>) -> Result<Vec<
         given.push(answer?)?;
     }
     Ok(given)
+}
+
+// The question with passes of its own.
+fn question_of<L: Ledger>(
+    segments: &mut Segments,
+    alloc: Global,
+    ask: Ask,
+    steps: &mut Steps<L>,
+) -> Result<Question, Memory>
+    ensures keeps { KeepsAll segments.old segments.new }
+    ensures is { IfOk result (IsQuestion segments.old ask) }
+{
+    if goes_over_all(&ask) {
+        let parts = segments.parts(alloc, steps)?;
+        return Ok(Question::Scan(ask, parts));
+    }
+    let readers = segments.readers(alloc, steps)?;
+    Ok(Question::Walk(ask, readers))
 }
 
 // The questions, each with passes of its own.
@@ -134,8 +183,8 @@ fn questions_of<L: Ledger>(
     let mut steps = Steps::<L>::new(blank);
     let mut questions = Vec::with_capacity(alloc, asks.len())?;
     for ask in asks {
-        let readers = segments.readers(alloc, &mut steps)?;
-        questions.push(Question { ask, readers })?;
+        let question = question_of(segments, alloc, ask, &mut steps)?;
+        questions.push(question)?;
     }
     Ok(questions)
 }

@@ -10,3 +10,4 @@ pub mod Chains
 pub mod Changing
 pub mod Kept
 pub mod Tagging
+pub mod Cutting

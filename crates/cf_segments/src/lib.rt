@@ -3,6 +3,7 @@
 //! Their entries, end to end, are a log of all rows that they hold.
 #![tactic(auto)]
 
+mod cuts;
 mod readers;
 mod segments;
 #[cfg(test)]

@@ -2,7 +2,8 @@
 ghost use Rattle.std.specs.Prelude.{◌≡◌, ◌∷◌, [], ◌++◌, All, map, IfOk};
 ghost use Rattle.std.specs.List.{AllZip};
 ghost use Rattle.cf_shape.specs.Lanes.{ShapeValue};
-ghost use Rattle.cf_segments.specs.Readers.{Reads, behind, log_in};
+ghost use Rattle.cf_scan.specs.Parts.{behind};
+ghost use Rattle.cf_segments.specs.Readers.{Reads, log_in};
 ghost use Rattle.cf_segments.specs.Segments.{IsSegment, IsSegments, KeepsAll, KeepsSegment, all_of};
 
 use crate::Segments;

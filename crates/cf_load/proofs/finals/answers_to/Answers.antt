@@ -21,7 +21,7 @@ ask_each-requires g c =
       search rules,
       rw (c.shape.ensures.shape, c.as_slice.ensures.value)
           (can_ask t c.logs.ensures.lawful c.in_ok-logs.logs.items c.in_ok-logs.ensures.logs asks c.in_ok-questions.questions.items suit
-          (questions_after s t asks c.in_ok-questions.questions.items keeps c.in_ok-questions.ensures.are)),
+          (questions_after s t keeps asks c.in_ok-questions.questions.items c.in_ok-questions.ensures.are)),
     )
 
 pub returns-clause-answers : goal.returns-clause-answers
@@ -33,6 +33,6 @@ returns-clause-answers g c =
     let keeps = c.in_ok-questions.ensures.keeps in
     let each = rw c.shape.ensures.shape at c.in_ok-answers.ensures.each in
     IfOk-weaker c.all_given.result _ _ (λ given is.
-    all_answers t asks qs c.in_ok-answers.answers.items given.items (questions_after s t asks qs keeps c.in_ok-questions.ensures.are)
+    all_answers t asks qs c.in_ok-answers.answers.items given.items (questions_after s t keeps asks qs c.in_ok-questions.ensures.are)
     c.in_ok-answers.ensures.long each is
     ∙ ap₂ (λ (h : ShapeValue) (es : List Entry). map (answer_on h es) asks) (kept_shape s t keeps) (kept_entries s t keeps)) c.all_given.ensures
