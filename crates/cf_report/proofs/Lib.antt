@@ -7,3 +7,4 @@ pub mod Legal
 pub mod Reported
 pub mod Answering
 pub mod Sizes
+pub mod Listed

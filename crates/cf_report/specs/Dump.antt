@@ -1,5 +1,5 @@
 -- The text of a dump. Numbers are decimal, and a line ends with byte 10.
-use Rattle.std.specs.Prelude.{ℕ, ◌/◌, ◌%◌, ◌^◌, Bool, false, ◌||◌, List, [], ◌∷◌, ◌++◌, length, take, codes, decimal, slice_index_or, if◌then◌else◌}
+use Rattle.std.specs.Prelude.{◌≡◌, ℕ, ◌/◌, ◌%◌, ◌^◌, Bool, false, ◌||◌, List, [], ◌∷◌, ◌++◌, length, take, codes, decimal, slice_index_or, string_bytes, if◌then◌else◌}
 use Rattle.std.specs.List.{flat_map, range_with_len}
 use Rattle.std.specs.Fmt.{digit_glyph}
 use Rattle.std.specs.Int.{w64, to_be_bytes}
@@ -9,6 +9,7 @@ use Rattle.cf_row.specs.declared.row.Value.{Value}
 use Rattle.cf_row.specs.declared.row.Value.TheVariants.{Num, Raw}
 use Rattle.cf_row.specs.declared.schema.Attr.{Attr}
 use Rattle.cf_row.specs.declared.schema.Kind.TheVariants.{U8}
+use Rattle.cf_report.specs.declared.listing.Listing.{Listing}
 
 -- the addresses of IPv4
 abbrev pub is_address : Attr → Bool
@@ -60,3 +61,8 @@ row_line attrs row = decimal row.num ++ (flat_map (field_at attrs row) (range_wi
 -- how many rows there are, and a line for each
 abbrev pub dump_text : List Attr → List RowValue → List ℕ
 dump_text attrs rows = codes "records " ++ (decimal (length rows) ++ (10 ∷ [] ++ flat_map (row_line attrs) rows))
+
+-- the lines of these rows, and how many they are
+pub record IsListing (attrs : List Attr) (rows : List RowValue) (listing : Listing) : Type 0 where
+  pub lines : string_bytes listing.lines ≡ flat_map (row_line attrs) rows
+  pub count : listing.count ≡ length rows

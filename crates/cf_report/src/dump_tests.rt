@@ -5,12 +5,13 @@ use std::alloc::Global;
 use std::test::Fail;
 
 // The dump of one row; None where it doesn't fit.
-fn dump_of_one(alloc: Global, schema: &Schema, row: Row) -> Result<Option<String>, Memory> {
+fn dump_of_one(alloc: Global, schema: &Schema, row: Row) -> Result<Option<Vec<u8>>, Memory> {
     if !fits(schema, &row) {
         return Ok(None);
     }
-    let rows = [row];
-    Ok(Some(dump(alloc, schema, &rows)?))
+    let mut listing = Listing::new(alloc);
+    listing.push(schema, &[row])?;
+    Ok(Some(listing.into_text(alloc)?))
 }
 
 // A segment of TCP in a frame of 54 bytes.
@@ -41,7 +42,7 @@ fn a_row_is_shown_by_the_names_of_its_values(rt: HostRuntime) -> Result<(), Fail
     let wanted = "records 1\n\
             7 ts=1000000000 caplen=54 len=54 dmac=0x2f0000000001 smac=0x2f0000000002 etype=2048 kind=2 tos=0 iplen=40 ttl=64 proto=6 \
                 src=10.0.0.12 dst=10.0.1.10 sport=40219 dport=80 seq=0 ack=0 flags=16 win=1024 vlan=0\n";
-    assert_eq!(rt; text.as_str(), wanted);
+    assert_eq!(rt; text.as_slice(), wanted.as_bytes());
     Ok(())
 }
 

@@ -26,7 +26,7 @@ pub use laws::{
     final_part_has_no_sizes, final_part_is_one, meant_answers_make_reports, reports_are_histories,
 };
 pub use lines::{marks_at, name_at, push_alerts};
-pub use listing::dump;
+pub use listing::Listing;
 pub use snapshot::{push_cut, push_host, push_host_by_tags};
 pub use tags::Tags;
 pub use text::{Form, report, report_by_tags};

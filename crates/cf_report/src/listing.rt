@@ -1,8 +1,9 @@
 // The lines of a dump.
-ghost use Rattle.std.specs.Prelude.{◌≡◌, ◌++◌, ◌∷◌, ◌<◌, [], All, IfOk, OnOk, length, string_bytes};
+ghost use Rattle.std.specs.Prelude.{◌≡◌, ◌++◌, ◌∷◌, ◌+◌, ◌<◌, ◌^◌, List, [], All, IfOk, OnOk, length, string_bytes};
 ghost use Rattle.std.specs.List.{flat_map, range_with_len};
-ghost use Rattle.cf_row.specs.Row.{Fits};
-ghost use Rattle.cf_report.specs.Dump.{field_text, field_at, row_line, dump_text};
+ghost use Rattle.cf_row.specs.Row.{Fits, RowValue};
+ghost use Rattle.cf_row.specs.declared.schema.Attr.{Attr as AttrValue};
+ghost use Rattle.cf_report.specs.Dump.{field_text, field_at, row_line, dump_text, IsListing};
 
 use crate::value::push_value;
 use cf_row::{Attr, Memory, Row, Schema, Value};
@@ -49,16 +50,50 @@ fn push_rows(text: &mut String, schema: &Schema, rows: &[Row]) -> Result<(), Mem
     Ok(())
 }
 
-/// The text of a dump: `records` and their number, and then a line for each row, with its number and ` NAME=VALUE` for
-/// each attribute in the schema's order. `src` and `dst` are dotted (RFC 791), bytes are `0x` and lower-case digits,
-/// `src6`, `src6_low`, `dst6` and `dst6_low` are `0x` and sixteen, and other numbers are decimal.
-pub fn dump(alloc: Global, schema: &Schema, rows: &[Row]) -> Result<String, Memory>
-    requires fit { All (Fits schema.now) rows.now }
-    ensures { IfOk result (λ text. string_bytes text ≡ dump_text schema.now rows.now) }
-{
-    let mut text = String::new(alloc);
-    let count = rows.len();
-    write!(text, "records {count}\n")?;
-    push_rows(&mut text, schema, rows)?;
-    Ok(text)
+/// The text of a dump as its rows come: a line for each, with its number and ` NAME=VALUE` for each attribute in the schema's
+/// order. `src` and `dst` are dotted (RFC 791), bytes are `0x` and lower-case digits, `src6`, `src6_low`, `dst6` and `dst6_low`
+/// are `0x` and sixteen, and other numbers are decimal. No row is kept.
+#[derive(Drop)]
+pub struct Listing {
+    lines: String,
+    // How many they are.
+    count: usize,
+}
+
+impl Listing {
+    /// Before any row.
+    pub fn new(alloc: Global) -> Listing
+        ensures none { (attrs : List AttrValue) → IsListing attrs [] result }
+        ensures count { result.count ≡ 0 }
+    {
+        Listing {
+            lines: String::new(alloc),
+            count: 0,
+        }
+    }
+
+    /// Adds the lines of the next rows of the schema.
+    pub fn push(&mut self, schema: &Schema, rows: &[Row]) -> Result<(), Memory>
+        requires fit { All (Fits schema.now) rows.now }
+        requires few { self.old.count + length rows.now < 2 ^ 64 }
+        ensures listed { OnOk result ((before : List RowValue) → IsListing schema.now before self.old → IsListing schema.now (before ++ rows.now) self.new) }
+        ensures count { OnOk result (self.new.count ≡ self.old.count + length rows.now) }
+    {
+        push_rows(&mut self.lines, schema, rows)?;
+        self.count += rows.len();
+        Ok(())
+    }
+
+    /// `records` and their number, and then the lines.
+    pub fn into_text(self, alloc: Global) -> Result<Vec<u8>, Memory>
+        ensures { IfOk result (λ text. (attrs : List AttrValue) (rows : List RowValue) → IsListing attrs rows self → text.items ≡ dump_text attrs rows) }
+    {
+        let Listing {
+            lines: mut text,
+            count,
+        } = self;
+        let head = format!(in alloc; "records {count}\n")?;
+        text.insert_str(0, &head)?;
+        Ok(text.into_bytes())
+    }
 }

@@ -11,6 +11,7 @@ use Rattle.cf_follow.specs.declared.ending.Ending.{Ending}
 use Rattle.cf_follow.specs.declared.ending.Ending.TheVariants as endings
 use Rattle.cf_follow.specs.declared.watch.Watch.{Watch}
 use Rattle.cf_intake.specs.Files.{HasLeft, Halts, IsReadAs, setups}
+use Rattle.cf_intake.specs.Reads.{view_by}
 use Rattle.cf_intake.specs.Refusals.{line_of}
 use Rattle.cf_intake.specs.declared.refusal.Halt.{Halt}
 use Rattle.cf_intake.specs.declared.refusal.Halt.TheVariants.{Refused, Stopped}
@@ -18,7 +19,7 @@ use Rattle.cf_intake.specs.declared.refusal.Refusal.{Refusal}
 use Rattle.cf_intake.specs.declared.refusal.Refusal.TheVariants as refusals
 use Rattle.cf_intake.specs.declared.refusal.Stop.{Stop}
 use Rattle.cf_intake.specs.declared.refusal.Stop.TheVariants as stops
-use Rattle.cf_outside.specs.Files.{File, Opens}
+use Rattle.cf_outside.specs.Files.{File, Opens, ShelfView}
 use Rattle.cf_outside.specs.Causes.{Rose}
 use Rattle.cf_outside.specs.declared.shelf.OpenFault.{OpenFault}
 use Rattle.cf_outside.specs.declared.shelf.OpenFault.TheVariants as open_faults
@@ -156,22 +157,25 @@ turned_words : (begun : RoundsValue) (rows : List _) (row : _) (why : Refusal) �
 turned_words begun rows row why (full most is) words = cc (is, words)
 turned_words begun rows row why (nodes few lacks is) words = cc (is, words)
 
-due_words : (schema : PacketSchema) (begun : RoundsValue) (truncated : Bool) (before now : Option (List ℕ)) (ending : Ending) (text : List ℕ)
-    → IsDueOfStream schema begun truncated before now ending text → (why : Refusal) → ending ≡ endings.Refused why → why ≡ refusals.Words → ⊥
-due_words schema begun truncated before now ending text (done bytes reads end read taken at_end rows is text_is) why same words = cc (is, same)
-due_words schema begun truncated before now ending text (broken bytes reads at code read taken off is text_is) why same words = cc (is, same, words)
-due_words schema begun truncated before now ending text (turned bytes reads front rest row other read taken away is text_is) why same words =
+due_words : (schema : PacketSchema) (begun : RoundsValue) (truncated : Bool) (before now : ShelfView) (ending : Ending) (said text : List ℕ)
+    → IsDueOfStream schema begun truncated before now ending said text → (why : Refusal) → ending ≡ endings.Refused why → why ≡ refusals.Words → ⊥
+due_words schema begun truncated before now ending said text (done mid bytes reads end read at_end took rows is said_is text_is) why same words =
+    cc (is, same)
+due_words schema begun truncated before now ending said text (broken mid bytes reads at code read off took is said_is text_is) why same words =
+    cc (is, same, words)
+due_words schema begun truncated before now ending said text (turned bytes reads front rest row other read took away is said_is text_is) why same words =
     let which : other ≡ why = cc (is, same) in
     turned_words begun _ row other away (which ∙ words)
-due_words schema begun truncated before now ending text (unread bytes reads read taken is text_is) why same words = cc (is, same)
+due_words schema begun truncated before now ending said text (unread mid bytes reads read fails sound took is said_is text_is) why same words =
+    cc (is, same)
 
-followed_words : (schema : PacketSchema) (begun : RoundsValue) (truncated : Bool) (before now held kept : Option (List ℕ)) (ending : Ending)
+followed_words : (schema : PacketSchema) (begun : RoundsValue) (truncated : Bool) (before now : ShelfView) (held kept : Option (List ℕ)) (ending : Ending)
     → IsFollowed schema begun truncated before now held kept ending → (why : Refusal) → ending ≡ endings.Refused why → why ≡ refusals.Words → ⊥
-followed_words schema begun truncated before now held kept ending (wrote_all text due appends) why same words =
-    due_words schema begun truncated before now ending text due why same words
-followed_words schema begun truncated before now held kept ending (cut_text due text is of front) why same words = cc (is, same)
-followed_words schema begun truncated before now held kept ending (cut_round bytes reads is read taken front) why same words = cc (is, same)
-followed_words schema begun truncated before now held kept ending (out bytes more reads is read taken appends) why same words = cc (is, same)
+followed_words schema begun truncated before now held kept ending (wrote_all said text due appends) why same words =
+    due_words schema begun truncated before now ending said text due why same words
+followed_words schema begun truncated before now held kept ending (cut_text due said text is of past) why same words = cc (is, same)
+followed_words schema begun truncated before now held kept ending (cut_round bytes reads last is read took past) why same words = cc (is, same)
+followed_words schema begun truncated before now held kept ending (out mid bytes reads is read ahead took appends) why same words = cc (is, same)
 
 -- an ending of the devices or for want of memory
 ending_yields : (ending : Ending) → (ending ≡ endings.Done) ⊎ EndingYields ending → (ending_status ending ≡ statuses.Done) ⊎ Yields (ending_status ending)
@@ -181,13 +185,14 @@ ending_yields ending (inr (inr (inl is))) = inr (inr (inl (ap (λ (e : Ending). 
 ending_yields ending (inr (inr (inr is))) = inr (inr (inr (ap (λ (e : Ending). ending_status e) is)))
 
 -- The watch has begun, and was followed.
-module _ (call : WatchCall) (opened after held now : Option (List ℕ)) (watching : Watch) (ending : Ending) (status : Status)
+module _ (call : WatchCall) (opened after moved moved_then held now : Option (List ℕ)) (watching : Watch) (ending : Ending) (status : Status)
     (is : status ≡ ending_status ending)
-    (followed : IsFollowed watching.reads.schema watching.rounds watching.truncated opened after held now ending) where
+    (followed : IsFollowed watching.reads.schema watching.rounds watching.truncated (view_by opened moved) (view_by after moved_then) held now ending) where
   pub followed_by : IsByCall (Some (watch call)) status []
   followed_by = (
     λ words. ending_words ending
-        (followed_words watching.reads.schema watching.rounds watching.truncated opened after held now ending followed) (sym is ∙ words),
+        (followed_words watching.reads.schema watching.rounds watching.truncated (view_by opened moved) (view_by after moved_then) held now ending followed)
+        (sym is ∙ words),
     refl,
   )
 
@@ -202,8 +207,12 @@ module _ (call : WatchCall) (opened after held now : Option (List ℕ)) (watchin
         set = begun.set;
         kind = begun.kind;
         opens = begun.opens;
-        followed = subst (λ (t : Bool). IsFollowed watching.reads.schema (begun_for call begun.setup) t opened after held now ending) begun.truncated
-            (subst (λ (r : RoundsValue). IsFollowed watching.reads.schema r watching.truncated opened after held now ending) begun.begun followed);
+        moved = moved;
+        moved_then = moved_then;
+        followed = subst (λ (t : Bool). IsFollowed watching.reads.schema (begun_for call begun.setup) t (view_by opened moved) (view_by after moved_then) held now
+            ending) begun.truncated
+            (subst (λ (r : RoundsValue). IsFollowed watching.reads.schema r watching.truncated (view_by opened moved) (view_by after moved_then) held now ending)
+            begun.begun followed);
         status_is = is;
       })
 

@@ -5,6 +5,7 @@ use Rattle.cf_command.specs.Call.Call.{run, synth, dump, snapshot, watch}
 use Rattle.cf_follow.specs.Followed.{IsFollowed, begun_with}
 use Rattle.cf_follow.specs.declared.ending.Ending.{Ending}
 use Rattle.cf_intake.specs.Files.{HasFile, HasLeft, IsFileAs, setups}
+use Rattle.cf_intake.specs.Reads.{view_by}
 use Rattle.cf_outside.specs.Files.{File}
 use Rattle.cf_packet6.specs.declared.PacketSchema.{PacketSchema}
 use Rattle.cf_rounds.specs.Held.{RoundsValue}
@@ -22,7 +23,8 @@ abbrev pub IsOpened : Option (List File) → List ℕ → Option (List ℕ) → 
 IsOpened told name now = (file : List ℕ) × HasFile told name (Some file) × HasLeft told now (Some file)
 
 -- A setup over packets was read, the capture was opened, and followed by the setup, from what was opened to what is left. With `Done` all
--- of it was read, and the text of the rounds was written, for some way in which the reads cut it: see `IsFollowed`.
+-- of it was read, and the text of the rounds was written, for some way in which reads cut it: see `IsFollowed`. That they are the reads
+-- of the shelf is said by the call that follows (`followed`).
 pub record IsWatched (told : Option (List File)) (call : WatchCall) (status : Status) (held now after : Option (List ℕ)) : Type 0 where
   pub setup : SetupValue
   pub schema : PacketSchema
@@ -31,7 +33,9 @@ pub record IsWatched (told : Option (List File)) (call : WatchCall) (status : St
   pub set : IsFileAs setups told call.setup setup
   pub kind : setup.source ≡ Packets schema
   pub opens : IsOpened told call.capture opened
-  pub followed : IsFollowed schema (begun_for call setup) call.truncated opened after held now ending
+  pub moved : Option (List ℕ)
+  pub moved_then : Option (List ℕ)
+  pub followed : IsFollowed schema (begun_for call setup) call.truncated (view_by opened moved) (view_by after moved_then) held now ending
   pub status_is : status ≡ ending_status ending
 
 -- the call is no watch, so all its text is made before the first write

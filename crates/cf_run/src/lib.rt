@@ -5,30 +5,15 @@
 //! were opened, and `specs/Answers.antt` for what the status says of that.
 #![tactic(auto)]
 
-#[cfg(test)]
-mod packet6_tests;
-#[cfg(test)]
-mod piece_tests;
+mod listed;
 mod prepare;
 mod program;
 mod reply;
-#[cfg(test)]
-mod row_tests;
-#[cfg(test)]
-mod segment_tests;
 mod snapshot;
-#[cfg(test)]
-mod snapshot_tests;
 mod status;
-#[cfg(test)]
-mod tests;
 mod top;
 mod truncated;
-#[cfg(test)]
-mod truncated_tests;
 mod watched;
-#[cfg(test)]
-mod watched_tests;
 
 pub use program::start;
 pub use status::{Outcome, Status};

@@ -7,17 +7,16 @@ ghost use Rattle.cf_run.specs.Parts.{EndsWith, IsPrepared};
 ghost use Rattle.cf_run.specs.Watched.{IsNoWatch};
 ghost use Rattle.cf_fill.specs.Work.{draws as draws_from};
 
+use crate::listed::list_rows;
 use crate::reply::{WorkReply, refused};
 use crate::snapshot::{cut_text, is_some_full, load_hosts};
 use crate::truncated::with_truncated;
 use cf_command::{Command, DumpCommand, LogSizes, RunCommand, SnapshotCommand, SynthCommand};
 use cf_fill::{Context, Product, fill_drawn, fill_rows, final_of, opened, report_of};
-use cf_intake::{
-    Format, Halt, Manner, Refusal, Stop, collect_rows, format_of, read_hosts, read_setup,
-};
+use cf_intake::{Halt, Manner, Refusal, Stop, format_of, read_hosts, read_setup};
 use cf_outside::{Gate, Shelf};
 use cf_packet6::PacketSchema;
-use cf_report::dump;
+use cf_report::Listing;
 use cf_setup::Source;
 use std::alloc::Global;
 use std::thread::Threads;
@@ -94,7 +93,7 @@ fn synth_answers<R: Threads + Sync, F: Shelf, G: Gate>(
     }
 }
 
-// The rows of a dump.
+// The lines of a dump.
 fn dump_listing<F: Shelf>(
     alloc: Global,
     command: &DumpCommand,
@@ -104,14 +103,14 @@ fn dump_listing<F: Shelf>(
     ensures ends { EndsWith (F.files shelf.old) (Some (dump (dump_by command.now))) (F.rest shelf.old) (F.rest shelf.new) result }
     ensures cause { HasHaltCause (F.faults shelf.old) (F.faults shelf.new) result }
 {
-    let schema = command.schema.schema(alloc)?;
-    let manner = Manner {
-        format: Format::Packets(command.schema),
-        truncated: command.truncated,
-    };
-    let captured = collect_rows(alloc, shelf, command.capture, manner)?;
-    let listing = dump(alloc, &schema, &captured.rows)?;
-    let text = with_truncated(alloc, listing.into_bytes(), captured.cut)?;
+    let mut listing = Listing::new(alloc);
+    let DumpCommand {
+        capture,
+        schema,
+        truncated,
+    } = *command;
+    let cut = list_rows(alloc, shelf, capture, schema, truncated, &mut listing)?;
+    let text = with_truncated(alloc, listing.into_text(alloc)?, cut)?;
     let seals = Vec::new(alloc);
     Ok(Product { text, seals })
 }

@@ -34,38 +34,60 @@ const INTERFACE: [u8; 20] = [
     1, 0, 0, 0, 0x14, 0, 0, 0, 1, 0, 0, 0, 0, 0, 0, 0, 0x14, 0, 0, 0,
 ];
 
-// An enhanced packet without bytes of that interface, of which so many bytes were on the wire.
-fn packet(alloc: Global, interface: u8, length: u8) -> Result<Vec<u8>, Memory> {
-    let mut block = [6, 0, 0, 0, 0x20, 0, 0, 0, interface, 0, 0, 0].to_vec(alloc)?;
+// An enhanced packet without bytes of that interface, of which 7 were on the wire.
+fn packet(alloc: Global, interface: u32) -> Result<Vec<u8>, Memory> {
+    let mut block = [6, 0, 0, 0, 0x20, 0, 0, 0].to_vec(alloc)?;
+    block.extend_from_slice(&interface.to_le_bytes())?;
     block.extend_from_slice(&[0; 12])?;
-    block.extend_from_slice(&[length, 0, 0, 0, 0x20, 0, 0, 0])?;
+    block.extend_from_slice(&[7, 0, 0, 0, 0x20, 0, 0, 0])?;
     Ok(block)
 }
+
+// A section of so many interfaces, with a packet of each of the last three.
+fn last_three(alloc: Global, count: u32) -> Result<Vec<u8>, Memory> {
+    let mut capture = SECTION.to_vec(alloc)?;
+    for _ in 0..count {
+        capture.extend_from_slice(&INTERFACE)?;
+    }
+    for interface in count.saturating_sub(3)..count {
+        let block = packet(alloc, interface)?;
+        capture.extend_from_slice(&block)?;
+    }
+    Ok(capture)
+}
+
+const SETUP: &[u8] = b"schema packet\nask size total len *\n";
+
+const TOTAL: &str = "ask size total count 3 sum 21 least 7 greatest 7\n";
 
 #[test]
 fn packets_of_many_interfaces_are_read(rt: HostRuntime) -> Result<(), Fail> {
     let alloc = rt.alloc();
     let words = ["run", "--setup", "s", "--writers", "1", "c"];
-    let setup = b"schema packet\nask size total len *\n".as_slice();
-    for count in [3u8, 200] {
-        let mut capture = SECTION.to_vec(alloc)?;
-        for _ in 0..count {
-            capture.extend_from_slice(&INTERFACE)?;
-        }
-        for interface in 0..count {
-            let block = packet(alloc, interface, 7)?;
-            capture.extend_from_slice(&block)?;
-        }
-        let size = u32::from(count) * 7;
-        let text = format!(in alloc;
-            "records {count}\nask size total count {count} sum {size} least 7 greatest 7\norder 0*{count}\n"
-        )?;
-        expect(&rt, alloc, &words, (setup, &capture), (0, text.as_bytes()))?;
+    let text = format!(in alloc; "records 3\n{TOTAL}order 0*3\n")?;
+    for count in [3, 255, 256, 65_537] {
+        let mut capture = last_three(alloc, count)?;
+        expect(&rt, alloc, &words, (SETUP, &capture), (0, text.as_bytes()))?;
         // One more names an interface that its section has not.
-        let block = packet(alloc, count, 7)?;
+        let block = packet(alloc, count)?;
         capture.extend_from_slice(&block)?;
-        let line = format!(in alloc; "capture: record {count} code 28\n")?;
-        expect(&rt, alloc, &words, (setup, &capture), (3, line.as_bytes()))?;
+        let line = b"capture: record 3 code 28\n";
+        expect(&rt, alloc, &words, (SETUP, &capture), (3, line))?;
     }
+    Ok(())
+}
+
+#[test]
+fn a_watched_section_has_at_most_65536_interfaces(rt: HostRuntime) -> Result<(), Fail> {
+    let alloc = rt.alloc();
+    let text = format!(in alloc; "records 3\nwindow 0\n{TOTAL}")?;
+    let words = ["watch", "--every", "0", "--setup", "s", "c"];
+    let truncated = ["watch", "--truncated", "--setup", "s", "c"];
+    let line = b"capture: record 0 code 29\n";
+    let full = last_three(alloc, 65_536)?;
+    expect(&rt, alloc, &words, (SETUP, &full), (0, text.as_bytes()))?;
+    let over = last_three(alloc, 65_537)?;
+    expect(&rt, alloc, &words, (SETUP, &over), (3, line))?;
+    expect(&rt, alloc, &truncated, (SETUP, &over), (3, line))?;
     Ok(())
 }

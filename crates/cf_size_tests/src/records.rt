@@ -31,6 +31,32 @@ fn more_records_than_a_segment_holds_are_read(rt: HostRuntime) -> Result<(), Fai
     Ok(())
 }
 
+#[test]
+fn records_above_the_capacity_are_counted_and_judged(rt: HostRuntime) -> Result<(), Fail> {
+    let alloc = rt.alloc();
+    let setup = b"schema records ts:u64,len:u32\nask twos list len==2\n".as_slice();
+    let mut file = b"ts,len\n".to_vec(alloc)?;
+    for _ in 0..70_000u32 {
+        file.extend_from_slice(b"0,1\n")?;
+    }
+    let words = [
+        "run",
+        "--setup",
+        "s",
+        "--writers",
+        "1",
+        "--capacity",
+        "1000",
+        "c",
+    ];
+    let full = b"full: more than 1000 records\n".as_slice();
+    expect(&rt, alloc, &words, (setup, &file), (6, full))?;
+    file.extend_from_slice(b"0,x\n")?;
+    let line = b"capture: record 70000 code 14\n".as_slice();
+    expect(&rt, alloc, &words, (setup, &file), (3, line))?;
+    Ok(())
+}
+
 const FOUR: &[u8] = b"ts,src,len\n0,10.0.0.1,100\n0,10.0.0.2,70\n0,10.0.0.1,20\n0,10.0.0.3,70\n";
 
 #[test]

@@ -133,6 +133,10 @@ fn errors_of_files_have_their_texts(rt: HostRuntime) -> Result<(), Fail> {
             NgFault::NoInterface(7),
             "the interface of packet 7 isn't one of its section",
         ),
+        (
+            NgFault::TooManyInterfaces(7),
+            "a section has more than 65536 interfaces, after 7 frames",
+        ),
         (NgFault::Memory, OUT),
     ];
     compare(&rt, alloc, &pcapng)?;

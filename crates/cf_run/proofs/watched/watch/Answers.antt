@@ -16,27 +16,31 @@ follow-requires-clause-ready g c = c.in-Ok.ensures.begins.ready
 
 pub returns-in-Ok-clause-written : goal.returns-in-Ok-clause-written
 returns-in-Ok-clause-written g c =
-    followed_written (watch_by c.args.command.now) (g.F.Shelf.rest c.begin.new.shelf) (g.F.Shelf.rest c.follow.new.shelf) (g.K.Sink.held c.args.sink.now)
+    followed_written (watch_by c.args.command.now) (g.F.Shelf.rest c.begin.new.shelf) (g.F.Shelf.rest c.follow.new.shelf)
+    (g.F.Shelf.moved c.begin.new.shelf) (g.F.Shelf.moved c.follow.new.shelf) (g.K.Sink.held c.args.sink.now)
     (g.K.Sink.held c.follow.new.sink)
     c.in-Ok.watching c.follow.result c.from.result c.from.ensures c.follow.ensures.followed
     (g.F.Shelf.files c.args.shelf.now) (g.F.Shelf.rest c.args.shelf.now) c.in-Ok.ensures.begins
 
 pub returns-in-Ok-clause-by_command : goal.returns-in-Ok-clause-by_command
 returns-in-Ok-clause-by_command g c =
-    followed_by (watch_by c.args.command.now) (g.F.Shelf.rest c.begin.new.shelf) (g.F.Shelf.rest c.follow.new.shelf) (g.K.Sink.held c.args.sink.now)
+    followed_by (watch_by c.args.command.now) (g.F.Shelf.rest c.begin.new.shelf) (g.F.Shelf.rest c.follow.new.shelf)
+    (g.F.Shelf.moved c.begin.new.shelf) (g.F.Shelf.moved c.follow.new.shelf) (g.K.Sink.held c.args.sink.now)
     (g.K.Sink.held c.follow.new.sink)
     c.in-Ok.watching c.follow.result c.from.result c.from.ensures c.follow.ensures.followed
 
 pub returns-in-Ok-clause-decided : goal.returns-in-Ok-clause-decided
 returns-in-Ok-clause-decided g c =
-    followed_decided (watch_by c.args.command.now) (g.F.Shelf.rest c.begin.new.shelf) (g.F.Shelf.rest c.follow.new.shelf) (g.K.Sink.held c.args.sink.now)
+    followed_decided (watch_by c.args.command.now) (g.F.Shelf.rest c.begin.new.shelf) (g.F.Shelf.rest c.follow.new.shelf)
+    (g.F.Shelf.moved c.begin.new.shelf) (g.F.Shelf.moved c.follow.new.shelf) (g.K.Sink.held c.args.sink.now)
     (g.K.Sink.held c.follow.new.sink)
     c.in-Ok.watching c.follow.result c.from.result c.from.ensures c.follow.ensures.followed
     (g.F.Shelf.files c.args.shelf.now) c.in-Ok.ensures.begins
 
 pub returns-in-Ok-clause-complete : goal.returns-in-Ok-clause-complete
 returns-in-Ok-clause-complete g c =
-    followed_complete (watch_by c.args.command.now) (g.F.Shelf.rest c.begin.new.shelf) (g.F.Shelf.rest c.follow.new.shelf) (g.K.Sink.held c.args.sink.now)
+    followed_complete (watch_by c.args.command.now) (g.F.Shelf.rest c.begin.new.shelf) (g.F.Shelf.rest c.follow.new.shelf)
+    (g.F.Shelf.moved c.begin.new.shelf) (g.F.Shelf.moved c.follow.new.shelf) (g.K.Sink.held c.args.sink.now)
     (g.K.Sink.held c.follow.new.sink)
     c.in-Ok.watching c.follow.result c.from.result c.from.ensures c.follow.ensures.followed
     (g.F.Shelf.files c.args.shelf.now) c.in-Ok.ensures.begins c.follow.ensures.complete

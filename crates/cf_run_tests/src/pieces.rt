@@ -1,9 +1,9 @@
 // Captures of several pieces and several batches.
 ghost use Rattle.std.specs.Prelude.{◌<◌};
 
-use crate::run;
-use crate::tests::{records, shelf_of};
+use crate::reports::{records, shelf_of};
 use cf_outside::{FreeGate, MemSink};
+use cf_run::run;
 use std::alloc::Global;
 use std::process::Abort;
 use std::test::Fail;

@@ -1,8 +1,8 @@
 // Rows of files and words with what is written of them.
-use crate::tests::{HEADER, Listing, SETUP, SYNTH_X, expect, shelf_of, two_frames};
-use crate::{Status, run};
+use crate::reports::{HEADER, Listing, SETUP, SYNTH_X, expect, shelf_of, two_frames};
 use cf_outside::{FreeGate, MemSink, SteadySink};
 use cf_row::Memory;
+use cf_run::{Status, run};
 use std::alloc::Global;
 use std::test::Fail;
 

@@ -1,8 +1,8 @@
 // Snapshots over several hosts.
-use crate::run;
-use crate::tests::{BLOCKS, HEADER, SETUP, shelf_of, two_frames};
+use crate::reports::{BLOCKS, HEADER, SETUP, shelf_of, two_frames};
 use cf_outside::{FreeGate, MemSink};
 use cf_row::Memory;
+use cf_run::run;
 use std::alloc::Global;
 use std::process::Abort;
 use std::test::Fail;

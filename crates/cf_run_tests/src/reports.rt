@@ -1,10 +1,10 @@
 ghost use Rattle.std.specs.Prelude.{◌<◌};
 
-use super::*;
 use cf_outside::{
     Failed, FreeGate, Held, HoldGate, MemShelf, MemSink, OpenFault, Shelf, SteadyShelf, SteadySink,
 };
 use cf_row::Memory;
+use cf_run::{Status, run, run_steadily};
 use std::alloc::Global;
 use std::process::Abort;
 use std::test::Fail;
@@ -691,6 +691,8 @@ impl Shelf for Listing {
     ghost files = { λ _. None };
 
     ghost rest = { λ _. None };
+
+    ghost moved = { λ _. None };
 
     ghost faults = { λ s. s.shelf.script.faults };
 

@@ -1,8 +1,8 @@
 // Captures of IPv6, and of links that are read under `packet6` alone.
-use crate::run;
-use crate::tests::{BLOCKS, HEADER, SETUP, expect, shelf_of, two_frames};
+use crate::reports::{BLOCKS, HEADER, SETUP, expect, shelf_of, two_frames};
 use cf_outside::{FreeGate, MemSink};
 use cf_row::Memory;
+use cf_run::run;
 use std::alloc::Global;
 use std::test::Fail;
 

@@ -1,7 +1,7 @@
 // Captures that end within a record, read as truncated or not.
-use crate::run;
-use crate::tests::{BLOCKS, SETUP, expect, shelf_of, two_frames};
+use crate::reports::{BLOCKS, SETUP, expect, shelf_of, two_frames};
 use cf_outside::{FreeGate, MemSink};
+use cf_run::run;
 use std::test::Fail;
 
 const RUN: [&str; 7] = ["run", "--setup", "s", "--writers", "1", "--truncated", "c"];

@@ -1,5 +1,5 @@
 // Logs that go on through several segments.
-use crate::tests::expect;
+use crate::reports::expect;
 use std::test::Fail;
 
 #[test]

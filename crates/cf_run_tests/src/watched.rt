@@ -1,9 +1,9 @@
 // Captures are watched.
 ghost use Rattle.std.specs.Prelude.{◌<◌};
 
-use crate::run;
 use cf_outside::{FreeGate, MemShelf, MemSink};
 use cf_row::Memory;
+use cf_run::run;
 use std::alloc::Global;
 use std::process::Abort;
 use std::test::Fail;
