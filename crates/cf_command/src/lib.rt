@@ -3,8 +3,6 @@
 
 mod number;
 mod table;
-#[cfg(test)]
-mod tests;
 mod words;
 
 use std::alloc::AllocError;

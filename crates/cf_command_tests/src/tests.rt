@@ -1,4 +1,4 @@
-use super::*;
+use cf_command::{Command, Memory, command_of};
 use cf_packet6::PacketSchema;
 use std::alloc::Global;
 use std::test::Fail;
