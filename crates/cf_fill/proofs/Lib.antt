@@ -4,3 +4,5 @@ pub mod Logs
 pub mod Sealing
 pub mod Filled
 pub mod Taken
+pub mod Both
+pub mod Front

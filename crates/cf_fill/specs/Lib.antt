@@ -3,3 +3,4 @@ pub mod Needs
 pub mod Seals
 pub mod Logs
 pub mod Filling
+pub mod Taking

@@ -7,10 +7,11 @@ ghost use Rattle.cf_intake.specs.Causes.{HasHaltCause, HasStopCause};
 ghost use Rattle.cf_intake.specs.Parts.{source_in, attrs_in};
 ghost use Rattle.cf_intake.specs.Reading.{HasMore, IfReadOn, ReadsOn, ReadsRows, StopsOn, TakesPackets, pieces_left};
 ghost use Rattle.cf_fill.specs.Filling.{Fills, IsFilled, IsFilling, KeepsLog, most_waiting, rows_waiting};
+ghost use Rattle.cf_fill.specs.Taking.{GivesBoth};
 
 use crate::context::Context;
 use crate::filling::Filling;
-use cf_intake::{Format, Halt, Manner, Pieces, Stop, open_packets, read_lines};
+use cf_intake::{Format, Halt, Manner, Pieces, Stop, first_lines, open_packets};
 use cf_outside::{Gate, Shelf};
 use cf_packet6::PacketSchema;
 use cf_row::{Memory, Row};
@@ -68,6 +69,15 @@ fn take_beside<R: Threads + Sync, F: Shelf, G: Gate>(
     join_mut(rt, &mut take, &mut read)
 }
 
+// What was read, once the rows before it are taken. A fault of the shelf goes before want of memory in the log.
+fn both(taken: Result<(), Memory>, given: Result<Vec<Row>, Stop>) -> Result<Vec<Row>, Halt>
+    ensures { GivesBoth taken given result }
+{
+    let rows = given?;
+    taken?;
+    Ok(rows)
+}
+
 /// Fills the log with the rows of the opened capture by that schema as they come. It is read to its end, or until 2^32 bytes were taken. One that may
 /// be truncated says within which record it ends, if it does.
 pub(crate) fn fill_packets<R: Threads + Sync, F: Shelf, G: Gate>(
@@ -87,8 +97,7 @@ pub(crate) fn fill_packets<R: Threads + Sync, F: Shelf, G: Gate>(
     let (mut pieces, mut rows) = Pieces::begin(context.alloc, shelf, schema)?;
     while pieces.has_more() {
         let (taken, given) = take_beside(context, shelf, filling, &mut rows, &mut pieces);
-        rows = given?;
-        taken?;
+        rows = both(taken, given)?;
     }
     filling.take_rows(context, &mut rows)?;
     pieces.finish(truncated)
@@ -117,7 +126,9 @@ pub fn fill_rows<R: Threads + Sync, F: Shelf, G: Gate>(
             fill_packets(context, shelf, schema, manner.truncated, filling)
         }
         Format::Records(schema) => {
-            let mut rows = read_lines(context.alloc, shelf, name, schema)?;
+            // One row more than there is room for shows that there are more.
+            let most = filling.room() as usize + 1;
+            let mut rows = first_lines(context.alloc, shelf, name, schema, most)?;
             filling.take_rows(context, &mut rows)?;
             Ok(None)
         }

@@ -130,6 +130,13 @@ impl Filling {
         self.count > self.segments.room()
     }
 
+    /// How many rows the log may hold.
+    pub fn room(&self) -> u32
+        ensures { result ≡ room_of self.now.segments }
+    {
+        self.segments.room()
+    }
+
     /// How many rows end the next batch, behind those that wait once so many more came.
     pub fn wanted(&self, more: usize) -> usize
         ensures { result + (length self.now.waiting + more) % 4096 ≡ 4096 }

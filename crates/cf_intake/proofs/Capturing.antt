@@ -76,7 +76,7 @@ packets_longer schema bytes rest at code whole has =
 
 -- One case.
 
-faults_same : (scope : Scope) (b : Bool) (bytes : List ℕ) (at code at' code' : ℕ) → HasFaultIn scope b bytes at code → HasFaultIn scope b bytes at' code'
+pub faults_same : (scope : Scope) (b : Bool) (bytes : List ℕ) (at code at' code' : ℕ) → HasFaultIn scope b bytes at code → HasFaultIn scope b bytes at' code'
     → (at ≡ at')
     × (code ≡ code')
 faults_same scope true bytes at code at' code' p q =

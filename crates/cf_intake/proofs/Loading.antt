@@ -1,21 +1,22 @@
 -- From a file that is read to what it says.
-use Rattle.std.proofs.Common.{◌≡◌, ◌⊎◌, ℕ, ◌+◌, ◌<◌, ◌^◌, Bool, false, List, [], ◌++◌, length, Option, Some, None, Result, Ok, Err, refl, ap, sym, ◌∙◌, inl, inr, MatchResult, subst, arith, append-nil, length-append, Vec}
+use Rattle.std.proofs.Common.{◌≡◌, ◌⊎◌, ℕ, ◌+◌, ◌<◌, ◌^◌, Bool, false, List, [], ◌++◌, length, Option, Some, None, Result, Ok, Err, refl, ap, sym, ◌∙◌, inl, inr, All, IfOk, MatchResult, subst, arith, append-nil, length-append, Vec}
 use Rattle.std.specs.declared.alloc.Global.{Global}
-use Rattle.cf_row.specs.Row.{RowValue}
+use Rattle.std.proofs.lemmas.List.Elements.{All-take}
+use Rattle.cf_row.specs.Row.{Fits, RowValue}
 use Rattle.cf_packet6.specs.declared.PacketSchema.{PacketSchema}
 use Rattle.cf_packet6.specs.Schema6.{attrs_by}
 use Rattle.cf_setup.specs.declared.source.Source.{Source}
 use Rattle.cf_setup.specs.declared.source.Source.TheVariants.{Packets, Records}
 use Rattle.cf_row.specs.declared.schema.Attr.{Attr}
 use Rattle.cf_outside.specs.Files.{File, Opens}
-use Rattle.cf_records.specs.Records.{HasRecordsFault, IsRecordFile}
+use Rattle.cf_records.specs.Records.{AreFirst, HasRecordsFault, IsRecordFile}
 use Rattle.cf_records.specs.declared.fault.RecordFault.{RecordFault}
 use Rattle.cf_records.specs.declared.fault.RecordFault.TheVariants as records
 use Rattle.cf_intake.specs.Devices.{IsFileRead, ReadsFile}
 use Rattle.cf_intake.specs.Faults.{HasLineFault, HasFaultBy, HasFaultTo}
 use Rattle.cf_intake.specs.Files.{HasFile, HasLeft, Grammar, captures, IsReadAs, IsFileRefused, Halts}
 use Rattle.cf_intake.specs.Files.IsFileRefused.{missing, broken}
-use Rattle.cf_intake.specs.Parts.{IsBad, captured}
+use Rattle.cf_intake.specs.Parts.{HasFirst, IsBad, captured}
 use Rattle.cf_intake.specs.Reading.{TakesPackets, ReadsRows}
 use Rattle.cf_intake.specs.Refusals.{unread}
 use Rattle.cf_intake.specs.Rows.{CaptureValue, AreRowsTo, IsTruncatedAt, limit_by}
@@ -150,6 +151,26 @@ lines_read attrs told name bytes before now (Ok rows) read says =
     rows_said Records false attrs told name bytes now (record { rows = rows.items; cut = None }) read says
 lines_read attrs told name bytes before now (Err halt) read bad =
     rows_unsaid Records false attrs told name bytes before now halt read (bad_lines attrs bytes halt bad)
+
+-- of which the first are kept
+pub first_read : (attrs : List Attr) (told : Option (List File)) (name bytes : List ℕ) (before now : Option (List ℕ)) (most : ℕ)
+    (result : Result (Vec RowValue Global) Halt) → IsFileRead told name (2 ^ 24) now bytes
+    → MatchResult result (λ rows. AreFirst attrs bytes most rows.items) (IsBad (HasLineFault attrs bytes))
+    → MatchResult result (λ rows. HasFirst attrs told name now most rows.items) (Halts (captures Records false attrs) told name before now)
+first_read attrs told name bytes before now most (Ok kept) read says = record {
+  rows = says.rows;
+  read = rows_said Records false attrs told name bytes now (record { rows = says.rows; cut = None }) read says.file;
+  fit = says.fit;
+  first_are = says.first_are;
+}
+first_read attrs told name bytes before now most (Err halt) read bad =
+    rows_unsaid Records false attrs told name bytes before now halt read (bad_lines attrs bytes halt bad)
+
+pub first_fit : (attrs : List Attr) (bytes : List ℕ) (most : ℕ) (result : Result (Vec RowValue Global) Halt)
+    → MatchResult result (λ rows. AreFirst attrs bytes most rows.items) (IsBad (HasLineFault attrs bytes)) → IfOk result (λ rows. All (Fits attrs) rows.items)
+first_fit attrs bytes most (Ok kept) says =
+    subst (λ (rows : List RowValue). All (Fits attrs) rows) (sym says.first_are) (All-take (Fits attrs) most says.rows says.fit)
+first_fit attrs bytes most (Err halt) says = tt
 
 -- of the packets of an opened file
 pub packets_read : (schema : PacketSchema) (truncated : Bool) (Took : List RowValue → Type 0) (told : Option (List File)) (name : List ℕ)

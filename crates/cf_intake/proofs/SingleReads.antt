@@ -20,10 +20,11 @@ use Rattle.cf_pcap.specs.Streams.{IsStepper, AreGiven, early}
 use Rattle.cf_pcap.specs.Limits.{IsShort, count_on, number_of}
 use Rattle.cf_pcap.specs.declared.limit.Length.{Length}
 use Rattle.cf_pcap.specs.declared.limit.Length.TheVariants.{Limited, Any}
+use Rattle.cf_pcap.proofs.Cases.{none_found}
 use Rattle.cf_pcap.proofs.Given.{given_of, one_given}
 use Rattle.cf_pcap.proofs.Seen.{early_short}
 use Rattle.cf_pcap.proofs.FormatUnits.{reads_nothing, wants_none}
-use Rattle.cf_intake.specs.Faults.{HasPacketFaultTo}
+use Rattle.cf_intake.specs.Faults.{HasPacketFaultTo, ShowNoFault, ShowNoFaultIn}
 use Rattle.cf_intake.specs.Formats.{begins_section}
 use Rattle.cf_intake.specs.Parts.{IsBad}
 use Rattle.cf_intake.specs.Reading.{Feeds, Finishes, IsReaderAt, reads_blocks, reads_scope}
@@ -61,6 +62,27 @@ blocks_short scope bytes short =
 short_in : (b : Bool) (scope : Scope) (bytes : List ℕ) → length bytes < 4 → AreFramesGiven scope b bytes []
 short_in true scope bytes short = blocks_short scope bytes short
 short_in false scope bytes short = records_short scope bytes short
+
+-- Nor do they show a fault.
+
+records_shown : (scope : Scope) (bytes : List ℕ) → length bytes < 4 → ShowNoFaultIn scope false bytes
+records_shown scope bytes short = λ at code shows.
+    none_found (records.pcap scope) bytes [] (records.pcap scope).start bytes (few_short scope.length (length bytes) short)
+    (reads_nothing (records.pcap scope) (records.pcap scope).start bytes)
+    (records_steps.step_at scope (records.pcap scope).start bytes ∙ ap (records.head_found 0) (head_few scope.links bytes short)) shows.fault shows.fault_is
+
+blocks_shown : (scope : Scope) (bytes : List ℕ) → length bytes < 4 → ShowNoFaultIn scope true bytes
+blocks_shown scope bytes short = λ at code shows.
+    none_found (blocks.pcapng scope) bytes [] (blocks.pcapng scope).start bytes (few_short scope.length (length bytes) short)
+    (reads_nothing (blocks.pcapng scope) (blocks.pcapng scope).start bytes)
+    (blocks_steps.step_at scope (blocks.pcapng scope).start bytes _ (head_short None bytes short)) shows.fault shows.fault_is
+
+pub shown_in : (b : Bool) (scope : Scope) (bytes : List ℕ) → length bytes < 4 → ShowNoFaultIn scope b bytes
+shown_in true scope bytes short = blocks_shown scope bytes short
+shown_in false scope bytes short = records_shown scope bytes short
+
+pub opening_unbroken : (schema : PacketSchema) (held bytes : List ℕ) (rows : List RowValue) → IsOpening held bytes rows → ShowNoFault schema bytes
+opening_unbroken schema held bytes rows opening = shown_in (begins_section bytes) (scope_by Any schema) bytes opening.short
 
 one_frames : (b : Bool) (scope : Scope) (bytes : List ℕ) (xs ys : List FrameValue) → AreFramesGiven scope b bytes xs → AreFramesGiven scope b bytes ys
     → xs ≡ ys

@@ -3,8 +3,11 @@ use Rattle.std.specs.Prelude.{◌≡◌, ◌==◌, if◌then◌else◌, ℕ, Boo
 use Rattle.cf_pcap.specs.Capture.{HasPcapFault}
 use Rattle.cf_pcap.specs.declared.scope.Scope.{Scope}
 use Rattle.cf_pcap.specs.declared.limit.Length.{Length}
-use Rattle.cf_pcap.specs.declared.limit.Length.TheVariants.{Limited}
+use Rattle.cf_pcap.specs.declared.limit.Length.TheVariants.{Limited, Any}
 use Rattle.cf_pcap.specs.declared.fault.PcapFault.TheVariants as pcap
+use Rattle.cf_pcap.specs.Format.{IsFound}
+use Rattle.cf_pcap.specs.File.{pcap as records_of}
+use Rattle.cf_pcapng.specs.File.{pcapng as blocks_of}
 use Rattle.cf_pcapng.specs.Rules.{HasFaultOf}
 use Rattle.cf_pcapng.specs.declared.fault.NgFault.TheVariants as ng
 use Rattle.cf_row.specs.declared.schema.Attr.{Attr}
@@ -48,6 +51,7 @@ code_of (PcapNg (ng.Cut k)) = 25
 code_of (PcapNg ng.TooManyBytes) = 26
 code_of (PcapNg (ng.BadLength k)) = 27
 code_of (PcapNg (ng.NoInterface k)) = 28
+code_of (PcapNg (ng.TooManyInterfaces k)) = 29
 
 -- the record that it names, which is in pcapng the number of frames before it
 abbrev pub record_of : Fault → ℕ
@@ -73,6 +77,7 @@ record_of (PcapNg (ng.Cut k)) = k
 record_of (PcapNg ng.TooManyBytes) = 0
 record_of (PcapNg (ng.BadLength k)) = k
 record_of (PcapNg (ng.NoInterface k)) = k
+record_of (PcapNg (ng.TooManyInterfaces k)) = k
 
 -- how a fault of that record and code refuses the bytes, if it is one of theirs
 abbrev pub refusal_by : (record_at code : ℕ) → Option Refusal
@@ -131,3 +136,19 @@ HasFaultBy Records attrs bytes record_at code = HasLineFault attrs bytes record_
 abbrev pub HasFaultTo : (source : Source) (truncated : Bool) → List Attr → List ℕ → ℕ → ℕ → Type 0
 HasFaultTo source truncated attrs bytes record_at code =
     HasFaultBy source attrs bytes record_at code × ((rows : List RowValue) (k : ℕ) → IsTruncatedAt source truncated bytes rows k → ⊥)
+
+-- Bytes show a fault by its place, before their end is known, which is told with that record and that code: as blocks, or as records.
+abbrev pub ShowsFaultIn : Scope → Bool → List ℕ → ℕ → ℕ → Type 0
+ShowsFaultIn scope true bytes record_at code = IsTold (IsFound (blocks_of scope) bytes) PcapNg record_at code
+ShowsFaultIn scope false bytes record_at code = IsTold (IsFound (records_of scope) bytes) Pcap record_at code
+
+-- in the format that they begin as, of a capture of any length, by a schema of packets
+abbrev pub ShowsFault : PacketSchema → List ℕ → ℕ → ℕ → Type 0
+ShowsFault schema bytes record_at code = ShowsFaultIn (scope_by Any schema) (begins_section bytes) bytes record_at code
+
+-- they show none
+abbrev pub ShowNoFaultIn : Scope → Bool → List ℕ → Type 0
+ShowNoFaultIn scope blocks bytes = (record_at code : ℕ) → ShowsFaultIn scope blocks bytes record_at code → ⊥
+
+abbrev pub ShowNoFault : PacketSchema → List ℕ → Type 0
+ShowNoFault schema bytes = ShowNoFaultIn (scope_by Any schema) (begins_section bytes) bytes

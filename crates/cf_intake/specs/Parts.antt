@@ -1,6 +1,7 @@
 -- What the parts of reading answer.
-use Rattle.std.specs.Prelude.{◌≡◌, ℕ, List, map}
-use Rattle.cf_row.specs.Row.{RowValue}
+use Rattle.std.specs.Prelude.{◌≡◌, ℕ, false, List, All, map, take, Option, None}
+use Rattle.cf_outside.specs.Files.{File}
+use Rattle.cf_row.specs.Row.{Fits, RowValue}
 use Rattle.cf_row.specs.declared.schema.Attr.{Attr}
 use Rattle.cf_packet6.specs.declared.PacketSchema.{PacketSchema}
 use Rattle.cf_packet6.specs.Schema6.{attrs_by}
@@ -11,7 +12,7 @@ use Rattle.cf_intake.specs.declared.refusal.Halt.{Halt}
 use Rattle.cf_intake.specs.declared.refusal.Halt.TheVariants.{Refused, Stopped}
 use Rattle.cf_intake.specs.declared.refusal.Refusal.TheVariants.{Capture}
 use Rattle.cf_intake.specs.declared.refusal.Stop.TheVariants.{ReadFault, Memory}
-use Rattle.cf_intake.specs.Files.{Grammar, captures}
+use Rattle.cf_intake.specs.Files.{Grammar, IsReadAs, captures}
 use Rattle.cf_intake.specs.Rows.{CaptureValue}
 use Rattle.cf_intake.specs.declared.rows.Captured.{Captured}
 use Rattle.cf_intake.specs.declared.rows.Format.{Format}
@@ -47,6 +48,13 @@ captured host = record { rows = host.rows.items; cut = host.cut }
 
 abbrev pub captured_each : List Captured → List CaptureValue
 captured_each hosts = map captured hosts
+
+-- the file of records of that name was read to its end, and these are the first of its rows, so many at most
+pub record HasFirst (attrs : List Attr) (told : Option (List File)) (name : List ℕ) (now : Option (List ℕ)) (most : ℕ) (first : List RowValue) : Type 0 where
+  pub rows : List RowValue
+  pub read : IsReadAs (captures sources.Records false attrs) told name now (record { rows = rows; cut = None })
+  pub fit : All (Fits attrs) rows
+  pub first_are : first ≡ take most rows
 
 -- why bytes are refused
 abbrev pub IsBad : (ℕ → ℕ → Type 0) → Halt → Type 0

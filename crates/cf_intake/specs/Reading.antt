@@ -17,7 +17,7 @@ use Rattle.cf_packet6.specs.declared.PacketSchema.{PacketSchema}
 use Rattle.cf_packet6.specs.Schema6.{attrs_by}
 use Rattle.cf_setup.specs.declared.source.Source.{Source}
 use Rattle.cf_setup.specs.declared.source.Source.TheVariants.{Packets}
-use Rattle.cf_intake.specs.Faults.{HasFaultIn, HasFaultTo}
+use Rattle.cf_intake.specs.Faults.{HasFaultIn, HasFaultTo, ShowNoFaultIn, ShowsFaultIn}
 use Rattle.cf_intake.specs.Files.{captures, IsReadAs, Halts}
 use Rattle.cf_intake.specs.Formats.{begins_section}
 use Rattle.cf_intake.specs.Parts.{IsBad}
@@ -71,15 +71,21 @@ Finishes truncated reader result =
     → MatchResult result (AreFramesTo truncated (reads_scope reader) (reads_blocks reader) stream frames)
     (IsBad (HasFaultUncut truncated (reads_scope reader) (reads_blocks reader) stream))
 
--- such a stream has a fault, whatever follows, which is told so
+-- such a stream shows a fault, and has it whatever follows, which is told so
 abbrev pub IsBrokenIn : Scope → Bool → List ℕ → Refusal → Type 0
 IsBrokenIn scope blocks stream why =
     (at : ℕ) × (code : ℕ) × (why ≡ Capture at code) × ((truncated : Bool) (more : List ℕ) → HasFaultUncut truncated scope blocks (stream ++ more) at code)
+    × ShowsFaultIn scope blocks stream at code
 
 -- the same of the stream that a reader is after
 abbrev pub IsBrokenFor : Reader → Refusal → Type 0
 IsBrokenFor reader why =
     (stream : List ℕ) (frames : List FrameValue) → IsReaderAt reader stream frames → IsBrokenIn (reads_scope reader) (reads_blocks reader) stream why
+
+-- the stream that a reader is after shows no fault
+abbrev pub IsUnbrokenFor : Reader → Type 0
+IsUnbrokenFor reader =
+    (stream : List ℕ) (frames : List FrameValue) → IsReaderAt reader stream frames → ShowNoFaultIn (reads_scope reader) (reads_blocks reader) stream
 
 -- of a reader that is after some stream
 abbrev pub IfReaderAt : Reader → Type 0 → Type 0

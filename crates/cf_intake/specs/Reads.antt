@@ -1,6 +1,7 @@
 -- A capture is read by single reads: how far they have come, and which records end within them.
-use Rattle.std.specs.Prelude.{◌≡◌, ℕ, ◌+◌, ◌<◌, ◌≤◌, Bool, true, false, List, [], ◌++◌, length, slice_get, Option, Some, None, Result, MatchResult}
-use Rattle.std.specs.Io.KnownBytes.{Consumes, IsAtEnd}
+use Rattle.std.specs.Prelude.{◌≡◌, ℕ, ◌+◌, ◌<◌, ◌≤◌, Bool, true, false, List, [], ◌∷◌, ◌++◌, length, slice_get, Option, Some, None, Result, MatchResult}
+use Rattle.std.specs.Io.KnownBytes.{Appends, Consumes, IsAtEnd, Keeps}
+use Rattle.cf_outside.specs.Files.{ShelfView}
 use Rattle.cf_row.specs.Row.{RowValue}
 use Rattle.cf_packet6.specs.declared.PacketSchema.{PacketSchema}
 use Rattle.cf_pcap.specs.Capture.{FrameValue}
@@ -10,7 +11,7 @@ use Rattle.cf_pcapng.specs.File.{pcapng}
 use Rattle.cf_pcap.specs.Limits.{number_of}
 use Rattle.cf_pcap.specs.Streams as streams
 use Rattle.cf_pcap.specs.declared.limit.Length.TheVariants.{Any}
-use Rattle.cf_intake.specs.Faults.{HasPacketFaultTo}
+use Rattle.cf_intake.specs.Faults.{HasPacketFaultTo, ShowNoFault, ShowsFault}
 use Rattle.cf_intake.specs.Formats.{begins_section}
 use Rattle.cf_intake.specs.Parts.{IsBad}
 use Rattle.cf_intake.specs.Reading.{IsReaderAt, reads_blocks, reads_scope}
@@ -60,19 +61,39 @@ pub record HaveRead (reads : Reads) (bytes : List ℕ) (rows : List RowValue) : 
   pub by : AreReadBy reads.schema reads.reader reads.held.items bytes rows
   pub size : length reads.buf.items ≡ 65536
 
--- A read moved a piece: wherever the reading was, it is there with the piece, and these are the rows of the records that the piece ended.
-pub record MovesOn (old new : Reads) (before now : Option (List ℕ)) (given : List RowValue) : Type 0 where
-  pub piece : List ℕ
-  pub taken : Consumes before now piece
+-- what a shelf tells
+abbrev pub view_by : (rest moved : Option (List ℕ)) → ShelfView
+view_by rest moved = record { rest = rest; moved = moved }
+
+-- One call of `read` moved these bytes: no more than it may, and some.
+pub record MovesPiece (before now : ShelfView) (piece : List ℕ) : Type 0 where
+  pub taken : Consumes before.rest now.rest piece
+  pub noted : Appends before.moved now.moved (length piece ∷ [])
   pub some : 0 < length piece
-  pub short : length old.buf.items ≡ 65536 → length piece ≤ 65536
+  pub short : length piece ≤ 65536
+
+-- One call found the end of the file,
+pub record FindsEnd (before now : ShelfView) : Type 0 where
+  pub taken : Consumes before.rest now.rest []
+  pub noted : Appends before.moved now.moved (0 ∷ [])
+  pub end : IsAtEnd now.rest
+
+-- or failed.
+pub record FailsToRead (before now : ShelfView) : Type 0 where
+  pub kept : Keeps before.rest now.rest
+  pub unnoted : Keeps before.moved now.moved
+
+-- A read moved a piece: wherever the reading was, it is there with the piece, and these are the rows of the records that the piece ended.
+pub record MovesOn (old new : Reads) (before now : ShelfView) (given : List RowValue) : Type 0 where
+  pub piece : List ℕ
+  pub moved : length old.buf.items ≡ 65536 → MovesPiece before now piece
   pub kind : new.schema ≡ old.schema
   pub read : (bytes : List ℕ) (rows : List RowValue) → HaveRead old bytes rows → HaveRead new (bytes ++ piece) (rows ++ given)
 
 -- the next read: the end, or a piece
-abbrev pub HasNext : Reads → Reads → Option (List ℕ) → Option (List ℕ) → Option (List RowValue) → Type 0
-HasNext old new before now None = ((bytes : List ℕ) (rows : List RowValue) → HaveRead old bytes rows → HaveRead new bytes rows × IsAtEnd now)
-    × Consumes before now [] × (new.schema ≡ old.schema)
+abbrev pub HasNext : Reads → Reads → (before now : ShelfView) → Option (List RowValue) → Type 0
+HasNext old new before now None =
+    ((bytes : List ℕ) (rows : List RowValue) → HaveRead old bytes rows → HaveRead new bytes rows × FindsEnd before now) × (new.schema ≡ old.schema)
 HasNext old new before now (Some given) = MovesOn old new before now given
 
 -- what is said of a reading that has begun
@@ -85,11 +106,16 @@ HasEndedAs truncated reads result =
     (bytes : List ℕ) (rows : List RowValue) → HaveRead reads bytes rows
     → MatchResult result (ArePacketsTo Any reads.schema truncated bytes rows) (IsBad (HasPacketFaultTo Any reads.schema truncated bytes))
 
--- the bytes have a fault, whatever follows, which is told so
+-- the bytes show a fault, and have it whatever follows, which is told so
 abbrev pub IsBroken : PacketSchema → List ℕ → Refusal → Type 0
 IsBroken schema bytes why =
     (at : ℕ) × (code : ℕ) × (why ≡ Capture at code) × ((truncated : Bool) (more : List ℕ) → HasPacketFaultTo Any schema truncated (bytes ++ more) at code)
+    × ShowsFault schema bytes at code
 
 -- the same of the bytes that were read
 abbrev pub HasBroken : Reads → Refusal → Type 0
 HasBroken reads why = (bytes : List ℕ) (rows : List RowValue) → HaveRead reads bytes rows → IsBroken reads.schema bytes why
+
+-- or they show none
+abbrev pub HasNotBroken : Reads → Type 0
+HasNotBroken reads = (bytes : List ℕ) (rows : List RowValue) → HaveRead reads bytes rows → ShowNoFault reads.schema bytes

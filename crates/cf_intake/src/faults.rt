@@ -44,6 +44,7 @@ impl Fault {
             Fault::PcapNg(NgFault::TooManyBytes) => 26,
             Fault::PcapNg(NgFault::BadLength(_)) => 27,
             Fault::PcapNg(NgFault::NoInterface(_)) => 28,
+            Fault::PcapNg(NgFault::TooManyInterfaces(_)) => 29,
         }
     }
 
@@ -62,7 +63,8 @@ impl Fault {
                 | NgFault::FrameTooLong(count)
                 | NgFault::Cut(count)
                 | NgFault::BadLength(count)
-                | NgFault::NoInterface(count),
+                | NgFault::NoInterface(count)
+                | NgFault::TooManyInterfaces(count),
             ) => count,
             _ => 0,
         }

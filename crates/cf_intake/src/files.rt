@@ -7,12 +7,12 @@ ghost use Rattle.cf_setup.specs.declared.source.Source.TheVariants.{Packets, Rec
 ghost use Rattle.cf_packet6.specs.declared.PacketSchema.{PacketSchema};
 ghost use Rattle.cf_intake.specs.Files.{setups, captures, IsReadAs, Halts};
 ghost use Rattle.cf_intake.specs.Causes.{HasHaltCause};
-ghost use Rattle.cf_intake.specs.Parts.{IsSetupRead, captured, captures_by, attrs_in};
+ghost use Rattle.cf_intake.specs.Parts.{HasFirst, IsSetupRead, captured, captures_by, attrs_in};
 
 use crate::devices::{ReadError, read_file};
 use crate::pieces::collect_packets;
 use crate::refusal::Halt;
-use crate::rows::{Captured, Format, Manner, records_of};
+use crate::rows::{Captured, Format, Manner, first_records_of, records_of};
 use cf_outside::Shelf;
 use cf_row::{Row, Schema};
 use cf_setup::{Setup, parse_setup};
@@ -64,6 +64,24 @@ pub fn read_lines<F: Shelf>(
 {
     let bytes = read_file(alloc, shelf, name, RECORDS_LIMIT)?;
     records_of(alloc, schema, &bytes)
+}
+
+/// The first rows of the file of records of that name, so many at most. It is read whole, and each record is judged.
+pub fn first_lines<F: Shelf>(
+    alloc: Global,
+    shelf: &mut F,
+    name: &str,
+    schema: &Schema,
+    most: usize,
+) -> Result<Vec<Row>, Halt>
+    ensures files { F.files shelf.new ≡ F.files shelf.old }
+    ensures read { MatchResult result (λ rows. HasFirst schema.now (F.files shelf.old) name.now (F.rest shelf.new) most rows.items)
+        (Halts (captures Records false schema.now) (F.files shelf.old) name.now (F.rest shelf.old) (F.rest shelf.new)) }
+    ensures fit { IfOk result (λ rows. All (Fits schema.now) rows.items) }
+    ensures cause { HasHaltCause (F.faults shelf.old) (F.faults shelf.new) result }
+{
+    let bytes = read_file(alloc, shelf, name, RECORDS_LIMIT)?;
+    first_records_of(alloc, schema, &bytes, most)
 }
 
 /// All rows of the capture of that name.

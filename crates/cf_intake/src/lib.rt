@@ -20,7 +20,7 @@ mod rows;
 mod tests;
 
 pub use devices::write_all;
-pub use files::{collect_rows, open_packets, read_lines, read_setup};
+pub use files::{collect_rows, first_lines, open_packets, read_lines, read_setup};
 pub use hosts::read_hosts;
 pub use laws::each_file_is_in_one_case;
 pub use pieces::Pieces;

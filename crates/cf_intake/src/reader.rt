@@ -1,8 +1,8 @@
 // The reader of a capture of packets, which comes in pieces.
-ghost use Rattle.std.specs.Prelude.{◌≡◌, List, [], ◌++◌, IfOk, IfSome};
+ghost use Rattle.std.specs.Prelude.{◌≡◌, List, [], ◌++◌, IfOk, IfSome, IsNone};
 ghost use Rattle.cf_pcap.specs.Capture.{FrameValue};
 ghost use Rattle.cf_intake.specs.Formats.{begins_section as section_begins};
-ghost use Rattle.cf_intake.specs.Reading.{AddsFew, Feeds, Finishes, IfReaderAt, IsBrokenFor, IsReaderAt, reads_blocks, reads_scope};
+ghost use Rattle.cf_intake.specs.Reading.{AddsFew, Feeds, Finishes, IfReaderAt, IsBrokenFor, IsReaderAt, IsUnbrokenFor, reads_blocks, reads_scope};
 
 use crate::faults::Fault;
 use crate::refusal::{Halt, Refusal};
@@ -63,9 +63,10 @@ impl Reader {
         }
     }
 
-    /// Why the capture is refused, whatever follows, if its fault was found in what came.
+    /// Why the capture is refused, whatever follows, if what came shows its fault.
     pub(crate) fn fault(&self) -> Option<Refusal>
-        ensures { IfSome result (IsBrokenFor self.now) }
+        ensures found { IfSome result (IsBrokenFor self.now) }
+        ensures none { IsNone result → IsUnbrokenFor self.now }
     {
         match self {
             Reader::Pcap(pcap) => Fault::Pcap(pcap.fault()?).refusal(),

@@ -1,12 +1,10 @@
 // A capture of packets is read by single reads, and its rows come read by read.
-ghost use Rattle.std.specs.Prelude.{◌≡◌, ◌≤◌, ◌<◌, ◌+◌, ◌*◌, ℕ, List, [], ◌++◌, None, Err, All, IfOk, IfSome, OnErr, length, option_map};
-ghost use Rattle.std.specs.Io.KnownBytes.{Keeps};
+ghost use Rattle.std.specs.Prelude.{◌≡◌, ◌≤◌, ◌<◌, ◌+◌, ◌*◌, ℕ, List, [], ◌++◌, None, Err, All, IfOk, IfSome, IsNone, length, option_map};
 ghost use Rattle.cf_row.specs.Row.{Fits, RowValue};
 ghost use Rattle.cf_packet6.specs.Schema6.{attrs_by};
 ghost use Rattle.cf_intake.specs.Causes.{HasStopCause};
-ghost use Rattle.cf_intake.specs.Devices.{TakesAtMost};
 ghost use Rattle.cf_intake.specs.declared.refusal.Stop.TheVariants as stops;
-ghost use Rattle.cf_intake.specs.Reads.{AreNumberedFrom, AreReadBy, HasBroken, HasEndedAs, HasNext, HaveRead, IsUnderWay, WhileReading};
+ghost use Rattle.cf_intake.specs.Reads.{AreNumberedFrom, AreReadBy, FailsToRead, HasBroken, HasEndedAs, HasNext, HasNotBroken, HaveRead, IsUnderWay, MovesPiece, WhileReading, view_by};
 
 use crate::pieces::{feed_rows, links_of};
 use crate::reader::Reader;
@@ -113,14 +111,17 @@ impl Reads {
     /// to be read.
     pub fn next<F: Shelf>(&mut self, alloc: Global, shelf: &mut F) -> Result<Option<Vec<Row>>, Stop>
         ensures files { F.files shelf.new ≡ F.files shelf.old }
-        ensures read { IfOk result (λ given. HasNext self.old self.new (F.rest shelf.old) (F.rest shelf.new) (option_map (λ rows. rows.items) given)) }
+        ensures read { IfOk result (λ given. HasNext self.old self.new (view_by (F.rest shelf.old) (F.moved shelf.old))
+            (view_by (F.rest shelf.new) (F.moved shelf.new)) (option_map (λ rows. rows.items) given)) }
         ensures few { IfOk result (λ given. IfSome given (λ rows. WhileReading self.old (length rows.items ≤ 4097))) }
         ensures fit { IfOk result (λ given. IfSome given (λ rows. All (Fits (attrs_by self.old.schema)) rows.items)) }
         ensures schema { self.new.schema ≡ self.old.schema }
         ensures numbered { IfOk result (λ given. IfSome given (λ rows. (bytes : List ℕ) (before : List RowValue) → HaveRead self.old bytes before
             → AreNumberedFrom (length before) rows.items)) }
-        ensures stopped { OnErr result (WhileReading self.old (TakesAtMost (F.rest shelf.old) (F.rest shelf.new) 65536)) }
-        ensures failed { result ≡ Err stops.ReadFault → Keeps (F.rest shelf.old) (F.rest shelf.new) }
+        ensures stopped { result ≡ Err stops.Memory → WhileReading self.old ((piece : List ℕ) × MovesPiece (view_by (F.rest shelf.old) (F.moved shelf.old))
+            (view_by (F.rest shelf.new) (F.moved shelf.new)) piece) }
+        ensures failed { result ≡ Err stops.ReadFault → FailsToRead (view_by (F.rest shelf.old) (F.moved shelf.old))
+            (view_by (F.rest shelf.new) (F.moved shelf.new)) }
         ensures cause { HasStopCause (F.faults shelf.old) (F.faults shelf.new) result }
     {
         let count = shelf.read(&mut self.buf)?;
@@ -137,9 +138,10 @@ impl Reads {
         Ok(Some(rows))
     }
 
-    /// Why the capture is refused, whatever follows, if its fault was found in what was read.
+    /// Why the capture is refused, whatever follows, if what was read shows its fault.
     pub fn fault(&self) -> Option<Refusal>
-        ensures { IfSome result (HasBroken self.now) }
+        ensures found { IfSome result (HasBroken self.now) }
+        ensures none { IsNone result → HasNotBroken self.now }
     {
         match &self.reader {
             Some(reader) => reader.fault(),

@@ -2,7 +2,7 @@
 ghost use Rattle.std.specs.Prelude.{◌≡◌, All, IfOk, MatchResult};
 ghost use Rattle.cf_row.specs.Row.{Fits};
 ghost use Rattle.cf_packet6.specs.Schema6.{attrs_by};
-ghost use Rattle.cf_records.specs.Records.{IsRecordFile};
+ghost use Rattle.cf_records.specs.Records.{AreFirst, IsRecordFile};
 ghost use Rattle.cf_intake.specs.Faults.{HasLineFault};
 ghost use Rattle.cf_intake.specs.Parts.{IsBad, IsSetupRead, source_in, attrs_in};
 ghost use Rattle.cf_intake.specs.Rows.{packet_rows, row_by};
@@ -11,7 +11,7 @@ use crate::refusal::Halt;
 use cf_headers::{packet_row, packet6_row};
 use cf_packet6::PacketSchema;
 use cf_pcap::Frame;
-use cf_records::read_records;
+use cf_records::{read_first, read_records};
 use cf_row::{Memory, Row, Schema};
 use cf_setup::{Setup, Source};
 use std::alloc::Global;
@@ -85,4 +85,16 @@ pub(crate) fn records_of(alloc: Global, schema: &Schema, bytes: &[u8]) -> Result
     ensures fit { IfOk result (λ rows. All (Fits schema.now) rows.items) }
 {
     Ok(read_records(alloc, schema, bytes)?)
+}
+
+/// The first rows of a file of records, so many at most. Each record is judged.
+pub(crate) fn first_records_of(
+    alloc: Global,
+    schema: &Schema,
+    bytes: &[u8],
+    most: usize,
+) -> Result<Vec<Row>, Halt>
+    ensures { MatchResult result (λ rows. AreFirst schema.now bytes.now most rows.items) (IsBad (HasLineFault schema.now bytes.now)) }
+{
+    Ok(read_first(alloc, schema, bytes, most)?)
 }

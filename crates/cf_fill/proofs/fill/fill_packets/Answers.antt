@@ -1,4 +1,4 @@
-use Rattle.std.proofs.Common.{◌≡◌, arith, ℕ, List, [], ◌++◌, Option, Result, Err, OnErr, All, sym, ap, subst, ◌∙◌}
+use Rattle.std.proofs.Common.{rules, ◌≡◌, arith, ℕ, List, [], ◌++◌, Option, Err, All, sym, ap, subst, ◌∙◌}
 use Rattle.std.proofs.lemmas.Result.{err_from_is_err_and, IfOk-at_ok}
 use Rattle.cf_row.specs.Row.{RowValue, Fits}
 use Rattle.cf_row.specs.declared.schema.Attr.{Attr}
@@ -6,14 +6,16 @@ use Rattle.cf_packet6.specs.declared.PacketSchema.{PacketSchema}
 use Rattle.cf_packet6.specs.Schema6.{attrs_by}
 use Rattle.cf_shape.specs.Lanes.{ShapeValue}
 use Rattle.cf_fill.specs.Filling.{IsFilled}
+use Rattle.cf_fill.specs.Taking.{GivesBoth}
+use Rattle.cf_intake.specs.declared.refusal.Halt.{Halt}
+use Rattle.cf_intake.specs.declared.refusal.Halt.TheVariants.{Stopped}
+use Rattle.cf_intake.specs.declared.refusal.Stop.TheVariants as stops
+use Rattle.cf_fill.proofs.Both.{given_ok, given_failed, stops_both, taken_ok, took_read, took_stopped}
 use Rattle.cf_fill.proofs.Filled.{keeps_all, keeps_then, waits_few, waits_short}
 use Rattle.cf_intake.specs.Reading.{TakesPackets}
+use Rattle.cf_intake.specs.Rows.{CaptureValue}
 use Rattle.cf_intake.proofs.Piecewise.{stopped_on, finished_so}
 use Rattle.cf_fill.proofs.fill.fill_packets.Goals as goal
-
--- what is said of an error, where the result is one
-on_err_at : {T E P : Type 0} (r : Result T E) (y : E) → r ≡ Err y → OnErr r P → P
-on_err_at {P = P} r y is said = subst (λ s. OnErr s P) is said
 
 -- rows of packets fit the schema of a log of packets
 fit_now : (attrs : List Attr) (now shape : ShapeValue) (rows : List RowValue) → now ≡ shape → shape.schema ≡ attrs → All (Fits attrs) rows
@@ -53,38 +55,59 @@ loop-shelf-preserved g c =
     let then = beside.cause.later in
     let old = c.loop-shelf.filling in
     let new = c.take_beside-taken.new.filling in
-    let filled : IsFilled new more = IfOk-at_ok _ c.in_ok-taken.was beside.filled rows v.taken.2 in
+    let both = c.in_ok-rows.ensures in
+    let was = given_ok c.take_beside-taken.result.0 c.take_beside-taken.result.1 c.in_ok-rows.rows both in
+    let done = taken_ok c.take_beside-taken.result.0 c.take_beside-taken.result.1 c.in_ok-rows.rows both in
+    let filled : IsFilled new more = IfOk-at_ok _ done.1 beside.filled rows v.taken.2 in
     record {
       files = beside.files ∙ v.files;
       later = omega (arith, first, then);
       schema = beside.schema ∙ v.schema;
-      fit = subst (λ (s : PacketSchema). All (Fits (attrs_by s)) c.in_ok-rows.rows.items) v.schema (IfOk-at_ok _ c.in_ok-rows.was beside.fit);
+      fit = subst (λ (s : PacketSchema). All (Fits (attrs_by s)) c.in_ok-rows.rows.items) v.schema (IfOk-at_ok _ was beside.fit);
       few = (
           let wait = waits_few old new rows c.loop-shelf.rows.items v.taken.2 filled beside.keeps beside.stops in
-          let ahead = IfOk-at_ok _ c.in_ok-rows.was beside.few before more v.taken.1 in
+          let ahead = IfOk-at_ok _ was beside.few before more v.taken.1 in
           omega (arith, wait, ahead)
           );
       keeps = keeps_then c.args.filling.now old new v.keeps beside.keeps;
-      taken = (more, IfOk-at_ok _ c.in_ok-rows.was beside.read before more v.taken.1, filled);
+      taken = (more, IfOk-at_ok _ was beside.read before more v.taken.1, filled);
     }
 
 pub returns-in_err-rows-clause-taken : goal.returns-in_err-rows-clause-taken
 returns-in_err-rows-clause-taken g c =
-    let p = err_from_is_err_and c.from_residual-in_err-rows.result c.from_residual-in_err-rows.ensures.1 in
-    let v = c.loop-shelf.invariant.taken in
-    let stopped = on_err_at _ _ c.in_err-rows.was c.take_beside-taken.ensures.stopped in
-    rw (p.1, p.2) (stopped (g.F.Shelf.rest c.args.shelf.now) (v.0 ++ c.loop-shelf.rows.items) v.1)
-
-pub returns-in_err-taken-clause-taken : goal.returns-in_err-taken-clause-taken
-returns-in_err-taken-clause-taken g c =
-    let p = err_from_is_err_and c.from_residual-in_err-taken.result c.from_residual-in_err-taken.ensures.1 in
+    let same : c.from_residual-in_err-rows.result ≡ Err c.in_err-rows.field-0.0 = search rules in
     let before : Option (List ℕ) = g.F.Shelf.rest c.args.shelf.now in
+    let now : Option (List ℕ) = g.F.Shelf.rest c.take_beside-taken.new.shelf in
     let v = c.loop-shelf.invariant.taken in
     let more : List RowValue = v.0 ++ c.loop-shelf.rows.items in
-    let read = IfOk-at_ok _ c.in_ok-rows.was c.take_beside-taken.ensures.read in
-    rw (p.1, p.2)
-    (stopped_on c.take_beside-taken.new.pieces before (g.F.Shelf.rest c.take_beside-taken.new.shelf) (more ++ c.in_ok-rows.rows.items)
-    (read before more v.1))
+    let mid : Option (List ℕ) = g.F.Shelf.rest c.loop-shelf.shelf in
+    let old = c.loop-shelf.pieces in
+    let new = c.take_beside-taken.new.pieces in
+    let taken = c.take_beside-taken.result.0 in
+    let given = c.take_beside-taken.result.1 in
+    rw same
+    (stops_both c.args.schema c.args.truncated
+    (λ (cut : Option ℕ) (what : CaptureValue). (what.cut ≡ cut) × IsFilled c.take_beside-taken.new.filling what.rows) before now taken given
+    c.in_err-rows.field-0.0 c.in_err-rows.ensures
+    (took_stopped old new before mid now more v.1 given c.take_beside-taken.ensures.stopped)
+    (took_read old new before mid now more v.1 given c.take_beside-taken.ensures.read))
+
+pub returns-in_err-rows-clause-cause : goal.returns-in_err-rows-clause-cause
+returns-in_err-rows-clause-cause g c =
+    let same : c.from_residual-in_err-rows.result ≡ Err c.in_err-rows.field-0.0 = search rules in
+    let first = c.loop-shelf.invariant.later in
+    let then = c.take_beside-taken.ensures.cause.later in
+    record {
+      later = omega (arith, first, then);
+      failed = λ e.
+          (let clash = sym same ∙ e in
+          let stop : c.in_err-rows.field-0.0 ≡ Stopped stops.ReadFault = cc clash in
+          let taken = c.take_beside-taken.result.0 in
+          let given = c.take_beside-taken.result.1 in
+          let both = subst (λ (h : Halt). GivesBoth taken given (Err h)) stop c.in_err-rows.ensures in
+          let rose = c.take_beside-taken.ensures.cause.failed (given_failed taken given both) in
+          omega (arith, first, rose));
+    }
 
 pub returns-in_err-take_rows-clause-taken : goal.returns-in_err-take_rows-clause-taken
 returns-in_err-take_rows-clause-taken g c =
