@@ -19,14 +19,16 @@ use Rattle.cf_pcap.specs.Streams.{IsStepper, AreGiven, early}
 use Rattle.cf_pcap.specs.declared.limit.Length.{Length}
 use Rattle.cf_pcap.specs.declared.limit.Length.TheVariants.{Limited, Any}
 use Rattle.cf_pcap.proofs.FormatEnding.{whole_gives}
-use Rattle.cf_pcap.proofs.Given.{given_of, one_given}
+use Rattle.cf_pcap.proofs.Given.{found_gives, given_of, one_given}
 use Rattle.cf_pcap.proofs.Limits.{long_more, short_or_long}
 use Rattle.cf_pcap.proofs.Seen.{early_full, early_more, early_short}
 use Rattle.cf_pcap.proofs.FormatUnits.{End, More, Fault, end_of, bad_none, reads_more, reads_on, sizes, wants_none}
+use Rattle.cf_intake.specs.Faults.{ShowsFault, ShowsFaultIn}
 use Rattle.cf_intake.specs.Formats.{begins_section}
 use Rattle.cf_intake.specs.Reads.{AreFramesGiven, AreRowsGiven}
 use Rattle.cf_intake.specs.Rows.{AreFramesBefore, AreFramesBy, ArePacketsTo, packet_rows, row_by, scope_by}
 use Rattle.cf_intake.proofs.Capturing.{begins_same}
+use Rattle.cf_intake.proofs.SingleReads.{shown_in}
 
 early_on : (l : Length) (front more : List ℕ) → (after : List ℕ) × (early l (front ++ more) ≡ early l front ++ after)
 early_on l front more = elim (short_or_long l (length front)) [
@@ -141,3 +143,28 @@ rows_whole schema true file rows (Some k) are =
       rows_are = are.0.rows_are;
     }
 rows_whole schema false file rows (Some k) are = absurd are
+
+-- Behind a fault that bytes show no record is given.
+
+shown_frames : (scope : Scope) (b : Bool) (front more : List ℕ) (at code : ℕ) (xs : List FrameValue) → ShowsFaultIn scope b front at code
+    → AreFramesGiven scope b front xs → AreFramesGiven scope b (front ++ more) xs
+shown_frames scope true front more at code xs shows given =
+    let f = blocks.pcapng scope in
+    let gives = found_gives f (blocks_steps.stepper scope) front more shows.fault shows.fault_is in
+    subst (λ (zs : List FrameValue). AreGiven f (front ++ more) zs) (one_given f front gives.0 xs gives.1 given) gives.2
+shown_frames scope false front more at code xs shows given =
+    let f = records.pcap scope in
+    let gives = found_gives f (records_steps.stepper scope) front more shows.fault shows.fault_is in
+    subst (λ (zs : List FrameValue). AreGiven f (front ++ more) zs) (one_given f front gives.0 xs gives.1 given) gives.2
+
+pub rows_shown : (schema : PacketSchema) (front more : List ℕ) (at code : ℕ) (xs : List RowValue) → ShowsFault schema front at code
+    → AreRowsGiven schema front xs → AreRowsGiven schema (front ++ more) xs
+rows_shown schema front more at code xs shows p = elim (cases_lt (length front) 4) [
+  | inl short ↦ absurd (shown_in (begins_section front) (scope_by Any schema) front short at code shows)
+  | inr long ↦ record {
+    frames = p.frames;
+    given = subst (λ (b : Bool). AreFramesGiven (scope_by Any schema) b (front ++ more) p.frames) (sym (begins_same front more long))
+        (shown_frames (scope_by Any schema) (begins_section front) front more at code p.frames shows p.given);
+    rows_are = p.rows_are;
+  }
+]

@@ -1,5 +1,5 @@
 -- What the parts of following say.
-use Rattle.std.proofs.Common.{◌≡◌, ◌∙◌, ◌⊎◌, inl, inr, ℕ, ◌+◌, ◌<◌, ◌≤◌, List, [], ◌∷◌, ◌++◌, length, take, drop, zero, suc, slice_index_or, true, Option, Result, Ok, Err, refl, sym, ap, ap₂, subst, arith, append-nil, append_assoc}
+use Rattle.std.proofs.Common.{◌≡◌, ◌∙◌, ◌⊎◌, inl, inr, ℕ, ◌+◌, ◌<◌, ◌≤◌, List, [], ◌∷◌, ◌++◌, length, take, drop, fold, zero, suc, slice_index_or, true, false, Option, Result, Ok, Err, refl, sym, ap, ap₂, subst, arith, length-append, append-nil, append_assoc}
 use Rattle.std.specs.Io.KnownBytes.{Appends}
 use Rattle.std.proofs.lemmas.List.{take_all, take_more}
 use Rattle.std.proofs.lemmas.List.Sums.{fold_push}
@@ -15,7 +15,7 @@ use Rattle.cf_rounds.specs.declared.rounds.Taken.TheVariants as taken
 use Rattle.cf_window.specs.Held.{count_of}
 use Rattle.cf_window.specs.Rounds.{Course, came}
 use Rattle.cf_window.specs.Windows.{is_refused, window}
-use Rattle.cf_follow.specs.Followed.{IsTurnedAway}
+use Rattle.cf_follow.specs.Followed.{AreTakenFrom, IsTurnedAway}
 use Rattle.cf_follow.specs.Heard.{HaveAllGone, HavePartGone, Hears, Refuses, SaysAll, SaysPart, StopsAfterRound, TellsRound, through}
 use Rattle.cf_follow.specs.declared.ending.Ending.{Ending}
 use Rattle.cf_follow.specs.declared.ending.Ending.TheVariants.{Done, Refused, Stopped, Unwritten}
@@ -33,29 +33,51 @@ set_trans m n o a b = record {
   most = b.most ∙ a.most;
 }
 
+count_at : (m : RoundsValue) (rows : List RowValue) (course : Course) (text : List ℕ) → IsAt m rows course text → count_of m.window ≡ length rows
+count_at m rows course text at = at.count ∙ at.come.count
+
+-- None has gone in.
+pub none_gone : (m : RoundsValue) (text : List ℕ) → count_of m.window ≤ m.limit → HaveAllGone m [] text m text
+none_gone m text within come course written at =
+    let count = count_at m come course (written ++ text) at in
+    let size : length (come ++ []) ≡ length come = ap (λ (rs : List RowValue). length rs) (append-nil come) in
+    (subst (λ (rs : List RowValue). IsAt m rs course (written ++ text)) (sym (append-nil come)) at, (omega (arith, size, count, within), tt))
+
+took_one : (shape : ShapeValue) (most : ℕ) (course : Course) (rows : List RowValue) (row : RowValue) → AreTakenFrom shape most course.segments rows
+    → is_refused shape (fold (came shape most) course rows).segments row ≡ false → AreTakenFrom shape most course.segments (rows ++ row ∷ [])
+took_one shape most course [] row took free = (free, tt)
+took_one shape most course (first ∷ rows) row took free = (took.0, took_one shape most (came shape most course first) rows row took.1 free)
+
 -- One more has.
 pub one_gone : (m n o : RoundsValue) (rows : List RowValue) (row : RowValue) (t₀ t₁ t₂ : List ℕ) → IsSetAs m n → HaveAllGone m rows t₀ n t₁
-    → HasTaken n row t₁ o t₂ → HaveAllGone m (rows ++ row ∷ []) t₀ o t₂
-one_gone m n o rows row t₀ t₁ t₂ set gone more come course written at =
-    let next = more (come ++ rows) (through m course rows) written (gone come course written at) in
+    → count_of n.window < n.limit → is_refused (n.window).shape (n.window).segments row ≡ false → HasTaken n row t₁ o t₂
+    → HaveAllGone m (rows ++ row ∷ []) t₀ o t₂
+one_gone m n o rows row t₀ t₁ t₂ set gone low free more come course written at =
+    let now = gone come course written at in
+    let next = more (come ++ rows) (through m course rows) written now.0 in
     let same : came (n.window).shape (n.window).most (through m course rows) row ≡ through m course (rows ++ row ∷ []) =
     ap₂ (λ (s : ShapeValue) (k : ℕ). came s k (through m course rows) row) set.shape set.most
     ∙ sym (fold_push (came (m.window).shape (m.window).most) course rows row) in
-    subst (λ (rs : List RowValue). IsAt o rs (through m course (rows ++ row ∷ [])) (written ++ t₂)) (append_assoc come rows (row ∷ []))
-    (subst (λ (c : Course). IsAt o ((come ++ rows) ++ row ∷ []) c (written ++ t₂)) same next)
-
-count_at : (m : RoundsValue) (rows : List RowValue) (course : Course) (text : List ℕ) → IsAt m rows course text → count_of m.window ≡ length rows
-count_at m rows course text at = at.count ∙ at.come.count
+    let count = count_at n (come ++ rows) (through m course rows) (written ++ t₁) now.0 in
+    let limit = set.limit in
+    let size : length (come ++ (rows ++ row ∷ [])) ≡ length (come ++ rows) + 1 =
+    ap (λ (rs : List RowValue). length rs) (sym (append_assoc come rows (row ∷ []))) ∙ length-append (come ++ rows) (row ∷ []) in
+    let here : is_refused (m.window).shape (through m course rows).segments row ≡ false =
+    sym (ap₂ (λ (s : ShapeValue) (xs : List (List RowValue)). is_refused s xs row) set.shape (now.0).segments) ∙ free in (
+      subst (λ (rs : List RowValue). IsAt o rs (through m course (rows ++ row ∷ [])) (written ++ t₂)) (append_assoc come rows (row ∷ []))
+          (subst (λ (c : Course). IsAt o ((come ++ rows) ++ row ∷ []) c (written ++ t₂)) same next),
+      (omega (arith, size, count, low, limit), took_one (m.window).shape (m.window).most course rows row now.1.1 here),
+    )
 
 -- A row is turned away where there are as many as there may be,
 pub turned_full : (m n : RoundsValue) (front : List RowValue) (row : RowValue) (most : ℕ) (t₀ t₁ : List ℕ) → IsSetAs m n → HaveAllGone m front t₀ n t₁
     → n.limit ≤ count_of n.window → count_of n.window ≤ n.limit → most ≡ count_of n.window
     → (come : List RowValue) (course : Course) (written : List ℕ) → IsAt m come course (written ++ t₀) → IsTurnedAway m (come ++ front) row (refusals.Full most)
 turned_full m n front row most t₀ t₁ set gone low high is come course written at =
-    let count = count_at n (come ++ front) (through m course front) (written ++ t₁) (gone come course written at) in
+    let count = count_at n (come ++ front) (through m course front) (written ++ t₁) (gone come course written at).0 in
     let limit = set.limit in
     let same : most ≡ m.limit = omega (arith, is, low, high, limit) in
-    IsTurnedAway.full (omega (arith, low, count, limit)) (ap refusals.Full same)
+    IsTurnedAway.full (omega (arith, low, high, count, limit)) (ap refusals.Full same)
 
 -- or no segment has so many nodes.
 pub turned_nodes : (m n : RoundsValue) (front : List RowValue) (row : RowValue) (nodes : ℕ) (t₀ t₁ : List ℕ) → IsSetAs m n → HaveAllGone m front t₀ n t₁
@@ -63,7 +85,7 @@ pub turned_nodes : (m n : RoundsValue) (front : List RowValue) (row : RowValue) 
     → (come : List RowValue) (course : Course) (written : List ℕ) → IsAt m come course (written ++ t₀)
     → IsTurnedAway m (come ++ front) row (refusals.Nodes nodes)
 turned_nodes m n front row nodes t₀ t₁ set gone low refused is come course written at =
-    let now = gone come course written at in
+    let now = (gone come course written at).0 in
     let count = count_at n (come ++ front) (through m course front) (written ++ t₁) now in
     let limit = set.limit in
     let segments : (n.window).segments ≡ window (m.window).shape (m.window).most (come ++ front) =
@@ -95,7 +117,7 @@ module _ (m n : RoundsValue) (rows : List RowValue) (k : ℕ) (row : RowValue) (
   spent_gone : HaveAllGone m (take k rows) t₀ (record n { window = record n.window { is_spent = true } }) t₁
   spent_gone come course written at =
       let now = gone come course written at in
-      record { come = now.come; segments = now.segments; count = now.count; said = now.said }
+      (record { come = (now.0).come; segments = (now.0).segments; count = (now.0).count; said = (now.0).said }, now.1)
 
   pub part_nodes : (o : RoundsValue) (t₂ : List ℕ) (nodes : ℕ) → HasAnswered n row t₁ o t₂ taken.NoNodes → nodes ≡ ((o.window).shape).nodes
       → HavePartGone m rows t₀ o t₂ (refusals.Nodes nodes)
@@ -109,11 +131,12 @@ module _ (m n : RoundsValue) (rows : List RowValue) (k : ℕ) (row : RowValue) (
     turned = turned_nodes m n (take k rows) row nodes t₀ t₁ set gone has.0 has.1 (same ∙ ap (λ (r : RoundsValue). ((r.window).shape).nodes) has.2);
   }
 
-  pub next_gone : (o : RoundsValue) (t₂ : List ℕ) → HasTaken n row t₁ o t₂ → HaveAllGone m (take (k + 1) rows) t₀ o t₂
-  next_gone o t₂ more =
+  pub next_gone : (o : RoundsValue) (t₂ : List ℕ) → count_of n.window < n.limit → is_refused (n.window).shape (n.window).segments row ≡ false
+      → HasTaken n row t₁ o t₂ → HaveAllGone m (take (k + 1) rows) t₀ o t₂
+  next_gone o t₂ few free more =
       let all : take (k + 1) rows ≡ take k rows ++ row ∷ [] =
       take_more rows k row low ∙ ap (λ (r : RowValue). take k rows ++ r ∷ []) (sym is) in
-      subst (λ (rs : List RowValue). HaveAllGone m rs t₀ o t₂) (sym all) (one_gone m n o (take k rows) row t₀ t₁ t₂ set gone more)
+      subst (λ (rs : List RowValue). HaveAllGone m rs t₀ o t₂) (sym all) (one_gone m n o (take k rows) row t₀ t₁ t₂ set gone few free more)
 
 -- All have gone in.
 pub all_gone : (m n : RoundsValue) (rows : List RowValue) (k : ℕ) (t₀ t₁ : List ℕ) → HaveAllGone m (take k rows) t₀ n t₁ → length rows ≤ k
@@ -124,8 +147,8 @@ all_gone m n rows k t₀ t₁ gone end = subst (λ (rs : List RowValue). HaveAll
 says_all : (m n o : RoundsValue) (rows : List RowValue) (text after : List ℕ) → HaveAllGone m rows [] n text → HasRound n text o after → SaysAll m rows o after
 says_all m n o rows text after gone round = record {
   at = λ come course written at.
-      round (come ++ rows) (through m course rows) written
-      (gone come course written (subst (λ (t : List ℕ). IsAt m come course t) (sym (append-nil written)) at));
+      let now = gone come course written (subst (λ (t : List ℕ). IsAt m come course t) (sym (append-nil written)) at) in
+      (round (come ++ rows) (through m course rows) written now.0, now.1);
 }
 
 says_part : (m n o : RoundsValue) (rows : List RowValue) (why : Refusal) (text after : List ℕ) → HavePartGone m rows [] n text why → HasRound n text o after

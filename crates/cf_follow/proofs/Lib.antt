@@ -3,3 +3,4 @@ pub mod Hearing
 pub mod Going
 pub mod Fronts
 pub mod Complete
+pub mod OneEnding

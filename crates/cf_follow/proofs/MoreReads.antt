@@ -1,8 +1,9 @@
 -- One more read.
-use Rattle.std.proofs.Common.{◌≡◌, ◌∙◌, ℕ, ◌+◌, ◌<◌, ◌≤◌, inl, inr, List, [], ◌∷◌, ◌++◌, length, take, fold, Bool, true, nat_lt, if◌then◌else◌, refl, sym, ap, subst, arith, length-append, append-nil}
+use Rattle.std.proofs.Common.{◌≡◌, ◌∙◌, ℕ, ◌+◌, ◌<◌, ◌≤◌, inl, inr, List, [], ◌∷◌, ◌++◌, length, map, take, fold, Bool, true, nat_lt, if◌then◌else◌, refl, sym, ap, subst, arith, length-append, append-nil}
 use Rattle.std.proofs.lemmas.Bool.{cases_lt}
 use Rattle.std.proofs.lemmas.Bool.Decides.{nat_tests}
-use Rattle.std.proofs.lemmas.List.{take_all, take-append-le}
+use Rattle.std.proofs.KnownBytes.{Appends-nil, Appends-trans, Consumes-nil, Consumes-trans}
+use Rattle.std.proofs.lemmas.List.{map-append, take_all, take-append-le}
 use Rattle.std.proofs.lemmas.List.Concat.{flat_map-append}
 use Rattle.std.proofs.lemmas.List.Elements.{All-push}
 use Rattle.std.proofs.lemmas.List.Sums.{fold_push}
@@ -10,7 +11,10 @@ use Rattle.cf_packet6.specs.declared.PacketSchema.{PacketSchema}
 use Rattle.cf_row.specs.Row.{RowValue}
 use Rattle.cf_setup.specs.Setups.{SetupValue}
 use Rattle.cf_shape.specs.Lanes.{ShapeValue}
-use Rattle.cf_intake.specs.Reads.{AreRowsGiven}
+use Rattle.std.specs.Io.KnownBytes.{Appends}
+use Rattle.cf_outside.specs.Files.{ShelfView}
+use Rattle.cf_intake.specs.Faults.{ShowNoFault}
+use Rattle.cf_intake.specs.Reads.{AreRowsGiven, MovesPiece}
 use Rattle.cf_rounds.specs.Lines.{Said, nothing_said}
 use Rattle.cf_rounds.specs.Texts.{said_on, view_of, with_span}
 use Rattle.cf_rounds.proofs.Again.{again}
@@ -24,7 +28,7 @@ bytes_one : (pieces : List (List ℕ)) (piece : List ℕ) → bytes_in_all (piec
 bytes_one pieces piece =
     flat_map-append (λ (bs : List ℕ). bs) pieces (piece ∷ []) ∙ ap (λ (bs : List ℕ). bytes_in_all pieces ++ bs) (append-nil piece)
 
-length_one : {A : Type 0} (xs : List A) (x : A) → length (xs ++ x ∷ []) ≡ length xs + 1
+pub length_one : {A : Type 0} (xs : List A) (x : A) → length (xs ++ x ∷ []) ≡ length xs + 1
 length_one xs x = length-append xs (x ∷ [])
 
 -- The records of the reads before are those of before.
@@ -57,23 +61,37 @@ module _ (schema : PacketSchema) (pieces : List (List ℕ)) (piece : List ℕ) (
     each = λ k low. elim (cases_lt (length pieces) k) [ inl high ↦ whole k high | inr less ↦ before k less ];
   }
 
-pub read_more : (schema : PacketSchema) (bytes piece : List ℕ) (reads : List (List RowValue)) (given : List RowValue) → AreRead schema bytes reads
-    → 0 < length piece
-    → length piece ≤ 65536 → AreRowsGiven schema (bytes ++ piece) (rows_in_all reads ++ given) → AreRead schema (bytes ++ piece) (reads ++ given ∷ [])
-read_more schema bytes piece reads given read some short now = record {
+pub read_more : (schema : PacketSchema) (before mid now : ShelfView) (bytes piece : List ℕ) (reads : List (List RowValue)) (given : List RowValue)
+    → AreRead schema before mid bytes reads → ShowNoFault schema bytes → MovesPiece mid now piece → length given ≤ 4097
+    → AreRowsGiven schema (bytes ++ piece) (rows_in_all reads ++ given) → AreRead schema before now (bytes ++ piece) (reads ++ given ∷ [])
+read_more schema before mid now bytes piece reads given read sound moves few given_now = record {
   pieces = read.pieces ++ piece ∷ [];
   cut = record {
     all = bytes_one read.pieces piece ∙ ap (λ (bs : List ℕ). bs ++ piece) read.cut.all;
-    some = All-push (λ (p : List ℕ). 0 < length p) read.pieces piece read.cut.some some;
-    short = All-push (λ (p : List ℕ). length p ≤ 65536) read.pieces piece read.cut.short short;
+    some = All-push (λ (p : List ℕ). 0 < length p) read.pieces piece read.cut.some moves.some;
+    short = All-push (λ (p : List ℕ). length p ≤ 65536) read.pieces piece read.cut.short moves.short;
   };
   ended = ended_more schema read.pieces piece reads given read.ended
-      (subst (λ (bs : List ℕ). AreRowsGiven schema (bs ++ piece) (rows_in_all reads ++ given)) (sym read.cut.all) now);
+      (subst (λ (bs : List ℕ). AreRowsGiven schema (bs ++ piece) (rows_in_all reads ++ given)) (sym read.cut.all) given_now);
+  taken = Consumes-trans before.rest mid.rest now.rest bytes piece read.taken moves.taken;
+  noted = subst (λ (ns : List ℕ). Appends before.moved now.moved ns) (sym (map-append (λ (p : List ℕ). length p) read.pieces (piece ∷ [])))
+      (Appends-trans before.moved mid.moved now.moved (map (λ (p : List ℕ). length p) read.pieces) (length piece ∷ []) read.noted moves.noted);
+  unbroken = unbroken_more;
+  few = All-push (λ (rows : List RowValue). length rows ≤ 4097) reads given read.few few;
 }
+  where
+    unbroken_more : (k : ℕ) → k < length (read.pieces ++ piece ∷ []) → ShowNoFault schema (bytes_in_all (take k (read.pieces ++ piece ∷ [])))
+    unbroken_more k low =
+        let more = length_one read.pieces piece in
+        let front : take k (read.pieces ++ piece ∷ []) ≡ take k read.pieces = take-append-le k read.pieces (piece ∷ []) (omega (arith, low, more)) in
+        subst (λ (ps : List (List ℕ)). ShowNoFault schema (bytes_in_all ps)) (sym front) (elim (cases_lt k (length read.pieces)) [
+          | inl less ↦ read.unbroken k less
+          | inr high ↦ subst (λ (bs : List ℕ). ShowNoFault schema bs) (sym (ap bytes_in_all (take_all k read.pieces high) ∙ read.cut.all)) sound
+        ])
 
 -- nothing was read
-pub read_nothing : (schema : PacketSchema) → AreRowsGiven schema [] [] → AreRead schema [] []
-read_nothing schema none = record {
+pub read_nothing : (schema : PacketSchema) (view : ShelfView) → AreRowsGiven schema [] [] → AreRead schema view view [] []
+read_nothing schema view none = record {
   pieces = [];
   cut = record { all = refl; some = λ i d low. absurd (omega (arith, low)); short = λ i d low. absurd (omega (arith, low)) };
   ended = record {
@@ -81,6 +99,10 @@ read_nothing schema none = record {
     each = λ k low. let zero_is : 0 ≡ k = omega (arith, low) in
         subst (λ (n : ℕ). AreRowsGiven schema (bytes_in_all (take n [])) (rows_in_all (take n []))) zero_is none;
   };
+  taken = Consumes-nil view.rest;
+  noted = Appends-nil view.moved;
+  unbroken = λ k low. absurd (omega (arith, low));
+  few = λ i d low. absurd (omega (arith, low));
 }
 
 -- The course after one more read.

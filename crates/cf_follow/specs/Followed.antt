@@ -1,12 +1,14 @@
 -- What is written while a capture is followed, and how that ends.
-use Rattle.std.specs.Prelude.{◌≡◌, ◌⊎◌, ℕ, ◌<◌, ◌≤◌, Bool, true, false, List, [], ◌∷◌, ◌++◌, length, Option, Some, None, Result, Ok, Err, codes, decimal}
-use Rattle.std.specs.Io.KnownBytes.{Appends, Consumes, IsAtEnd}
+use Rattle.std.specs.Prelude.{◌≡◌, ◌⊎◌, ℕ, ◌+◌, ◌-◌, ◌^◌, ◌<◌, ◌≤◌, Bool, true, false, List, [], ◌∷◌, ◌++◌, length, map, take, All, Option, Some, None, Result, Ok, Err, codes, decimal}
+use Rattle.std.specs.Io.KnownBytes.{Appends, Consumes}
+use Rattle.cf_outside.specs.Files.{ShelfView}
 use Rattle.cf_row.specs.Row.{RowValue}
+use Rattle.cf_shape.specs.Lanes.{ShapeValue}
 use Rattle.cf_packet6.specs.declared.PacketSchema.{PacketSchema}
 use Rattle.cf_pcap.specs.declared.limit.Length.TheVariants.{Any}
 use Rattle.cf_intake.specs.Devices.{WritesFront}
-use Rattle.cf_intake.specs.Faults.{HasPacketFaultTo}
-use Rattle.cf_intake.specs.Reads.{AreRowsGiven, HaveRead}
+use Rattle.cf_intake.specs.Faults.{HasPacketFaultTo, ShowNoFault, ShowsFault}
+use Rattle.cf_intake.specs.Reads.{AreRowsGiven, FailsToRead, FindsEnd, HaveRead, MovesPiece}
 use Rattle.cf_intake.specs.Refusals.{line_of}
 use Rattle.cf_intake.specs.Rows.{ArePacketsTo}
 use Rattle.cf_intake.specs.declared.reads.Reads.{Reads}
@@ -18,16 +20,39 @@ use Rattle.cf_rounds.specs.Texts.{halted_text, said_on, watch_text}
 use Rattle.cf_window.specs.Held.{count_of}
 use Rattle.cf_setup.specs.Setups.{SetupValue, shaped}
 use Rattle.cf_window.specs.Rounds.{after_reads, start}
-use Rattle.cf_window.specs.Watched.{AreCut, AreEnded}
-use Rattle.cf_window.specs.Windows.{is_refused, rows_in_all, window}
+use Rattle.cf_window.specs.Watched.{AreCut, AreEnded, bytes_in_all}
+use Rattle.cf_window.specs.Windows.{after_row, is_refused, rows_in_all, window}
 use Rattle.cf_follow.specs.declared.ending.Ending.{Ending}
 use Rattle.cf_follow.specs.declared.ending.Ending.TheVariants.{Done, Refused, Stopped, Unwritten}
 
--- Reads have moved these bytes, in some pieces, and each ended these records.
-pub record AreRead (schema : PacketSchema) (bytes : List ℕ) (reads : List (List RowValue)) : Type 0 where
+-- Reads have moved these bytes, in some pieces, and each ended these records. Each piece is what one call of the shelf's `read` moved. No
+-- call was made behind bytes that show a fault. No read ended more than 4,097 records, so no more come between two rounds.
+pub record AreRead (schema : PacketSchema) (before now : ShelfView) (bytes : List ℕ) (reads : List (List RowValue)) : Type 0 where
   pub pieces : List (List ℕ)
   pub cut : AreCut bytes pieces
   pub ended : AreEnded (AreRowsGiven schema) pieces reads
+  pub taken : Consumes before.rest now.rest bytes
+  pub noted : Appends before.moved now.moved (map (λ piece. length piece) pieces)
+  pub unbroken : (k : ℕ) → k < length pieces → ShowNoFault schema (bytes_in_all (take k pieces))
+  pub few : All (λ rows. length rows ≤ 4097) reads
+
+-- What a call of `read` more has come to, where one was made: it is made only behind bytes that show no fault.
+pub data IsAhead (schema : PacketSchema) (bytes : List ℕ) (before now : ShelfView) : Type 0 where
+  uncalled : now ≡ before → IsAhead schema bytes before now
+  moved : (piece : List ℕ) → ShowNoFault schema bytes → MovesPiece before now piece → IsAhead schema bytes before now
+  ended : ShowNoFault schema bytes → FindsEnd before now → IsAhead schema bytes before now
+  failed : ShowNoFault schema bytes → FailsToRead before now → IsAhead schema bytes before now
+
+-- From a window on, each of these records is taken as it comes.
+abbrev pub AreTakenFrom : ShapeValue → ℕ → List (List RowValue) → List RowValue → Type 0
+AreTakenFrom shape most segments [] = Unit {0}
+AreTakenFrom shape most segments (row ∷ rows) =
+    (is_refused shape segments row ≡ false) × AreTakenFrom shape most (after_row shape most segments row) rows
+
+-- The records of a stream were taken: there are no more than there may be, and none needs more nodes than a segment has.
+pub record AreTaken (begun : RoundsValue) (rows : List RowValue) : Type 0 where
+  pub few : length rows ≤ begun.limit
+  pub each : AreTakenFrom (begun.window).shape (begun.window).most [] rows
 
 -- What rounds that began so have said after these reads.
 abbrev pub spoken : RoundsValue → List (List RowValue) → List ℕ
@@ -48,42 +73,59 @@ truncated_line (Some k) = codes "truncated: record " ++ (decimal k ++ 10 ∷ [])
 
 -- Why a record doesn't go in behind these: there are as many as there may be; or else it needs more nodes than a segment has.
 pub data IsTurnedAway (begun : RoundsValue) (rows : List RowValue) (row : RowValue) (why : Refusal) : Type 0 where
-  full : begun.limit ≤ length rows → why ≡ refusals.Full begun.limit → IsTurnedAway begun rows row why
+  full : length rows ≡ begun.limit → why ≡ refusals.Full begun.limit → IsTurnedAway begun rows row why
   nodes : length rows < begun.limit → is_refused (begun.window).shape (window (begun.window).shape (begun.window).most rows) row ≡ true
       → why ≡ refusals.Nodes ((begun.window).shape).nodes → IsTurnedAway begun rows row why
 
--- The capture has this fault: at its end, or in what was read, whatever follows.
-abbrev pub HasBrokenOff : PacketSchema → (truncated : Bool) → Option (List ℕ) → List ℕ → ℕ → ℕ → Type 0
-HasBrokenOff schema truncated now bytes at code =
-    (IsAtEnd now × HasPacketFaultTo Any schema truncated bytes at code) ⊎ ((more : List ℕ) → HasPacketFaultTo Any schema truncated (bytes ++ more) at code)
+-- The capture has this fault: its end shows it, or what was read does, whatever follows. No call is made behind bytes that show one.
+abbrev pub HasBrokenOff : PacketSchema → (truncated : Bool) → (before now : ShelfView) → List ℕ → ℕ → ℕ → Type 0
+HasBrokenOff schema truncated before now bytes at code =
+    (FindsEnd before now × ShowNoFault schema bytes × HasPacketFaultTo Any schema truncated bytes at code)
+    ⊎ ((now ≡ before) × ShowsFault schema bytes at code × ((more : List ℕ) → HasPacketFaultTo Any schema truncated (bytes ++ more) at code))
 
--- With which text the following of a capture ends so, from what was left of it to what is. The whole capture was read, and says its rows, or
--- it has a fault. Or a record is turned away: those before it in its read have gone in. Or the shelf failed.
-pub data IsDueOfStream (schema : PacketSchema) (begun : RoundsValue) (truncated : Bool) (before now : Option (List ℕ)) (ending : Ending)
-    (text : List ℕ) : Type 0 where
-  done : (bytes : List ℕ) (reads : List (List RowValue)) (cut : Option ℕ) → AreRead schema bytes reads → Consumes before now bytes → IsAtEnd now
-      → ArePacketsTo Any schema truncated bytes (rows_in_all reads) cut → ending ≡ Done → text ≡ whole begun reads ++ truncated_line cut
-      → IsDueOfStream schema begun truncated before now ending text
-  broken : (bytes : List ℕ) (reads : List (List RowValue)) (at code : ℕ) → AreRead schema bytes reads → Consumes before now bytes
-      → HasBrokenOff schema truncated now bytes at code → ending ≡ Refused (refusals.Capture at code)
-      → text ≡ halted begun reads (line_of (refusals.Capture at code)) → IsDueOfStream schema begun truncated before now ending text
+-- With which text the following of a capture ends so, from what the shelf told to what it tells, and what rounds said before the last call
+-- of it. All records before the end were taken. The whole capture was read, and says its rows, or it has a fault. Or a record is turned
+-- away: those before it in its read have gone in. Or the shelf failed.
+pub data IsDueOfStream (schema : PacketSchema) (begun : RoundsValue) (truncated : Bool) (before now : ShelfView) (ending : Ending)
+    (said text : List ℕ) : Type 0 where
+  done : (mid : ShelfView) (bytes : List ℕ) (reads : List (List RowValue)) (cut : Option ℕ) → AreRead schema before mid bytes reads → FindsEnd mid now
+      → AreTaken begun (rows_in_all reads) → ArePacketsTo Any schema truncated bytes (rows_in_all reads) cut → ending ≡ Done → said ≡ spoken begun reads
+      → text ≡ whole begun reads ++ truncated_line cut → IsDueOfStream schema begun truncated before now ending said text
+  broken : (mid : ShelfView) (bytes : List ℕ) (reads : List (List RowValue)) (at code : ℕ) → AreRead schema before mid bytes reads
+      → HasBrokenOff schema truncated mid now bytes at code → AreTaken begun (rows_in_all reads) → ending ≡ Refused (refusals.Capture at code)
+      → said ≡ spoken begun reads → text ≡ halted begun reads (line_of (refusals.Capture at code))
+      → IsDueOfStream schema begun truncated before now ending said text
   refused : (bytes : List ℕ) (reads : List (List RowValue)) (front rest : List RowValue) (row : RowValue) (why : Refusal)
-      → AreRead schema bytes (reads ++ (front ++ row ∷ rest) ∷ []) → Consumes before now bytes → IsTurnedAway begun (rows_in_all reads ++ front) row why
-      → ending ≡ Refused why → text ≡ halted begun (reads ++ front ∷ []) (line_of why) → IsDueOfStream schema begun truncated before now ending text
-  unread : (bytes : List ℕ) (reads : List (List RowValue)) → AreRead schema bytes reads → Consumes before now bytes → ending ≡ Stopped stops.ReadFault
-      → text ≡ halted begun reads [] → IsDueOfStream schema begun truncated before now ending text
+      → AreRead schema before now bytes (reads ++ (front ++ row ∷ rest) ∷ []) → AreTaken begun (rows_in_all reads ++ front)
+      → IsTurnedAway begun (rows_in_all reads ++ front) row why → ending ≡ Refused why → said ≡ spoken begun reads
+      → text ≡ halted begun (reads ++ front ∷ []) (line_of why) → IsDueOfStream schema begun truncated before now ending said text
+  unread : (mid : ShelfView) (bytes : List ℕ) (reads : List (List RowValue)) → AreRead schema before mid bytes reads → FailsToRead mid now
+      → ShowNoFault schema bytes → AreTaken begun (rows_in_all reads) → ending ≡ Stopped stops.ReadFault → said ≡ spoken begun reads
+      → text ≡ halted begun reads [] → IsDueOfStream schema begun truncated before now ending said text
+
+-- A front of the text is written, with all of what was said before.
+pub record WritesPast (held kept : Option (List ℕ)) (said text : List ℕ) : Type 0 where
+  pub told : Option (List ℕ)
+  pub more : List ℕ
+  pub text_is : text ≡ said ++ more
+  pub before : Appends held told said
+  pub front : WritesFront told kept more
 
 -- What was written, from what the sink held to what it holds. The text that is due is written whole. Or the sink failed within it, or within
--- what is said after a read, and nothing was read after that. Or memory ran out, and what the rounds said before stays.
-pub data IsFollowed (schema : PacketSchema) (begun : RoundsValue) (truncated : Bool) (before now held kept : Option (List ℕ)) (ending : Ending) : Type 0 where
-  wrote : (text : List ℕ) → IsDueOfStream schema begun truncated before now ending text → Appends held kept text
+-- what is said after a read: then what rounds said before that read, or before the end, is written whole, and nothing is read behind it. Or
+-- memory ran out, and what the rounds said before stays.
+pub data IsFollowed (schema : PacketSchema) (begun : RoundsValue) (truncated : Bool) (before now : ShelfView) (held kept : Option (List ℕ))
+    (ending : Ending) : Type 0 where
+  wrote : (said text : List ℕ) → IsDueOfStream schema begun truncated before now ending said text → Appends held kept text
       → IsFollowed schema begun truncated before now held kept ending
-  cut : (due : Ending) (text : List ℕ) → ending ≡ Unwritten → IsDueOfStream schema begun truncated before now due text → WritesFront held kept text
+  cut : (due : Ending) (said text : List ℕ) → ending ≡ Unwritten → IsDueOfStream schema begun truncated before now due said text
+      → WritesPast held kept said text → IsFollowed schema begun truncated before now held kept ending
+  cut_round : (bytes : List ℕ) (reads : List (List RowValue)) (last : List RowValue) → ending ≡ Unwritten
+      → AreRead schema before now bytes (reads ++ last ∷ []) → AreTaken begun (rows_in_all (reads ++ last ∷ []))
+      → WritesPast held kept (spoken begun reads) (spoken begun (reads ++ last ∷ [])) → IsFollowed schema begun truncated before now held kept ending
+  out : (mid : ShelfView) (bytes : List ℕ) (reads : List (List RowValue)) → ending ≡ Stopped stops.Memory → AreRead schema before mid bytes reads
+      → IsAhead schema bytes mid now → AreTaken begun (rows_in_all reads) → Appends held kept (spoken begun reads)
       → IsFollowed schema begun truncated before now held kept ending
-  cut_round : (bytes : List ℕ) (reads : List (List RowValue)) → ending ≡ Unwritten → AreRead schema bytes reads → Consumes before now bytes
-      → WritesFront held kept (spoken begun reads) → IsFollowed schema begun truncated before now held kept ending
-  out : (bytes more : List ℕ) (reads : List (List RowValue)) → ending ≡ Stopped stops.Memory → AreRead schema bytes reads → Consumes before now (bytes ++ more)
-      → Appends held kept (spoken begun reads) → IsFollowed schema begun truncated before now held kept ending
 
 -- the rounds of a setup on a window of so many segments of that capacity and with so many nodes, before the first record
 abbrev pub begun_with : SetupValue → (capacity segments most_nodes every limit : ℕ) → RoundsValue
@@ -103,21 +145,40 @@ pub record IsReady (rounds : RoundsValue) (reading : Reads) : Type 0 where
   pub have : HaveRead reading [] []
 
 -- The following of a capture goes on: these reads were made, their records have gone in, and what the rounds said is written.
-pub record IsGoingOn (schema : PacketSchema) (begun rounds : RoundsValue) (reading : Reads) (before now held kept : Option (List ℕ)) : Type 0 where
+pub record IsGoingOn (schema : PacketSchema) (begun rounds : RoundsValue) (reading : Reads) (before now : ShelfView) (held kept : Option (List ℕ)) : Type 0 where
   pub bytes : List ℕ
   pub reads : List (List RowValue)
-  pub read : AreRead schema bytes reads
-  pub taken : Consumes before now bytes
+  pub read : AreRead schema before now bytes reads
   pub have : HaveRead reading bytes (rows_in_all reads)
   pub kind : reading.schema ≡ schema
   pub set : IsSetAs begun rounds
   pub at : IsAt rounds (rows_in_all reads) (after_reads (begun.window).shape (begun.window).most reads) (spoken begun reads)
+  pub took : AreTaken begun (rows_in_all reads)
   pub unspent : (rounds.window).is_spent ≡ false
   pub within : count_of rounds.window ≤ rounds.limit
   pub written : Appends held kept (spoken begun reads)
 
--- what a read comes to: the following goes on, or the end of the capture is reached, or it has ended
-abbrev pub ReadComesTo : PacketSchema → RoundsValue → RoundsValue → Reads → (before now held kept : Option (List ℕ)) → Result Bool Ending → Type 0
-ReadComesTo schema begun rounds reading before now held kept (Ok true) = IsGoingOn schema begun rounds reading before now held kept
-ReadComesTo schema begun rounds reading before now held kept (Ok false) = IsGoingOn schema begun rounds reading before now held kept × IsAtEnd now
-ReadComesTo schema begun rounds reading before now held kept (Err ending) = (truncated : Bool) → IsFollowed schema begun truncated before now held kept ending
+-- The end of the capture is found, behind bytes that show no fault.
+pub record IsAtLast (schema : PacketSchema) (begun rounds : RoundsValue) (reading : Reads) (before now : ShelfView) (held kept : Option (List ℕ)) : Type 0 where
+  pub mid : ShelfView
+  pub on : IsGoingOn schema begun rounds reading before mid held kept
+  pub end : FindsEnd mid now
+  pub sound : ShowNoFault schema on.bytes
+
+-- What a read comes to behind so many: the following goes on with one more, or the end of the capture is found, or it has ended.
+abbrev pub ReadComesTo : PacketSchema → RoundsValue → RoundsValue → Reads → (made : ℕ) → (before now : ShelfView) → (held kept : Option (List ℕ))
+    → Result Bool Ending → Type 0
+ReadComesTo schema begun rounds reading made before now held kept (Ok true) =
+    (on : IsGoingOn schema begun rounds reading before now held kept) × (length on.reads ≡ made + 1)
+ReadComesTo schema begun rounds reading made before now held kept (Ok false) = IsAtLast schema begun rounds reading before now held kept
+ReadComesTo schema begun rounds reading made before now held kept (Err ending) =
+    (truncated : Bool) → IsFollowed schema begun truncated before now held kept ending
+
+-- What all reads come to: the end of the capture is found; or as many were made as are counted; or the following has ended.
+abbrev pub ReadsComeTo : PacketSchema → RoundsValue → RoundsValue → Reads → (before now : ShelfView) → (held kept : Option (List ℕ)) → Result Bool Ending
+    → Type 0
+ReadsComeTo schema begun rounds reading before now held kept (Ok true) = IsAtLast schema begun rounds reading before now held kept
+ReadsComeTo schema begun rounds reading before now held kept (Ok false) =
+    (on : IsGoingOn schema begun rounds reading before now held kept) × (2 ^ 64 - 1 ≤ length on.reads)
+ReadsComeTo schema begun rounds reading before now held kept (Err ending) =
+    (truncated : Bool) → IsFollowed schema begun truncated before now held kept ending

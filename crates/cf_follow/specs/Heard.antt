@@ -1,5 +1,5 @@
 -- What the parts of following say.
-use Rattle.std.specs.Prelude.{◌≡◌, ◌⊎◌, ℕ, List, [], ◌∷◌, ◌++◌, fold, Option, Some, None, Result, Ok, Err}
+use Rattle.std.specs.Prelude.{◌≡◌, ◌⊎◌, ℕ, ◌≤◌, List, [], ◌∷◌, ◌++◌, length, fold, Option, Some, None, Result, Ok, Err}
 use Rattle.std.specs.Io.KnownBytes.{Appends, Keeps}
 use Rattle.cf_row.specs.Row.{RowValue}
 use Rattle.cf_intake.specs.Devices.{WritesFront}
@@ -8,7 +8,7 @@ use Rattle.cf_intake.specs.declared.refusal.Refusal.{Refusal}
 use Rattle.cf_intake.specs.declared.refusal.Stop.TheVariants as stops
 use Rattle.cf_rounds.specs.Held.{HasEnded, HasRound, IsAt, RoundsValue}
 use Rattle.cf_window.specs.Rounds.{Course, came, with_round}
-use Rattle.cf_follow.specs.Followed.{IsTurnedAway, truncated_line}
+use Rattle.cf_follow.specs.Followed.{AreTakenFrom, IsTurnedAway, truncated_line}
 use Rattle.cf_follow.specs.declared.ending.Ending.{Ending}
 use Rattle.cf_follow.specs.declared.ending.Ending.TheVariants.{Done, Refused, Stopped, Unwritten}
 
@@ -16,11 +16,16 @@ use Rattle.cf_follow.specs.declared.ending.Ending.TheVariants.{Done, Refused, St
 abbrev pub through : RoundsValue → Course → List RowValue → Course
 through old course rows = fold (came (old.window).shape (old.window).most) course rows
 
+-- behind the records that came, these were taken
+abbrev pub AreTakenBehind : RoundsValue → List RowValue → Course → List RowValue → Type 0
+AreTakenBehind old come course rows =
+    (length (come ++ rows) ≤ old.limit) × AreTakenFrom (old.window).shape (old.window).most course.segments rows
+
 -- All rows have gone in, wherever the stream was.
 abbrev pub HaveAllGone : RoundsValue → List RowValue → List ℕ → RoundsValue → List ℕ → Type 0
 HaveAllGone old rows before new after =
     (come : List RowValue) (course : Course) (written : List ℕ) → IsAt old come course (written ++ before)
-    → IsAt new (come ++ rows) (through old course rows) (written ++ after)
+    → IsAt new (come ++ rows) (through old course rows) (written ++ after) × AreTakenBehind old come course rows
 
 -- Those before one that is turned away have gone in.
 pub record HavePartGone (old : RoundsValue) (rows : List RowValue) (before : List ℕ) (new : RoundsValue) (after : List ℕ) (why : Refusal) : Type 0 where
@@ -65,7 +70,7 @@ StopsAfterRound old new held kept Unwritten = (after : List ℕ) × HasRound old
 -- what is said of all rows, a round being made then
 pub record SaysAll (old : RoundsValue) (rows : List RowValue) (new : RoundsValue) (text : List ℕ) : Type 0 where
   pub at : (come : List RowValue) (course : Course) (written : List ℕ) → IsAt old come course written
-      → IsAt new (come ++ rows) (with_round (through old course rows)) (written ++ text)
+      → IsAt new (come ++ rows) (with_round (through old course rows)) (written ++ text) × AreTakenBehind old come course rows
 
 -- what is said where one is turned away: of those before it, and then the line
 pub record SaysPart (old : RoundsValue) (rows : List RowValue) (new : RoundsValue) (why : Refusal) (text : List ℕ) : Type 0 where

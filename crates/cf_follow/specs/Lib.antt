@@ -1,3 +1,4 @@
 pub mod Followed
 pub mod Heard
 pub mod Completed
+pub mod Laws

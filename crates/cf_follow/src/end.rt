@@ -1,10 +1,10 @@
 // The end of a capture.
 ghost use Rattle.std.specs.Prelude.{◌≡◌, ◌≤◌, Bool, ℕ, List, Option, IfOk, [], ◌++◌, string_bytes};
-ghost use Rattle.std.specs.Io.KnownBytes.{IsAtEnd};
 ghost use Rattle.cf_outside.specs.Causes.{Rose};
+ghost use Rattle.cf_outside.specs.Files.{ShelfView};
 ghost use Rattle.cf_packet6.specs.declared.PacketSchema.{PacketSchema};
 ghost use Rattle.cf_rounds.specs.Held.{HasEnded, RoundsValue};
-ghost use Rattle.cf_follow.specs.Followed.{IsFollowed, IsGoingOn, truncated_line};
+ghost use Rattle.cf_follow.specs.Followed.{IsAtLast, IsFollowed, truncated_line};
 ghost use Rattle.cf_follow.specs.Heard.{Concludes};
 ghost use Rattle.cf_intake.specs.declared.refusal.Stop.TheVariants as stops;
 ghost use Rattle.cf_follow.specs.declared.ending.Ending.TheVariants as endings;
@@ -52,7 +52,7 @@ pub(crate) fn end<K: Sink>(
     truncated: bool,
     sink: &mut K,
 ) -> Ending
-    ensures ended { (schema : PacketSchema) (begun : RoundsValue) (before now held : Option (List ℕ)) → IsGoingOn schema begun rounds reads before now held (K.held sink.old) → IsAtEnd now
+    ensures ended { (schema : PacketSchema) (begun : RoundsValue) (before now : ShelfView) (held : Option (List ℕ)) → IsAtLast schema begun rounds reads before now held (K.held sink.old)
         → IsFollowed schema begun truncated before now held (K.held sink.new) result × (result ≡ endings.Stopped stops.ReadFault → ⊥) }
     ensures later { K.faults sink.old ≤ K.faults sink.new }
     ensures cause { result ≡ endings.Unwritten → Rose (K.faults sink.old) (K.faults sink.new) }

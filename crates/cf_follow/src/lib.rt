@@ -1,13 +1,13 @@
 //! A capture is followed while it comes: what its rounds say is written read by read.
 //!
 //! `follow` reads the opened capture to its end. What it writes, and how it ends, is in `specs/Followed.antt`: the text of the rounds
-//! on the window (cf_rounds), for some way in which the reads cut the bytes, and no more is held than the window and the rows of one
-//! read.
+//! on the window (cf_rounds), for the reads that the shelf made, and no more is held than the window and the rows of one read.
 #![tactic(auto)]
 
 mod end;
 mod ending;
 mod gone;
+mod laws;
 mod said;
 #[cfg(test)]
 mod tests;
@@ -15,5 +15,6 @@ mod truncated;
 mod watch;
 
 pub use ending::Ending;
+pub use laws::one_ending_is_due;
 pub use truncated::push_truncated;
 pub use watch::{Watch, follow};

@@ -9,7 +9,7 @@ ghost use Rattle.cf_follow.specs.Followed.{IsReady};
 use crate::{Ending, Watch, follow};
 use cf_command::WindowSizes;
 use cf_intake::{Reads, Refusal, Stop, read_setup};
-use cf_outside::{MemShelf, MemSink, Shelf};
+use cf_outside::{MemShelf, MemSink, NotingShelf, Shelf};
 use cf_packet6::PacketSchema;
 use cf_rounds::Rounds;
 use cf_row::Memory;
@@ -206,6 +206,17 @@ fn rounds_come_as_reads_cut_the_capture(rt: HostRuntime) -> Result<(), Fail> {
             text: &["capture: record 0 code 1\n"],
             ..PLAIN
         },
+        // the byte order of a section
+        Case {
+            capture: &[
+                0x0a, 0x0d, 0x0d, 0x0a, 0x1c, 0, 0, 0, 0, 0, 0, 0, 1, 0, 0, 0,
+            ],
+            most: 12,
+            failing_reads: &[3],
+            status: 3,
+            text: &["capture: record 0 code 21\n"],
+            ..PLAIN
+        },
         // the header alone
         Case {
             capture: C2.split_at(24).0,
@@ -374,8 +385,9 @@ fn devices_fail_at_each_call(rt: HostRuntime) -> Result<(), Fail> {
 #[test]
 fn a_watch_begins_with_its_sizes(rt: HostRuntime) -> Result<(), Fail> {
     let alloc = rt.alloc();
-    let mut shelf = MemShelf::new(alloc, Vec::new(alloc), 65536);
-    shelf.put("c", C2)?;
+    let mut files = MemShelf::new(alloc, Vec::new(alloc), 65536);
+    files.put("c", C2)?;
+    let mut shelf = NotingShelf::new(alloc, files);
     assert!(rt; shelf.open("c").is_ok());
     let mut sink = MemSink::new(alloc, 1000, Vec::new(alloc), 1000)?;
     let sizes = WindowSizes {
@@ -387,6 +399,7 @@ fn a_watch_begins_with_its_sizes(rt: HostRuntime) -> Result<(), Fail> {
     let watch = Watch::begin(alloc, read(&rt, alloc)?, sizes, 0, false, schema)?;
     let ending = follow(&rt, alloc, watch, &mut shelf, &mut sink);
     assert_eq!(rt; number_of(ending), 0);
+    assert_eq!(rt; shelf.moved(), [59, 0].as_slice());
     let text =
         b"alert t 1 60 @2\nalert t 2 100 @2\nrecords 2\nwindow 0\nask q list 2: 0 1\nalert t 1 60\nalert t 2 100\n";
     assert_eq!(rt; sink.held(), text.as_slice());

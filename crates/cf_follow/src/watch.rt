@@ -1,12 +1,14 @@
 // An opened capture is followed to its end.
-ghost use Rattle.std.specs.Prelude.{◌≡◌, ◌⊎◌, ◌≤◌, Bool, ℕ, List, [], Option, Ok, Err, IfOk, IfSome, OnOk, ◌^◌, ◌-◌};
+ghost use Rattle.std.specs.Prelude.{◌≡◌, ◌⊎◌, ◌≤◌, Bool, ℕ, List, [], Option, Ok, Err, IfOk, IfSome, OnOk, length, ◌^◌, ◌-◌};
 ghost use Rattle.cf_command.specs.Call.{AreWindowSizes};
 ghost use Rattle.cf_outside.specs.Causes.{Rose};
+ghost use Rattle.cf_outside.specs.Files.{ShelfView};
 ghost use Rattle.cf_packet6.specs.Schema6.{attrs_by};
 ghost use Rattle.cf_packet6.specs.declared.PacketSchema.{PacketSchema};
+ghost use Rattle.cf_intake.specs.Reads.{view_by};
 ghost use Rattle.cf_intake.specs.declared.refusal.Stop.TheVariants as stops;
 ghost use Rattle.cf_rounds.specs.Held.{IsSetAs, RoundsValue};
-ghost use Rattle.cf_follow.specs.Followed.{ReadComesTo, IsFollowed, IsGoingOn, IsReady, begun_with};
+ghost use Rattle.cf_follow.specs.Followed.{ReadComesTo, ReadsComeTo, IsFollowed, IsGoingOn, IsReady, begun_with};
 ghost use Rattle.cf_follow.specs.Completed.{IsWatchable, Yields};
 ghost use Rattle.cf_follow.specs.Heard.{StopsAfterRound};
 ghost use Rattle.cf_follow.specs.declared.ending.Ending.TheVariants as endings;
@@ -85,12 +87,13 @@ fn step<R: Threads, F: Shelf, K: Sink>(
     sink: &mut K,
 ) -> Result<bool, Ending>
     requires packets { rounds.old.window.shape.schema ≡ attrs_by reads.old.schema }
-    requires going { (begun : RoundsValue) × (before : Option (List ℕ)) × (held : Option (List ℕ)) × (schema : PacketSchema)
-        × IsGoingOn schema begun rounds.old reads.old before (F.rest shelf.old) held (K.held sink.old) }
+    requires going { (begun : RoundsValue) × (before : ShelfView) × (held : Option (List ℕ)) × (schema : PacketSchema)
+        × IsGoingOn schema begun rounds.old reads.old before (view_by (F.rest shelf.old) (F.moved shelf.old)) held (K.held sink.old) }
     ensures packets { OnOk result (rounds.new.window.shape.schema ≡ attrs_by reads.new.schema) }
     ensures files { F.files shelf.new ≡ F.files shelf.old }
-    ensures goes { (schema : PacketSchema) (begun : RoundsValue) (before held : Option (List ℕ)) → IsGoingOn schema begun rounds.old reads.old before (F.rest shelf.old) held (K.held sink.old)
-        → ReadComesTo schema begun rounds.new reads.new before (F.rest shelf.new) held (K.held sink.new) result }
+    ensures goes { (schema : PacketSchema) (begun : RoundsValue) (before : ShelfView) (held : Option (List ℕ))
+        → (on : IsGoingOn schema begun rounds.old reads.old before (view_by (F.rest shelf.old) (F.moved shelf.old)) held (K.held sink.old))
+        → ReadComesTo schema begun rounds.new reads.new (length on.reads) before (view_by (F.rest shelf.new) (F.moved shelf.new)) held (K.held sink.new) result }
     ensures shelf_later { F.faults shelf.old ≤ F.faults shelf.new }
     ensures sink_later { K.faults sink.old ≤ K.faults sink.new }
     ensures read_cause { result ≡ Err (endings.Stopped stops.ReadFault) → Rose (F.faults shelf.old) (F.faults shelf.new) }
@@ -111,9 +114,40 @@ fn step<R: Threads, F: Shelf, K: Sink>(
     }
 }
 
+// Reads until the end of the capture is found, and answers whether it was: if not, as many reads were made as are counted. The segment
+// that the window needs next is opened beside the reads.
+fn read_on<R: Threads, F: Shelf, K: Sink>(
+    rt: &R,
+    alloc: Global,
+    rounds: &mut Rounds,
+    reads: &mut Reads,
+    shelf: &mut F,
+    sink: &mut K,
+) -> Result<bool, Ending>
+    requires packets { rounds.old.window.shape.schema ≡ attrs_by reads.old.schema }
+    requires ready { IsReady rounds.old reads.old }
+    ensures files { F.files shelf.new ≡ F.files shelf.old }
+    ensures come { ReadsComeTo reads.old.schema rounds.old rounds.new reads.new (view_by (F.rest shelf.old) (F.moved shelf.old))
+        (view_by (F.rest shelf.new) (F.moved shelf.new)) (K.held sink.old) (K.held sink.new) result }
+    ensures shelf_later { F.faults shelf.old ≤ F.faults shelf.new }
+    ensures sink_later { K.faults sink.old ≤ K.faults sink.new }
+    ensures read_cause { result ≡ Err (endings.Stopped stops.ReadFault) → Rose (F.faults shelf.old) (F.faults shelf.new) }
+    ensures write_cause { result ≡ Err endings.Unwritten → Rose (K.faults sink.old) (K.faults sink.new) }
+{
+    for _made in 0..u64::MAX {
+        rounds.prepare(rt, alloc);
+        match step(rt, alloc, rounds, reads, shelf, sink) {
+            Ok(true) => {}
+            Ok(false) => return Ok(true),
+            Err(ending) => return Err(ending),
+        }
+    }
+    Ok(false)
+}
+
 /// Follows the opened capture of packets to its end: a round comes after each read that ended a record, and what it says is written
-/// before the next read. The segment that the window needs next is opened in a thread of its own beside the reads, which has ended when
-/// this returns.
+/// before the next read. A fault is told behind the read that shows it. The segment that the window needs next is opened in a thread of its
+/// own beside the reads, which has ended when this returns. After 2^64 - 1 reads it ends as without memory.
 pub fn follow<R: Threads, F: Shelf, K: Sink>(
     rt: &R,
     alloc: Global,
@@ -123,8 +157,9 @@ pub fn follow<R: Threads, F: Shelf, K: Sink>(
 ) -> Ending
     requires packets { watch.rounds.window.shape.schema ≡ attrs_by watch.reads.schema }
     requires ready { IsReady watch.rounds watch.reads }
-    // What was written is, for some way in which the reads cut the bytes that were read, the text of those, or a front of it.
-    ensures followed { IsFollowed watch.reads.schema watch.rounds watch.truncated (F.rest shelf.old) (F.rest shelf.new) (K.held sink.old) (K.held sink.new) result }
+    // What was written is, for the reads that the shelf made, the text of those, or a front of it.
+    ensures followed { IsFollowed watch.reads.schema watch.rounds watch.truncated (view_by (F.rest shelf.old) (F.moved shelf.old))
+        (view_by (F.rest shelf.new) (F.moved shelf.new)) (K.held sink.old) (K.held sink.new) result }
     // A lawful capture is followed to its end, unless memory runs out or a device fails.
     ensures complete { IfSome (F.rest shelf.old) (λ file. IsWatchable watch.reads.schema watch.rounds watch.truncated file → (result ≡ endings.Done) ⊎ Yields result) }
     ensures files { F.files shelf.new ≡ F.files shelf.old }
@@ -139,19 +174,11 @@ pub fn follow<R: Threads, F: Shelf, K: Sink>(
         mut reads,
         truncated,
     } = watch;
-    for _ in 0..u64::MAX {
-        rounds.prepare(rt, alloc);
-        match step(rt, alloc, &mut rounds, &mut reads, shelf, sink) {
-            Ok(true) => {}
-            Ok(false) => {
-                rounds.release(rt);
-                return end(alloc, rounds, reads, truncated, sink);
-            }
-            Err(ending) => {
-                rounds.release(rt);
-                return ending;
-            }
-        }
+    let found = read_on(rt, alloc, &mut rounds, &mut reads, shelf, sink);
+    rounds.release(rt);
+    match found {
+        Ok(true) => end(alloc, rounds, reads, truncated, sink),
+        Ok(false) => Ending::Stopped(Stop::Memory),
+        Err(ending) => ending,
     }
-    Ending::Stopped(Stop::Memory)
 }

@@ -1,6 +1,7 @@
 // The segment that comes next, which a thread of its own opens before a row needs it.
-ghost use Rattle.std.specs.Prelude.{◌≡◌, [], false, IfOk, IfSome};
+ghost use Rattle.std.specs.Prelude.{◌≡◌, ◌≤◌, [], false, IfOk, IfSome, IsSome};
 ghost use Rattle.cf_shape.specs.Lanes.{ShapeValue};
+ghost use Rattle.cf_shape.specs.Places.{sizes_of, word_total as word_total_of};
 
 use crate::WindowSegment;
 use cf_row::Memory;
@@ -39,7 +40,8 @@ impl Spare {
     /// Begins to open a segment of the shape. There is none if its table is small, if memory runs out or if no thread can be made.
     pub(crate) fn begin<R: Threads>(rt: &R, alloc: Global, shape: &Shape) -> Option<Spare>
         requires one { shape.now.writers ≡ 1 }
-        ensures { IfSome result (λ spare. spare ≡ shape.now) }
+        ensures shape { IfSome result (λ spare. spare ≡ shape.now) }
+        ensures large { IfSome result (λ _. 16384 ≤ word_total_of (sizes_of shape.now)) }
     {
         if word_total(shape) < FEW_WORDS {
             return None;
@@ -56,6 +58,23 @@ impl Spare {
     {
         let Spare { thread } = self;
         thread.join(rt)
+    }
+}
+
+/// Begins to open a segment of the shape, unless there is a spare or one begins to be.
+pub(crate) fn prepare_spare<R: Threads>(
+    rt: &R,
+    alloc: Global,
+    shape: &Shape,
+    spare: &mut Option<Spare>,
+)
+    requires one { shape.now.writers ≡ 1 }
+    requires shaped { IfSome spare.old (λ spare. spare ≡ shape.now) }
+    ensures shaped { IfSome spare.new (λ spare. spare ≡ shape.now) }
+    ensures kept { IsSome spare.old → spare.new ≡ spare.old }
+{
+    if spare.is_none() {
+        *spare = Spare::begin(rt, alloc, shape);
     }
 }
 

@@ -9,7 +9,7 @@ ghost use Rattle.cf_window.specs.Held.{ComesThen, HasPushed, IsOfShape, IsOpenLa
 ghost use Rattle.cf_window.specs.Windows.{drops, goes_in, is_small, rows_in_all};
 
 use crate::find::find_in;
-use crate::spare::{Spare, next_segment};
+use crate::spare::{Spare, next_segment, prepare_spare};
 use crate::{WindowSegment, nodes_needed};
 use cf_fold::Trigger;
 use cf_plain::{Ask, Body, Finding, Marks};
@@ -126,9 +126,7 @@ impl Window {
     pub fn prepare<R: Threads>(&mut self, rt: &R, alloc: Global)
         ensures { self.new ≡ self.old }
     {
-        if self.spare.is_none() {
-            self.spare = Spare::begin(rt, alloc, &self.shape);
-        }
+        prepare_spare(rt, alloc, &self.shape, &mut self.spare);
     }
 
     /// Waits for the thread that opens the segment that comes next, if there is one, and lets that segment go.

@@ -1,7 +1,7 @@
 use Rattle.std.proofs.Common.{◌≡◌, ◌<◌, ◌≤◌, length, refl, arith}
 use Rattle.std.proofs.lemmas.Option.{slice_get_read}
 use Rattle.std.specs.Prelude.{string_bytes}
-use Rattle.cf_follow.proofs.Hearing.{all_gone, next_gone, part_full, part_nodes, set_trans}
+use Rattle.cf_follow.proofs.Hearing.{all_gone, next_gone, none_gone, part_full, part_nodes, set_refl, set_trans}
 use Rattle.cf_follow.proofs.gone.take_rows.Goals as goal
 
 pub take-requires-clause-number : goal.take-requires-clause-number
@@ -27,6 +27,15 @@ returns-in-NoNodes-clause-gone g c =
     (string_bytes c.loop-row.text) v.set v.gone (omega arith) c.row-item.is c.take.new.self (string_bytes c.take.new.text) c.nodes-nodes.result
     (rw c.in-NoNodes.is at c.in_ok-take.ensures.answer) (rw c.shape.ensures at c.nodes-nodes.ensures.nodes)
 
+pub loop-row-init : goal.loop-row-init
+loop-row-init g c = record {
+  set = set_refl c.args.rounds.now;
+  unspent = c.requires.open;
+  within = c.requires.within;
+  count = omega arith;
+  gone = none_gone c.args.rounds.now (string_bytes c.args.text.now) c.requires.within;
+}
+
 pub loop-row-preserved : goal.loop-row-preserved
 loop-row-preserved g c =
     let v = c.loop-row.invariant in
@@ -40,7 +49,7 @@ loop-row-preserved g c =
       within = omega (arith, limit, few, more);
       count = omega (arith, count, more);
       gone = next_gone c.args.rounds.now c.loop-row.rounds c.args.rows.now c.loop-row.row-index c.row-item.result (string_bytes c.args.text.now)
-          (string_bytes c.loop-row.text) v.set v.gone (omega arith) c.row-item.is c.take.new.self (string_bytes c.take.new.text) a.2;
+          (string_bytes c.loop-row.text) v.set v.gone (omega arith) c.row-item.is c.take.new.self (string_bytes c.take.new.text) a.0 a.1 a.2;
     }
 
 pub returns-clause-gone : goal.returns-clause-gone

@@ -1,19 +1,22 @@
-use Rattle.std.proofs.Common.{◌≡◌, ◌∙◌, ℕ, ◌<◌, List, Err, inr, length, ap, subst, sym}
+use Rattle.std.proofs.Common.{◌≡◌, ◌∙◌, ℕ, ◌<◌, ◌≤◌, List, Err, inr, length, refl, ap, subst, sym, arith}
 use Rattle.std.specs.Prelude.{◌==◌}
 use Rattle.std.proofs.KnownBytes.{Keeps-refl}
 use Rattle.std.proofs.lemmas.Bool.{eqb-true}
 use Rattle.cf_row.specs.Row.{RowValue}
+use Rattle.cf_intake.specs.Reads.{view_by}
 use Rattle.cf_window.specs.Windows.{rows_in_all}
+use Rattle.cf_follow.specs.Followed.IsAhead.{moved}
 use Rattle.cf_follow.specs.Heard.{Hears}
-use Rattle.cf_follow.proofs.Going.{at_end, broken_now, heard, more_none, more_some, not_empty, out_now, unread_now}
+use Rattle.cf_follow.proofs.Going.{at_end, broken_now, heard, more_none, more_some, none_of, not_empty, out_now, sound_kind, unread_now}
 use Rattle.cf_follow.proofs.watch.step.Goals as goal
 
 pub returns-in-Ok-None-clause-goes : goal.returns-in-Ok-None-clause-goes
 returns-in-Ok-None-clause-goes g c = λ schema begun before held on.
     let found = rw c.in-Ok-None.is at c.next.ensures.read in
     let next = rw c.in-Ok-None.field-0-is at found in
-    at_end schema begun c.args.rounds.now c.args.reads.now c.next.new.self before (g.F.Shelf.rest c.args.shelf.now) (g.F.Shelf.rest c.next.new.shelf) held
-    (g.K.Sink.held c.args.sink.now) on next
+    let sound = sound_kind schema c.args.reads.now.schema on.bytes on.kind (c.fault.ensures.none (none_of c.fault.result c.in_default.not-Some) on.bytes (rows_in_all on.reads) on.have) in
+    at_end schema begun c.args.rounds.now c.args.reads.now c.next.new.self before (view_by (g.F.Shelf.rest c.args.shelf.now) (g.F.Shelf.moved c.args.shelf.now))
+    (view_by (g.F.Shelf.rest c.next.new.shelf) (g.F.Shelf.moved c.next.new.shelf)) held (g.K.Sink.held c.args.sink.now) on sound next
 
 pub returns-in-Ok-Some-clause-goes : goal.returns-in-Ok-Some-clause-goes
 returns-in-Ok-Some-clause-goes g c = λ schema begun before held on.
@@ -21,8 +24,12 @@ returns-in-Ok-Some-clause-goes g c = λ schema begun before held on.
     let moves = rw c.in-Ok-Some.field-0-is at found in
     let given : List RowValue = c.in-Ok-Some.rows.items in
     let none : length given ≡ 0 = sym c.in-Ok-Some.rows.ok.0 ∙ eqb-true c.in-Ok-Some.rows.len 0 (sym c.if-is_empty.ensures) in
-    more_none schema begun c.args.rounds.now c.args.reads.now c.next.new.self before (g.F.Shelf.rest c.args.shelf.now) (g.F.Shelf.rest c.next.new.shelf) held
-    (g.K.Sink.held c.args.sink.now) given on moves none
+    let few : length given ≤ 4097 = omega (arith, none) in
+    let sound = sound_kind schema c.args.reads.now.schema on.bytes on.kind (c.fault.ensures.none (none_of c.fault.result c.in_default.not-Some) on.bytes (rows_in_all on.reads) on.have) in
+    more_none schema begun c.args.rounds.now c.args.reads.now c.next.new.self before
+    (view_by (g.F.Shelf.rest c.args.shelf.now) (g.F.Shelf.moved c.args.shelf.now))
+    (view_by (g.F.Shelf.rest c.next.new.shelf) (g.F.Shelf.moved c.next.new.shelf)) held
+    (g.K.Sink.held c.args.sink.now) given on sound few moves none
 
 pub returns-in-Ok-clause-goes : goal.returns-in-Ok-clause-goes
 returns-in-Ok-clause-goes g c = λ schema begun before held on.
@@ -31,8 +38,13 @@ returns-in-Ok-clause-goes g c = λ schema begun before held on.
     let given : List RowValue = c.in-Ok-Some.rows.items in
     let some : 0 < length given = not_empty given (ap (λ (n : ℕ). n == 0) (sym c.in-Ok-Some.rows.ok.0) ∙ sym c.if-is_empty.ensures) in
     let says = rw c.deref.ensures.value at c.in-Ok.ensures.heard in
-    more_some schema begun c.args.rounds.now c.args.reads.now c.next.new.self before (g.F.Shelf.rest c.args.shelf.now) (g.F.Shelf.rest c.next.new.shelf) held
-    (g.K.Sink.held c.args.sink.now) given on moves c.hear.new.rounds c.hear.ensures.set says.0 (g.K.Sink.held c.hear.new.sink) some says.1 says.2
+    let few_found = rw c.in-Ok-Some.is at c.next.ensures.few in
+    let few : length given ≤ 4097 = rw c.in-Ok-Some.field-0-is at few_found on.bytes (rows_in_all on.reads) on.have in
+    let sound = sound_kind schema c.args.reads.now.schema on.bytes on.kind (c.fault.ensures.none (none_of c.fault.result c.in_default.not-Some) on.bytes (rows_in_all on.reads) on.have) in
+    more_some schema begun c.args.rounds.now c.args.reads.now c.next.new.self before
+    (view_by (g.F.Shelf.rest c.args.shelf.now) (g.F.Shelf.moved c.args.shelf.now))
+    (view_by (g.F.Shelf.rest c.next.new.shelf) (g.F.Shelf.moved c.next.new.shelf)) held
+    (g.K.Sink.held c.args.sink.now) given on sound few moves c.hear.new.rounds c.hear.ensures.set says.0 (g.K.Sink.held c.hear.new.sink) some says.1 says.2
     c.in-Ok.ensures.open c.in-Ok.ensures.within
 
 pub returns-in-Ok-Some-2-clause-goes : goal.returns-in-Ok-Some-2-clause-goes
@@ -43,26 +55,35 @@ returns-in-Ok-Some-2-clause-goes g c = λ schema begun before held on truncated.
     let some : 0 < length given = not_empty given (ap (λ (n : ℕ). n == 0) (sym c.in-Ok-Some.rows.ok.0) ∙ sym c.if-is_empty.ensures) in
     let hears = subst (λ (rs : List RowValue). Hears c.args.rounds.now rs c.hear.new.rounds (g.K.Sink.held c.args.sink.now) (g.K.Sink.held c.hear.new.sink)
     (Err c.in-Err.ending)) c.deref.ensures.value c.in-Err.ensures.heard in
-    heard schema begun c.args.rounds.now c.args.reads.now c.next.new.self before (g.F.Shelf.rest c.args.shelf.now) (g.F.Shelf.rest c.next.new.shelf) held
-    (g.K.Sink.held c.args.sink.now) given on moves c.hear.new.rounds (g.K.Sink.held c.hear.new.sink) truncated c.in-Err.ending c.hear.ensures.set some hears
+    let few_found = rw c.in-Ok-Some.is at c.next.ensures.few in
+    let few : length given ≤ 4097 = rw c.in-Ok-Some.field-0-is at few_found on.bytes (rows_in_all on.reads) on.have in
+    let sound = sound_kind schema c.args.reads.now.schema on.bytes on.kind (c.fault.ensures.none (none_of c.fault.result c.in_default.not-Some) on.bytes (rows_in_all on.reads) on.have) in
+    heard schema begun c.args.rounds.now c.args.reads.now c.next.new.self before (view_by (g.F.Shelf.rest c.args.shelf.now) (g.F.Shelf.moved c.args.shelf.now))
+    (view_by (g.F.Shelf.rest c.next.new.shelf) (g.F.Shelf.moved c.next.new.shelf)) held
+    (g.K.Sink.held c.args.sink.now) given on sound few moves c.hear.new.rounds (g.K.Sink.held c.hear.new.sink) truncated c.in-Err.ending c.hear.ensures.set some
+    hears
 
 pub returns-in-Err-Memory-clause-goes : goal.returns-in-Err-Memory-clause-goes
 returns-in-Err-Memory-clause-goes g c = λ schema begun before held on truncated.
-    let takes = rw c.in-Err-Memory.is at c.next.ensures.stopped in
-    out_now schema begun c.args.rounds.now c.args.reads.now before (g.F.Shelf.rest c.args.shelf.now) held (g.K.Sink.held c.args.sink.now) on truncated
-    (g.F.Shelf.rest c.next.new.shelf) (g.K.Sink.held c.args.sink.now) 65536 (takes on.bytes (rows_in_all on.reads) on.have)
-    (Keeps-refl (g.K.Sink.held c.args.sink.now))
+    let moves = c.next.ensures.stopped (c.in-Err-Memory.is ∙ ap Err c.in-Err-Memory.field-0-is) on.bytes (rows_in_all on.reads) on.have in
+    let sound = sound_kind schema c.args.reads.now.schema on.bytes on.kind (c.fault.ensures.none (none_of c.fault.result c.in_default.not-Some) on.bytes (rows_in_all on.reads) on.have) in
+    out_now schema begun c.args.rounds.now c.args.reads.now before (view_by (g.F.Shelf.rest c.args.shelf.now) (g.F.Shelf.moved c.args.shelf.now)) held
+    (g.K.Sink.held c.args.sink.now) on truncated (view_by (g.F.Shelf.rest c.next.new.shelf) (g.F.Shelf.moved c.next.new.shelf))
+    (g.K.Sink.held c.args.sink.now) (moved moves.0 sound moves.1) (Keeps-refl (g.K.Sink.held c.args.sink.now))
 
 pub returns-clause-goes : goal.returns-clause-goes
 returns-clause-goes g c = λ schema begun before held on truncated.
-    unread_now schema begun c.args.rounds.now c.args.reads.now before (g.F.Shelf.rest c.args.shelf.now) held (g.K.Sink.held c.args.sink.now) on truncated
-    (g.F.Shelf.rest c.next.new.shelf) (g.K.Sink.held c.stop.new.sink) c.stop.new.rounds c.stop.result c.stop.ensures.set
+    let sound = sound_kind schema c.args.reads.now.schema on.bytes on.kind (c.fault.ensures.none (none_of c.fault.result c.in_default.not-Some) on.bytes (rows_in_all on.reads) on.have) in
+    unread_now schema begun c.args.rounds.now c.args.reads.now before (view_by (g.F.Shelf.rest c.args.shelf.now) (g.F.Shelf.moved c.args.shelf.now)) held
+    (g.K.Sink.held c.args.sink.now) on truncated (view_by (g.F.Shelf.rest c.next.new.shelf) (g.F.Shelf.moved c.next.new.shelf))
+    (g.K.Sink.held c.stop.new.sink) c.stop.new.rounds c.stop.result c.stop.ensures.set sound
     (c.next.ensures.failed (c.in-Err-ReadFault.is ∙ ap Err c.in-Err-ReadFault.field-0-is)) c.stop.ensures.stopped
 
 pub returns-in-Some-clause-goes : goal.returns-in-Some-clause-goes
 returns-in-Some-clause-goes g c = λ schema begun before held on truncated.
-    let bad = c.in-Some.ensures on.bytes (rows_in_all on.reads) on.have in
+    let bad = c.in-Some.ensures.found on.bytes (rows_in_all on.reads) on.have in
     let refuses = rw c.new.ensures.bytes at c.refuse.ensures.refused in
-    broken_now schema begun c.args.rounds.now c.args.reads.now before (g.F.Shelf.rest c.args.shelf.now) held (g.K.Sink.held c.args.sink.now) on truncated
-    (g.K.Sink.held c.refuse.new.sink) c.refuse.new.rounds c.in-Some.why c.refuse.result bad.0 bad.1 bad.2 (inr (λ more. bad.3 truncated more))
+    let view = view_by (g.F.Shelf.rest c.args.shelf.now) (g.F.Shelf.moved c.args.shelf.now) in
+    broken_now schema begun c.args.rounds.now c.args.reads.now before view held (g.K.Sink.held c.args.sink.now) on truncated view
+    (g.K.Sink.held c.refuse.new.sink) c.refuse.new.rounds c.in-Some.why c.refuse.result bad.0 bad.1 bad.2 (inr (refl, bad.4, λ more. bad.3 truncated more))
     c.refuse.ensures.set refuses
