@@ -23,9 +23,9 @@ pub enum TakeRefusal {
 pub enum AppendRefusal {
     /// The log is full.
     Full,
-    /// The writer's nodes are used.
+    /// The writer's nodes are used, and the row needs one more.
     Nodes,
-    /// The row does not fit the log's schema.
+    /// The row does not fit the log's schema, or it is a frame's, and the log one of records.
     Unfit,
     /// The frame has 2^32 bytes or more, its link is one that the schema does not read, or `reserved` is not 0.
     Frame,

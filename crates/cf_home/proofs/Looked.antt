@@ -1,11 +1,11 @@
 -- Places are looked at one after the other.
-use Rattle.std.proofs.Common.{true, false, Bool, Option, ◌-◌, ◌≡◌, ◌∙◌, ◌<◌, ◌≤◌, ◌+◌, ℕ, List, [], ◌∷◌, length, zero, suc, Some, None, slice_get, get_or, set, refl, sym, ap, subst, inl, inr, arith, get_or-set_same}
+use Rattle.std.proofs.Common.{true, false, Bool, Option, ◌-◌, ◌≡◌, ◌∙◌, ◌<◌, ◌≤◌, ◌+◌, ℕ, List, [], ◌∷◌, ◌++◌, length, zero, suc, Some, None, slice_get, get_or, set, refl, sym, ap, subst, inl, inr, arith, get_or-set_same}
 use Rattle.std.specs.Option.{is_some}
 use Rattle.std.proofs.lemmas.Option.{slice_get-get_or}
 use Rattle.std.proofs.lemmas.Bool.{cases_lt}
 use Rattle.cf_words.proofs.Heads.{get_set_other, get_set_same}
 use Rattle.cf_table.specs.Values.{PassValue}
-use Rattle.cf_home.specs.Homes.{HasLooked, HaveLooked, PlaceValue}
+use Rattle.cf_home.specs.Homes.{HasLooked, HaveLooked, IsAway, MayCome, PlaceValue}
 
 pub looked_none : (places : List PlaceValue) → HaveLooked places places
 looked_none [] = tt
@@ -13,8 +13,19 @@ looked_none (p ∷ places) = (inl refl, looked_none places)
 
 -- a place that was looked at may be looked at again
 pub looked_twice : (l m n : PlaceValue) → HasLooked l m → HasLooked m n → HasLooked l n
-looked_twice l m n (inl same) second = subst (λ (x : PlaceValue). HasLooked x n) same second
-looked_twice l m n (inr came) (inl same) = subst (λ (x : PlaceValue). HasLooked l x) (sym same) (inr came)
+looked_twice l m n (inl same) (inl again) = inl (again ∙ ap (λ (p : PlaceValue). record p { known = n.known }) same)
+looked_twice l m n (inl same) (inr came) =
+    let there : m.came ≡ l.came = ap (λ (p : PlaceValue). p.came) same in
+    inr (
+      ap (λ (p : PlaceValue). p.home) (sym same) ∙ came.0,
+      (
+        came.1.0,
+        came.1.1 ∙ ap (λ (ps : List PassValue). record { home = Some came.1.0; came = ps ++ came.1.0 ∷ []; known = n.known }) there,
+        subst (λ (ps : List PassValue). MayCome ps came.1.0) there came.1.2,
+      ),
+    )
+looked_twice l m n (inr came) (inl again) =
+    inr (came.0, (came.1.0, again ∙ ap (λ (p : PlaceValue). record p { known = n.known }) came.1.1, came.1.2))
 looked_twice l m n (inr came) (inr again) = absurd (cc (sym again.0 ∙ ap (λ (p : PlaceValue). p.home) came.1.1))
 
 pub looked_more : (ls ms : List PlaceValue) (k : ℕ) (d n : PlaceValue) → HaveLooked ls ms → k < length ms → HasLooked (get_or ms k d) n
@@ -39,16 +50,16 @@ none_of (Some pass) e = absurd (cc e)
 some_is : {X : Type 0} {x y : X} → Some x ≡ Some y → x ≡ y
 some_is e = cc e
 
--- behind the place, and at it, no pass is at home
-pub away_more : (ps : List PlaceValue) (n i : ℕ) (p : PlaceValue) → length ps ≡ n → i < length ps → p.home ≡ None
-    → ((k : ℕ) (q : PlaceValue) → n ≤ k + i → slice_get ps k ≡ Some q → q.home ≡ None)
-    → (k : ℕ) (q : PlaceValue) → n ≤ k + (i + 1) → slice_get (set ps (n - 1 - i) p) k ≡ Some q → q.home ≡ None
-away_more ps n i p long lt none before k q le at = elim (cases_lt (n - 1 - i) k) [
+-- behind the place, and at it, all passes are away
+pub away_more : (ps : List PlaceValue) (n i : ℕ) (p : PlaceValue) → length ps ≡ n → i < length ps → IsAway p
+    → ((k : ℕ) (q : PlaceValue) → n ≤ k + i → slice_get ps k ≡ Some q → IsAway q)
+    → (k : ℕ) (q : PlaceValue) → n ≤ k + (i + 1) → slice_get (set ps (n - 1 - i) p) k ≡ Some q → IsAway q
+away_more ps n i p long lt away before k q le at = elim (cases_lt (n - 1 - i) k) [
   | inl above ↦ before k q (omega (arith, above, le)) (sym (get_set_other ps (n - 1 - i) k p (λ same. absurd (omega (arith, above, same)))) ∙ at)
   | inr below ↦ (let here : k ≡ n - 1 - i = omega (arith, below, le, lt, long) in
       let found : slice_get (set ps (n - 1 - i) p) k ≡ Some p = subst (λ (j : ℕ). slice_get (set ps (n - 1 - i) p) j ≡ Some p) (sym here)
       (get_set_same ps (n - 1 - i) p _ (slice_get-get_or ps (n - 1 - i) p (omega (arith, lt, long)))) in
-      ap (λ (x : PlaceValue). x.home) (some_is (sym at ∙ found)) ∙ none)
+      subst IsAway (some_is (sym found ∙ at)) away)
 ]
 
 -- whether the place that was put there is at home

@@ -7,4 +7,4 @@ mod way;
 
 pub use place::Place;
 pub use places::{find_away, find_home, places_of, take_home};
-pub use way::{Homeward, Way};
+pub use way::{Homeward, Sent, Way};

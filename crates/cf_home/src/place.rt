@@ -1,7 +1,7 @@
 // A place of a writer.
-ghost use Rattle.std.specs.Prelude.{◌≡◌, [], Some, true};
+ghost use Rattle.std.specs.Prelude.{◌≡◌, [], None, Some, true};
 ghost use Rattle.std.specs.Option.{is_some as is_some_of};
-ghost use Rattle.cf_home.specs.Homes.{HasLooked, IsHome, Takes};
+ghost use Rattle.cf_home.specs.Homes.{HasLooked, IsHome, Takes, at_home};
 
 use crate::way::{Homeward, Way, way_for};
 use cf_table::WriterPass;
@@ -9,8 +9,8 @@ use rtrb::Consumer;
 use std::alloc::Global;
 use std::marker::Model;
 
-/// The place of a writer: its pass is at home, or it is away, or has come home since. Contracts see the pass that is at home, and those that
-/// came by the last way, the first of which is the one that was taken.
+/// The place of a writer: its pass is at home, or it is away, or has come home since. Contracts see the pass that is at home; those that
+/// came by the last way, the first of which is the one that was taken; and those that are known to be on it.
 #[derive(Drop)]
 pub struct Place {
     home: Option<WriterPass>,
@@ -18,17 +18,17 @@ pub struct Place {
 }
 
 impl Model for Place {
-    ghost use Rattle.cf_home.specs.Homes.{PlaceValue, came_by};
+    ghost use Rattle.cf_home.specs.Homes.{PlaceValue, came_by, known_by};
 
     ghost Value = { PlaceValue };
 
-    ghost view = { λ p. record { home = p.home; came = came_by p.way } };
+    ghost view = { λ p. record { home = p.home; came = came_by p.way; known = known_by p.way } };
 }
 
 impl Place {
     /// The place of a pass that is at home.
     pub fn of(pass: WriterPass) -> Place
-        ensures { result ≡ record { home = Some pass; came = [] } }
+        ensures { result ≡ at_home pass }
     {
         Place {
             home: Some(pass),
@@ -43,9 +43,10 @@ impl Place {
         self.home.is_some()
     }
 
-    /// A pass that has come since is at home then.
+    /// A pass that has come since is at home then. If none is, the way was empty.
     pub fn look(&mut self)
-        ensures { HasLooked self.old self.new }
+        ensures looked { HasLooked self.old self.new }
+        ensures empty { self.new.home ≡ None → self.new.known ≡ [] }
     {
         if self.home.is_some() {
             return;

@@ -13,6 +13,8 @@ use Rattle.cf_shape.specs.Lanes.{ShapeValue}
 use Rattle.cf_table.specs.Values.{IsOf, LogValue, PassValue, book_of}
 use Rattle.cf_table.specs.Moves.{AreAll, HasGathered, IsReading}
 use Rattle.cf_append.proofs.Appending.{rests_all}
+use Rattle.cf_log.specs.Writers.{AreWriters, HasJoined}
+use Rattle.cf_log.proofs.Writers.{joined}
 use Rattle.cf_home.specs.Homes.{AreAtHome, Comes, HaveLooked, IsHome, Keeps, PlaceValue, home_at, some_pass}
 use Rattle.cf_seen.specs.Seen.{seen_text}
 use Rattle.cf_store.specs.Closes.{IsClosed, IsEnd}
@@ -84,6 +86,26 @@ all_home log ps hs placed numbered home = record {
         let found = place_at ps hs w h home at in
         (w, h, 0, book_of h.view, at, ap (λ (bs : List Book). slice_get bs 0) (ready w h at).rest.one, (numbered.each w found.0 found.1).home h found.2)
 
+-- and each is that of its writer
+writers_home : (log : LogValue) (ps : List PlaceValue) (hs : List PassValue) → All (IsPlaceOf log) ps → AreNumbered log ps → AreAtHome ps hs
+    → AreWriters log hs
+writers_home log ps hs placed numbered home = record {
+  count = home_long ps hs home ∙ numbered.count;
+  each = λ k h at.
+      (let found = place_at ps hs k h home at in
+      let ready = (placed_at log ps k found.0 placed found.1).home h found.2 in
+      record { of = ready.of; rest = ready.rest; writer_is = (numbered.each k found.0 found.1).home h found.2 });
+}
+
+-- the log of a reader that was joined, and its root
+joined_end : (m n : Log) (passes : List PassValue) (root : PassValue) → n.of ≡ m.of → n.root ≡ m.root → AreAtHome n.places.items passes
+    → HasGathered (arc_value n.of).log.shape n.root passes root → HasJoined (arc_value m.of).log m.root passes root
+joined_end m n passes root of root_is home gathered =
+    let log = (arc_value n.of).log in
+    let here = joined log n.root root passes n.root_of (writers_home log n.places.items passes n.placed n.numbered home) gathered in
+    subst (λ (l : LogValue). HasJoined l m.root passes root) (ap (λ x. (arc_value {X = Shared} x).log) of)
+    (subst (λ (r : PassValue). HasJoined log r passes root) root_is here)
+
 -- a pass that has seen what the root has gathered
 pub gathered_aware : (log : LogValue) (m root n : PassValue) (hs : List PassValue) → HasGathered log.shape m hs root → IsOf n log
     → n.view ≡ new_pass [] (root.view).seen → IsReading log n
@@ -109,15 +131,12 @@ pub ended : (m l n : Log) (reader : Reader) (pass : PassValue) → IsLogWith l.p
     → IsLogWith l.places.items l n → IsEnd n pass → arc_value reader.of ≡ arc_value l.of → reader.pass ≡ pass → reader.words.items ≡ []
     → IsClosed m reader
 ended m l n reader pass before looked after end of is words =
-    let same : n.of ≡ m.of = after.of ∙ before.of in
-    let shape : (arc_value n.of).log.shape ≡ (arc_value m.of).log.shape = ap (λ x. (arc_value {X = Shared} x).log.shape) same in
     record {
       passes = end.passes;
       root = end.root;
       come = all_come m.places.items n.places.items end.passes
           (subst (λ (ps : List PlaceValue). HaveLooked m.places.items ps) (sym after.places_are) looked) end.home;
-      gathered = subst (λ (s : ShapeValue). HasGathered s m.root end.passes end.root) shape
-          (subst (λ (r : PassValue). HasGathered (arc_value n.of).log.shape r end.passes end.root) (after.root ∙ before.root) end.gathered);
+      joined = joined_end m n end.passes end.root (after.of ∙ before.of) (after.root ∙ before.root) end.home end.gathered;
       of = of ∙ ap (arc_value {X = Shared}) before.of;
       seen = ap (λ (h : PassValue). h.view) is ∙ end.seen;
       words = words;

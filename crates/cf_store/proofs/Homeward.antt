@@ -1,25 +1,70 @@
 -- A writer's pass may come home after it appended, and the places of a log stay those of its writers.
-use Rattle.std.proofs.Common.{◌≡◌, ◌∙◌, ◌≤◌, ℕ, List, [], ◌∷◌, Some, None, Result, inl, inr, zero, suc, length, map, slice_get, set, All, ap, refl, sym, subst, arith}
+use Rattle.std.proofs.Common.{◌≡◌, ◌∙◌, ◌≤◌, ℕ, List, [], ◌∷◌, ◌++◌, Some, None, Result, Ok, Err, inl, inr, zero, suc, length, map, take, slice_get, get_or, set, All, ap, refl, sym, subst, arith, append-nil, length-take}
+use Rattle.std.proofs.lemmas.List.{take-append-le}
 use Rattle.std.proofs.lemmas.Option.{get_or_from_slice_get, slice_get_within}
 use Rattle.cf_row.specs.Row.{RowValue}
 use Rattle.cf_shape.specs.Lanes.{ShapeValue}
-use Rattle.cf_table.specs.Values.{PassValue, LogValue, IsOf}
+use Rattle.cf_words.specs.Words.{Spot}
+use Rattle.cf_law.specs.Passes.{Book, Own}
+use Rattle.cf_law.specs.Events.{no_book}
+use Rattle.cf_table.specs.Values.{PassValue, LogValue, IsOf, book_of}
+use Rattle.cf_table.proofs.Settling.{begins_then}
 use Rattle.cf_append.specs.declared.appends.AppendFault.{AppendFault}
+use Rattle.cf_append.specs.declared.appends.AppendFault.TheVariants.{Full, NodesFull}
 use Rattle.cf_append.proofs.Answering.{same_writer}
 use Rattle.cf_log.specs.Appended.{HasAppended}
-use Rattle.cf_home.specs.Homes.{Comes, HasLooked, HaveLooked, IsSuccessor, MayCome, PlaceValue, at_home}
-use Rattle.cf_append.specs.Appends.{IsReady}
+use Rattle.cf_home.specs.Homes.{Comes, HasLooked, HaveLooked, IsFront, IsSuccessor, MayCome, PlaceValue, at_home, taken_home}
+use Rattle.cf_append.specs.Appends.{HasAppendAnswer, IsReady}
 use Rattle.cf_store.specs.Parts.{IsPlaceOf}
+
+-- what a list begins with it begins with when it is longer
+front_more : {X : Type 0} (xs ys zs ws : List X) → IsFront xs ys → zs ≡ ys ++ ws → IsFront xs zs
+front_more {X} xs ys zs ws front is =
+    let e = ap (λ (l : List X). length l) front in
+    let f = length-take (length xs) ys in
+    ap (take (length xs)) is ∙ (take-append-le (length xs) ys ws (omega (arith, e, f)) ∙ front)
+
+-- whatever appending a row answers, the pass has its rows and its used nodes, and then perhaps more
+grown : (shape : ShapeValue) (row : RowValue) (m n : PassValue) (r : Result ℕ AppendFault) → HasAppendAnswer shape row m n r
+    → (rows : List Own) × (spots : List Spot) × ((book_of n.view).mine ≡ (book_of m.view).mine ++ rows) × ((book_of n.view).used ≡ (book_of m.view).used ++ spots)
+grown shape row m n (Ok o) done = (
+  record { offset = o; row = row } ∷ [],
+  done.paths.used.spots,
+  ap (λ (bs : List Book). (get_or bs 0 (no_book 0)).mine) done.books,
+  ap (λ (bs : List Book). (get_or bs 0 (no_book 0)).used) done.books,
+)
+grown shape row m n (Err Full) (inl over) = (
+  [],
+  [],
+  ap (λ (h : PassValue). (book_of h.view).mine) over.is ∙ sym (append-nil (book_of m.view).mine),
+  ap (λ (h : PassValue). (book_of h.view).used) over.is ∙ sym (append-nil (book_of m.view).used),
+)
+grown shape row m n (Err Full) (inr late) = (
+  [],
+  late.paths.used.spots,
+  ap (λ (bs : List Book). (get_or bs 0 (no_book 0)).mine) late.books ∙ sym (append-nil (book_of m.view).mine),
+  ap (λ (bs : List Book). (get_or bs 0 (no_book 0)).used) late.books,
+)
+grown shape row m n (Err NodesFull) done = (
+  [],
+  done.used.spots,
+  ap (λ (bs : List Book). (get_or bs 0 (no_book 0)).mine) done.used.books ∙ sym (append-nil (book_of m.view).mine),
+  ap (λ (bs : List Book). (get_or bs 0 (no_book 0)).used) done.used.books,
+)
 
 -- a pass may come home as before when it has appended
 pub may_still : (shape : ShapeValue) (row : RowValue) (m n : PassValue) (r : Result ℕ AppendFault) (way way' : List PassValue) → way' ≡ way → MayCome way m
     → HasAppended shape row m n r → MayCome way' n
 may_still shape row m n r way way' same may did first at =
     let before = may first (ap (λ (w : List PassValue). slice_get w 0) (sym same) ∙ at) in
+    let more = grown shape row m n r did.answer in
     record {
       table = ap (λ (p : PassValue). p.table) did.goes_on.same ∙ before.table;
       nodes = ap (λ (p : PassValue). p.nodes) did.goes_on.same ∙ before.nodes;
       writer = same_writer shape row m n r did.answer ∙ before.writer;
+      rows = front_more (book_of first.view).mine (book_of m.view).mine (book_of n.view).mine more.0 before.rows more.2;
+      used = front_more (book_of first.view).used (book_of m.view).used (book_of n.view).used more.1 before.used more.3;
+      seen = begins_then (first.view).seen (m.view).seen (n.view).seen before.seen did.goes_on.longer;
       rest = did.rest;
     }
 
@@ -33,6 +78,9 @@ may_first first way log is ready other at =
       table = refl;
       nodes = refl;
       writer = refl;
+      rows = Rattle.std.proofs.Math.Seq.take-length (book_of first.view).mine;
+      used = Rattle.std.proofs.Math.Seq.take-length (book_of first.view).used;
+      seen = Rattle.std.proofs.Math.Seq.take-length (first.view).seen;
       rest = ready.rest;
     }
 
@@ -58,7 +106,7 @@ home_placed log place pass is ready = record {
 }
 
 -- a place that the pass was taken from
-pub away_placed : (log : LogValue) (pass : PassValue) → IsReady log pass → IsPlaceOf log (record { home = None; came = pass ∷ [] })
+pub away_placed : (log : LogValue) (pass : PassValue) → IsReady log pass → IsPlaceOf log (taken_home pass)
 away_placed log pass ready = record {
   home = λ other at. absurd (cc at);
   away = λ none. omega arith;
@@ -74,7 +122,7 @@ pub all_placed : (log : LogValue) (hs : List PassValue) (ps : List PlaceValue) �
 all_placed log hs ps is ready = subst (All (IsPlaceOf log)) (sym is) (placed_map log hs ready)
 
 one_looked : (log : LogValue) (m n : PlaceValue) → HasLooked m n → IsPlaceOf log m → IsPlaceOf log n
-one_looked log m n (inl same) of = subst (IsPlaceOf log) (sym same) of
+one_looked log m n (inl same) of = subst (IsPlaceOf log) (sym same) record { home = of.home; away = of.away; first = of.first }
 one_looked log m n (inr came) of =
     home_placed log n came.1.0 (ap (λ (p : PlaceValue). p.home) came.1.1) (comes_ready log m came.1.0 of (inr (came.0, came.1.2)))
 

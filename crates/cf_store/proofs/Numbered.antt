@@ -5,7 +5,7 @@ use Rattle.cf_law.specs.Passes.{Pass}
 use Rattle.cf_law.specs.Steps.{new_pass}
 use Rattle.cf_law.specs.Events.{no_book}
 use Rattle.cf_table.specs.Values.{LogValue, PassValue, book_of}
-use Rattle.cf_home.specs.Homes.{Comes, HasLooked, HaveLooked, PlaceValue, at_home}
+use Rattle.cf_home.specs.Homes.{Comes, HasLooked, HaveLooked, PlaceValue, at_home, taken_home}
 use Rattle.cf_store.specs.Parts.{AreNumbered, IsOfWriter, IsPlaceOf}
 use Rattle.cf_store.proofs.Homeward.{first_in, one_first, placed_at}
 use Rattle.cf_store.proofs.Opened.{at_home_new}
@@ -24,14 +24,14 @@ home_numbered w place pass is same = record {
   first = λ none. absurd (cc (sym is ∙ none));
 }
 
-pub away_numbered : (w : ℕ) (pass : PassValue) → (book_of pass.view).writer ≡ w → IsOfWriter w (record { home = None; came = pass ∷ [] })
+pub away_numbered : (w : ℕ) (pass : PassValue) → (book_of pass.view).writer ≡ w → IsOfWriter w (taken_home pass)
 away_numbered w pass same = record {
   home = λ other at. absurd (cc at);
   first = λ none other at. subst (λ (p : PassValue). (book_of p.view).writer ≡ w) (one_first pass other at) same;
 }
 
 one_numbered : (log : LogValue) (w : ℕ) (m n : PlaceValue) → HasLooked m n → IsPlaceOf log m → IsOfWriter w m → IsOfWriter w n
-one_numbered log w m n (inl same) placed of = subst (IsOfWriter w) (sym same) of
+one_numbered log w m n (inl same) placed of = subst (IsOfWriter w) (sym same) record { home = of.home; first = of.first }
 one_numbered log w m n (inr came) placed of =
     home_numbered w n came.1.0 (ap (λ (p : PlaceValue). p.home) came.1.1) (comes_numbered log w m came.1.0 placed of (inr (came.0, came.1.2)))
 

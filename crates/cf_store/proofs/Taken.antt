@@ -6,7 +6,7 @@ use Rattle.std.proofs.lemmas.Option.{get_or_from_slice_get}
 use Rattle.std.proofs.lemmas.List.{take_at}
 use Rattle.cf_words.proofs.Heads.{get_set_other, get_set_same}
 use Rattle.cf_table.specs.Values.{PassValue}
-use Rattle.cf_home.specs.Homes.{Comes, HasLooked, HaveLooked, IsHomeAt, Keeps, MayCome, PlaceValue}
+use Rattle.cf_home.specs.Homes.{Comes, HasLooked, HaveLooked, IsHomeAt, Keeps, MayCome, PlaceValue, taken_home}
 use Rattle.std.specs.Arc.{arc_value}
 use Rattle.cf_store.specs.Opens.{IsLogWith, IsTakenFrom, Takes, TakesAt}
 use Rattle.cf_store.specs.declared.held.Log.{Log}
@@ -68,9 +68,9 @@ still_home ls k n pass at home = record {
 }
 
 pub taken_from : (ms ls : List PlaceValue) (k : ℕ) (l : PlaceValue) (pass : PassValue) → HaveLooked ms ls → IsHomeAt ls k → slice_get ls k ≡ Some l
-    → l.home ≡ Some pass → IsTakenFrom ms (set ls k (record { home = None; came = pass ∷ [] })) k pass
+    → l.home ≡ Some pass → IsTakenFrom ms (set ls k (taken_home pass)) k pass
 taken_from ms ls k l pass looked home at is =
-    let gone : PlaceValue = record { home = None; came = pass ∷ [] } in
+    let gone : PlaceValue = taken_home pass in
     let before = looked_at ms ls k l looked at in
     record {
       place = before.0;

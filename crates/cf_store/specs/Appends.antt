@@ -7,10 +7,10 @@ use Rattle.cf_row.specs.Row.{Fits, RowValue}
 use Rattle.cf_pcap.specs.Capture.{FrameValue}
 use Rattle.cf_pcap.specs.Links.{is_link}
 use Rattle.cf_pcap.specs.declared.links.LinkSet.TheVariants.{Basic, All}
+use Rattle.cf_packet6.specs.declared.PacketSchema.{PacketSchema}
 use Rattle.cf_packet6.specs.declared.PacketSchema.TheVariants.{Packet, Packet6}
 use Rattle.cf_headers.specs.Packet.{packet_row_of}
 use Rattle.cf_headers.specs.Packet6.{packet6_row_of}
-use Rattle.cf_setup.specs.Setups.{SetupValue}
 use Rattle.cf_setup.specs.declared.source.Source.{Source}
 use Rattle.cf_setup.specs.declared.source.Source.TheVariants.{Packets, Records}
 use Rattle.cf_table.specs.Values.{book_of}
@@ -31,18 +31,16 @@ use Rattle.cf_calls.specs.declared.refusals.AppendRefusal.TheVariants.{Full, Nod
 abbrev pub numbers_row : ℕ → List ℕ → RowValue
 numbers_row number values = record { num = number; values = map (λ n. Num n) values }
 
--- the links of frames that a schema of packets reads: those of the captures that are read by it. A log of records reads no link, and
--- refuses the row of a frame.
-abbrev pub reads_link : Source → ℕ → Bool
-reads_link (Packets Packet) link = is_link Basic link
-reads_link (Packets Packet6) link = is_link All link
-reads_link Records link = true
+-- the links of frames that a schema of packets reads: those of the captures that are read by it
+abbrev pub reads_link : PacketSchema → ℕ → Bool
+reads_link Packet link = is_link Basic link
+reads_link Packet6 link = is_link All link
 
--- a frame that is not too long, of a link that is read
-pub record IsFrame (setup : SetupValue) (capture : Capture) (bytes : List ℕ) : Type 0 where
+-- a frame that is not too long, of a link that the schema reads
+pub record IsFrame (schema : PacketSchema) (capture : Capture) (bytes : List ℕ) : Type 0 where
   pub few : length bytes < 2 ^ 32
   pub link : capture.link < 2 ^ 16
-  pub is_read : reads_link setup.source capture.link ≡ true
+  pub is_read : reads_link schema capture.link ≡ true
   pub nothing_reserved : capture.reserved ≡ 0
 
 -- the frame of these bytes, which is captured whole as far as they go
@@ -51,14 +49,9 @@ frame_of capture bytes =
     record { num = capture.number; ts = capture.ns; caplen = length bytes; len = capture.length; link = capture.link; bytes = bytes }
 
 -- the row of a frame by the schema
-abbrev pub row_by : Source → FrameValue → RowValue
-row_by (Packets Packet) = packet_row_of
-row_by (Packets Packet6) = packet6_row_of
-row_by Records = packet_row_of
-
--- the row of a frame in a log of the setup
-abbrev pub frame_row : SetupValue → FrameValue → RowValue
-frame_row setup frame = row_by setup.source frame
+abbrev pub row_by : PacketSchema → FrameValue → RowValue
+row_by Packet = packet_row_of
+row_by Packet6 = packet6_row_of
 
 -- The row was appended by a writer, which stays one of its log, with its way home, or why it was not.
 abbrev pub HasWritten : RowValue → Writer → Writer → Result ℕ AppendFault → Type 0
@@ -74,18 +67,23 @@ AppendsRow row m n (Err Unfit) = (n ≡ m) × (Fits (arc_value m.of).log.shape.s
 AppendsRow row m n (Err Frame) = ⊥
 AppendsRow row m n (Err Memory) = ⊥
 
--- What appending a frame's row answers. Before that the frame may be refused, or there may be no memory for a copy of it.
+-- What appending the row that a frame has by the schema answers. Before that the frame may be refused, or there may be no memory for a copy
+-- of it.
+abbrev pub AppendsPacket : PacketSchema → Capture → List ℕ → Writer → Writer → Result ℕ AppendRefusal → Type 0
+AppendsPacket schema capture bytes m n (Err Frame) = (n ≡ m) × (IsFrame schema capture bytes → ⊥)
+AppendsPacket schema capture bytes m n (Err Memory) = (n ≡ m) × IsFrame schema capture bytes
+AppendsPacket schema capture bytes m n (Err Full) = IsFrame schema capture bytes × AppendsRow (row_by schema (frame_of capture bytes)) m n (Err Full)
+AppendsPacket schema capture bytes m n (Err Nodes) = IsFrame schema capture bytes × AppendsRow (row_by schema (frame_of capture bytes)) m n (Err Nodes)
+AppendsPacket schema capture bytes m n (Err Unfit) = IsFrame schema capture bytes × AppendsRow (row_by schema (frame_of capture bytes)) m n (Err Unfit)
+AppendsPacket schema capture bytes m n (Ok o) = IsFrame schema capture bytes × AppendsRow (row_by schema (frame_of capture bytes)) m n (Ok o)
+
+-- What appending a frame's row answers: a log of packets appends the row that it has by the schema; in a log of records no frame fits.
+abbrev pub AppendsBy : Source → Capture → List ℕ → Writer → Writer → Result ℕ AppendRefusal → Type 0
+AppendsBy (Packets schema) capture bytes m n r = AppendsPacket schema capture bytes m n r
+AppendsBy Records capture bytes m n r = (n ≡ m) × (r ≡ Err Unfit)
+
 abbrev pub AppendsFrame : Capture → List ℕ → Writer → Writer → Result ℕ AppendRefusal → Type 0
-AppendsFrame capture bytes m n (Err Frame) = (n ≡ m) × (IsFrame (arc_value m.of).setup capture bytes → ⊥)
-AppendsFrame capture bytes m n (Err Memory) = (n ≡ m) × IsFrame (arc_value m.of).setup capture bytes
-AppendsFrame capture bytes m n (Err Full) = IsFrame (arc_value m.of).setup capture bytes
-    × AppendsRow (frame_row (arc_value m.of).setup (frame_of capture bytes)) m n (Err Full)
-AppendsFrame capture bytes m n (Err Nodes) = IsFrame (arc_value m.of).setup capture bytes
-    × AppendsRow (frame_row (arc_value m.of).setup (frame_of capture bytes)) m n (Err Nodes)
-AppendsFrame capture bytes m n (Err Unfit) = IsFrame (arc_value m.of).setup capture bytes
-    × AppendsRow (frame_row (arc_value m.of).setup (frame_of capture bytes)) m n (Err Unfit)
-AppendsFrame capture bytes m n (Ok o) = IsFrame (arc_value m.of).setup capture bytes
-    × AppendsRow (frame_row (arc_value m.of).setup (frame_of capture bytes)) m n (Ok o)
+AppendsFrame capture bytes m n r = AppendsBy (arc_value m.of).setup.source capture bytes m n r
 
 -- all bytes of the frame stand in the buffer
 abbrev pub StandsIn : List ℕ → Framed → Type 0
@@ -96,21 +94,30 @@ abbrev pub bytes_in : List ℕ → Framed → List ℕ
 bytes_in buffer f = take f.count (drop f.from buffer)
 
 -- What appending the row of a frame of a batch answers: what appending its bytes does, which all stand in the buffer; or they do not.
+abbrev pub AppendsPart : PacketSchema → List ℕ → Framed → Writer → Writer → Result ℕ AppendRefusal → Type 0
+AppendsPart schema buffer f m n (Err Frame) = (n ≡ m) × (StandsIn buffer f → IsFrame schema f.capture (bytes_in buffer f) → ⊥)
+AppendsPart schema buffer f m n (Err Full) = StandsIn buffer f × AppendsPacket schema f.capture (bytes_in buffer f) m n (Err Full)
+AppendsPart schema buffer f m n (Err Nodes) = StandsIn buffer f × AppendsPacket schema f.capture (bytes_in buffer f) m n (Err Nodes)
+AppendsPart schema buffer f m n (Err Unfit) = StandsIn buffer f × AppendsPacket schema f.capture (bytes_in buffer f) m n (Err Unfit)
+AppendsPart schema buffer f m n (Err Memory) = StandsIn buffer f × AppendsPacket schema f.capture (bytes_in buffer f) m n (Err Memory)
+AppendsPart schema buffer f m n (Ok o) = StandsIn buffer f × AppendsPacket schema f.capture (bytes_in buffer f) m n (Ok o)
+
+-- In a log of records no frame fits.
+abbrev pub FramedBy : Source → List ℕ → Framed → Writer → Writer → Result ℕ AppendRefusal → Type 0
+FramedBy (Packets schema) buffer f m n r = AppendsPart schema buffer f m n r
+FramedBy Records buffer f m n r = (n ≡ m) × (r ≡ Err Unfit)
+
 abbrev pub AppendsFramed : List ℕ → Framed → Writer → Writer → Result ℕ AppendRefusal → Type 0
-AppendsFramed buffer f m n (Err Frame) = (n ≡ m) × (StandsIn buffer f → IsFrame (arc_value m.of).setup f.capture (bytes_in buffer f) → ⊥)
-AppendsFramed buffer f m n (Err Full) = StandsIn buffer f × AppendsFrame f.capture (bytes_in buffer f) m n (Err Full)
-AppendsFramed buffer f m n (Err Nodes) = StandsIn buffer f × AppendsFrame f.capture (bytes_in buffer f) m n (Err Nodes)
-AppendsFramed buffer f m n (Err Unfit) = StandsIn buffer f × AppendsFrame f.capture (bytes_in buffer f) m n (Err Unfit)
-AppendsFramed buffer f m n (Err Memory) = StandsIn buffer f × AppendsFrame f.capture (bytes_in buffer f) m n (Err Memory)
-AppendsFramed buffer f m n (Ok o) = StandsIn buffer f × AppendsFrame f.capture (bytes_in buffer f) m n (Ok o)
+AppendsFramed buffer f m n r = FramedBy (arc_value m.of).setup.source buffer f m n r
 
 -- The rows of the frames were appended in order, up to one that was refused, and their offsets stand at the front of the list.
 abbrev pub AppendsFrames : List ℕ → List Framed → Writer → Writer → List ℕ → List ℕ → ℕ → Option AppendRefusal → Type 0
 AppendsFrames buffer = AreDoneUpTo (λ f m n o. AppendsFramed buffer f m n (Ok o)) (λ f m n e. AppendsFramed buffer f m n (Err e))
 
--- What appending a row of such values answers. It does not fit either if one of them states none. Before that there may be no memory for it.
+-- What appending a row of such values answers. It does not fit either if one of them states none. There may be no memory for a row whose
+-- values all do.
 abbrev pub AppendsPlain : ℕ → List ShownValue → Writer → Writer → Result ℕ AppendRefusal → Type 0
-AppendsPlain number values m n (Err Memory) = n ≡ m
+AppendsPlain number values m n (Err Memory) = (n ≡ m) × (list_all is_value values ≡ true)
 AppendsPlain number values m n (Err Frame) = ⊥
 AppendsPlain number values m n (Err Full) = (list_all is_value values ≡ true) × AppendsRow (plain_row number values) m n (Err Full)
 AppendsPlain number values m n (Err Nodes) = (list_all is_value values ≡ true) × AppendsRow (plain_row number values) m n (Err Nodes)
@@ -118,9 +125,9 @@ AppendsPlain number values m n (Err Unfit) =
     (n ≡ m) × (list_all is_value values ≡ true → Fits (arc_value m.of).log.shape.schema (plain_row number values) → ⊥)
 AppendsPlain number values m n (Ok o) = (list_all is_value values ≡ true) × AppendsRow (plain_row number values) m n (Ok o)
 
--- What appending a row of numbers answers. Before that there may be no memory for the row.
+-- What appending a row of numbers answers. There may be no memory for a row that fits.
 abbrev pub AppendsValues : ℕ → List ℕ → Writer → Writer → Result ℕ AppendRefusal → Type 0
-AppendsValues number values m n (Err Memory) = n ≡ m
+AppendsValues number values m n (Err Memory) = (n ≡ m) × Fits (arc_value m.of).log.shape.schema (numbers_row number values)
 AppendsValues number values m n (Err Frame) = AppendsRow (numbers_row number values) m n (Err Frame)
 AppendsValues number values m n (Err Full) = AppendsRow (numbers_row number values) m n (Err Full)
 AppendsValues number values m n (Err Nodes) = AppendsRow (numbers_row number values) m n (Err Nodes)

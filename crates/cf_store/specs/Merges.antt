@@ -3,8 +3,6 @@ use Rattle.std.specs.Prelude.{◌≡◌, ℕ, ◌+◌, ◌*◌, ◌/◌, ◌<◌
 use Rattle.std.specs.List.{range_with_len}
 use Rattle.std.specs.Global.{Global}
 use Rattle.cf_fold.specs.Quads.{QuadValue, IsQuad}
-use Rattle.cf_plain.specs.declared.answer.Group.{Group}
-use Rattle.cf_plain.specs.Groups.{pair_of}
 use Rattle.cf_plain.specs.Segments.{merged, numbers_in}
 use Rattle.cf_store.specs.Asks.{groups_words}
 use Rattle.cf_calls.specs.declared.refusals.MergeRefusal.{MergeRefusal}
@@ -37,26 +35,14 @@ pub record AreGroups (words : List ℕ) : Type 0 where
 abbrev pub groups_in : List ℕ → List (ℕ × QuadValue)
 groups_in words = map (group_at words) (range_with_len 0 (length words / 5))
 
--- What reading groups answers. If there is no memory, nothing is said of the words.
-abbrev pub ReadsGroups : List ℕ → Result (Vec Group Global) MergeRefusal → Type 0
-ReadsGroups words (Ok groups) = AreGroups words × (map pair_of groups.items ≡ groups_in words)
-ReadsGroups words (Err NoGroups) = AreGroups words → ⊥
-ReadsGroups words (Err Memory) = Unit {0}
-
--- the same of two lists
-abbrev pub ReadsBoth : List ℕ → List ℕ → Result (Vec Group Global) MergeRefusal → Type 0
-ReadsBoth one other (Ok groups) = AreGroups one × AreGroups other × (map pair_of groups.items ≡ groups_in one ++ groups_in other)
-ReadsBoth one other (Err NoGroups) = AreGroups one → AreGroups other → ⊥
-ReadsBoth one other (Err Memory) = Unit {0}
-
 -- both lists are of groups, and of at most 2^20 numbers together
 pub record CanMerge (one other : List ℕ) : Type 0 where
   pub one_is : AreGroups one
   pub other_is : AreGroups other
   pub few : numbers_in (groups_in one ++ groups_in other) ≤ 2 ^ 20
 
--- What merging two lists of groups answers.
+-- What merging two lists of groups answers. There may be no memory for lists that can be merged.
 abbrev pub Merges : List ℕ → List ℕ → Result (Vec ℕ Global) MergeRefusal → Type 0
 Merges one other (Ok words) = CanMerge one other × (words.items ≡ groups_words (merged (groups_in one ++ groups_in other)))
 Merges one other (Err NoGroups) = CanMerge one other → ⊥
-Merges one other (Err Memory) = Unit {0}
+Merges one other (Err Memory) = CanMerge one other

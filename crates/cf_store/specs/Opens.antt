@@ -12,7 +12,7 @@ use Rattle.cf_setup.specs.declared.parse.SetupFault.TheVariants as faults
 use Rattle.cf_law.specs.Steps.{new_pass}
 use Rattle.cf_law.specs.Events.{no_book}
 use Rattle.cf_table.specs.Values.{PassValue}
-use Rattle.cf_home.specs.Homes.{AreAway, Comes, IsHomeAt, Keeps, PlaceValue, at_home}
+use Rattle.cf_home.specs.Homes.{AreAway, Comes, IsAway, IsHomeAt, Keeps, PlaceValue, at_home, taken_home}
 use Rattle.cf_store.specs.declared.held.Log.{Log}
 use Rattle.cf_store.specs.declared.held.Writer.{Writer}
 use Rattle.cf_store.specs.declared.held.Reader.{Reader}
@@ -73,26 +73,27 @@ pub record IsLogWith (places : List PlaceValue) (before after : Log) : Type 0 wh
   pub root : after.root ≡ before.root
   pub places_are : after.places.items ≡ places
 
--- The pass was taken from the k-th place, where it was at home or came home: it is away from there, and none behind it is at home. At each
+-- The pass was taken from the k-th place, where it was at home or came home: it is away from there, and none behind it is at home, nor was on
+-- its way. At each
 -- other place all is as it was, or a pass came home.
 pub record IsTakenFrom (before after : List PlaceValue) (k : ℕ) (pass : PassValue) : Type 0 where
   pub place : PlaceValue
   pub at : slice_get before k ≡ Some place
   pub comes : Comes place pass
-  pub away : slice_get after k ≡ Some (record { home = None; came = pass ∷ [] })
+  pub away : slice_get after k ≡ Some (taken_home pass)
   pub long : length after ≡ length before
   pub others : (j : ℕ) (m n : PlaceValue) → j ≢ k → slice_get before j ≡ Some m → slice_get after j ≡ Some n → Keeps m n
-  pub last : (j : ℕ) (other : PlaceValue) → k < j → slice_get after j ≡ Some other → other.home ≡ None
+  pub last : (j : ℕ) (other : PlaceValue) → k < j → slice_get after j ≡ Some other → IsAway other
 
 -- The writer of that place was taken; or there was no memory, and its pass stays at home.
 abbrev pub TakesAt : ℕ → Log → Log → Option Writer → Type 0
 TakesAt k m n (Some w) = IsLogWith n.places.items m n × (arc_value w.of ≡ arc_value m.of) × (w.way ≡ w.pass ∷ [])
     × ((place : PlaceValue) × (slice_get m.places.items k ≡ Some place) × (place.home ≡ Some w.pass)
-    × (n.places.items ≡ set m.places.items k (record { home = None; came = w.pass ∷ [] })))
+    × (n.places.items ≡ set m.places.items k (taken_home w.pass)))
 TakesAt k m n None = IsLogWith n.places.items m n × ((place after : PlaceValue) × (slice_get m.places.items k ≡ Some place)
     × (after.home ≡ place.home) × (n.places.items ≡ set m.places.items k after))
 
--- A writer was taken, from the last place whose pass is at home; or none is; or one is, and there was no memory. Refused, passes may have
+-- A writer was taken, from the last place whose pass is at home; or none is, nor was on its way; or one is, and there was no memory. Refused, passes may have
 -- come home.
 abbrev pub Takes : Log → Log → Result Writer TakeRefusal → Type 0
 Takes m n (Ok w) = IsLogWith n.places.items m n × (arc_value w.of ≡ arc_value m.of) × (w.way ≡ w.pass ∷ [])

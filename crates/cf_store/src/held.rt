@@ -1,5 +1,5 @@
 // A log, its writers and its readers, as a program holds them.
-ghost use Rattle.std.specs.Prelude.{◌≡◌, [], All, true};
+ghost use Rattle.std.specs.Prelude.{◌≡◌, ◌++◌, ◌∷◌, [], All, true};
 ghost use Rattle.std.specs.List.{list_all};
 ghost use Rattle.std.specs.Arc.{arc_value};
 ghost use Rattle.cf_law.specs.Steps.{new_pass};
@@ -10,7 +10,7 @@ ghost use Rattle.cf_table.specs.Moves.{IsReading};
 ghost use Rattle.cf_append.specs.Appends.{IsReady};
 ghost use Rattle.cf_store.specs.Parts.{AreNumbered, IsPlaceOf};
 
-use cf_home::{Place, Way};
+use cf_home::{Place, Sent, Way};
 use cf_setup::Setup;
 use cf_table::{MultiLog, ReaderPass, Root, WriterPass};
 use std::sync::Arc;
@@ -58,12 +58,19 @@ impl Writer {
         } = self;
         pass
     }
+
+    /// Gives the writer back: its pass, with all that it has appended, goes home to its place in the log.
+    pub fn give_back(self) -> Sent
+        ensures { result ≡ self.way ++ self.pass ∷ [] }
+    {
+        let Writer { of: _of, pass, way } = self;
+        way.send(pass)
+    }
 }
 
 impl Drop for Writer {
     fn drop(self) {
-        let Writer { of: _of, pass, way } = self;
-        drop(way.send(pass));
+        drop(self.give_back());
     }
 }
 

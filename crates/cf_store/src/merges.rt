@@ -1,9 +1,9 @@
 // Groups of several logs are merged, as the words that readers tell.
-ghost use Rattle.std.specs.Prelude.{◌≡◌, ◌+◌, ◌*◌, ◌<◌, ◌≤◌, ◌^◌, ◌++◌, ◌↔◌, length, map, true, IfOk, IfSome, IfNone};
+ghost use Rattle.std.specs.Prelude.{◌≡◌, ◌+◌, ◌*◌, ◌<◌, ◌≤◌, ◌^◌, ◌++◌, ◌↔◌, length, map, true, IfOk, MatchOption};
 ghost use Rattle.cf_plain.specs.Groups.{pair_of};
 ghost use Rattle.cf_plain.specs.Segments.{merged, numbers_in};
 ghost use Rattle.cf_store.specs.Asks.{groups_words};
-ghost use Rattle.cf_store.specs.Merges.{IsToldQuad, Merges, ReadsBoth, ReadsGroups, group_at as group_at_of, quad_at};
+ghost use Rattle.cf_store.specs.Merges.{AreGroups, CanMerge, IsToldQuad, Merges, group_at as group_at_of, groups_in, quad_at};
 
 use crate::reader::group_words;
 use cf_calls::MergeRefusal;
@@ -25,68 +25,92 @@ fn is_quad(count: u64, sum: u64, least: u64, greatest: u64) -> bool
         && greatest <= 0xffff_ffff
 }
 
-// The group that the five words at a place are, if they are one.
-fn group_at(words: &[u64], place: usize) -> Option<Group>
+// Whether the five words at a place are a group.
+fn is_group_at(words: &[u64], place: usize) -> bool
     requires { 5 * place + 5 ≤ length words.now }
-    ensures some { IfSome result (λ group. IsToldQuad (quad_at words.now place) × (pair_of group ≡ group_at_of words.now place)) }
-    ensures none { IfNone result (IsToldQuad (quad_at words.now place) → ⊥) }
+    ensures { (result ≡ true) ↔ IsToldQuad (quad_at words.now place) }
 {
     let at = 5 * place;
-    let (count, sum) = (words[at + 1], words[at + 2]);
-    let (least, greatest) = (words[at + 3], words[at + 4]);
-    if !is_quad(count, sum, least, greatest) {
-        return None;
-    }
-    Some(Group {
-        key: words[at],
-        quad: Quad::new(count, sum, least, greatest),
-    })
+    is_quad(words[at + 1], words[at + 2], words[at + 3], words[at + 4])
 }
 
-// The groups that the words are.
-fn groups_of(alloc: Global, words: &[u64]) -> Result<Vec<Group>, MergeRefusal>
-    ensures { ReadsGroups words.now result }
+// Whether the words are those of groups.
+fn are_groups(words: &[u64]) -> bool
+    ensures { (result ≡ true) ↔ AreGroups words.now }
 {
     let count = words.len() / 5;
     if count * 5 != words.len() {
-        return Err(MergeRefusal::NoGroups);
+        return false;
     }
-    let mut groups = Vec::new(alloc);
     for k in 0..count {
-        let Some(group) = group_at(words, k) else {
-            return Err(MergeRefusal::NoGroups);
+        if !is_group_at(words, k) {
+            return false;
+        }
+    }
+    true
+}
+
+// How many more numbers than those of the groups there is room for, if there is room for those.
+fn room_behind(words: &[u64], room: u64) -> Option<u64>
+    ensures { MatchOption result (room < numbers_in (groups_in words.now)) (λ left. left + numbers_in (groups_in words.now) ≡ room) }
+{
+    let mut left = room;
+    for k in 0..words.len() / 5 {
+        let Some(less) = left.checked_sub(words[5 * k + 1]) else {
+            return None;
         };
-        let Ok(()) = groups.push(group) else {
-            return Err(MergeRefusal::Memory);
-        };
+        left = less;
+    }
+    Some(left)
+}
+
+// Whether both lists are of groups, and of at most 2^20 numbers together.
+fn can_merge(one: &[u64], other: &[u64]) -> bool
+    ensures { (result ≡ true) ↔ CanMerge one.now other.now }
+{
+    if !are_groups(one) || !are_groups(other) {
+        return false;
+    }
+    match room_behind(one, 0x10_0000) {
+        Some(room) => room_behind(other, room).is_some(),
+        None => false,
+    }
+}
+
+// The group that the five words at a place are.
+fn group_at(words: &[u64], place: usize) -> Group
+    requires place { 5 * place + 5 ≤ length words.now }
+    requires quad { IsToldQuad (quad_at words.now place) }
+    ensures { pair_of result ≡ group_at_of words.now place }
+{
+    let at = 5 * place;
+    Group {
+        key: words[at],
+        quad: Quad::new(words[at + 1], words[at + 2], words[at + 3], words[at + 4]),
+    }
+}
+
+// The groups that the words are.
+fn groups_of(alloc: Global, words: &[u64]) -> Result<Vec<Group>, Memory>
+    requires { AreGroups words.now }
+    ensures { IfOk result (λ groups. map pair_of groups.items ≡ groups_in words.now) }
+{
+    let mut groups = Vec::new(alloc);
+    for k in 0..words.len() / 5 {
+        groups.push(group_at(words, k))?;
     }
     Ok(groups)
 }
 
 // The groups of both lists of words, one behind the other.
-fn both_of(alloc: Global, one: &[u64], other: &[u64]) -> Result<Vec<Group>, MergeRefusal>
-    ensures { ReadsBoth one.now other.now result }
+fn both_of(alloc: Global, one: &[u64], other: &[u64]) -> Result<Vec<Group>, Memory>
+    requires { AreGroups one.now × AreGroups other.now }
+    ensures { IfOk result (λ groups. map pair_of groups.items ≡ groups_in one.now ++ groups_in other.now) }
 {
     let mut groups = groups_of(alloc, one)?;
     let more = groups_of(alloc, other)?;
-    if groups.extend_from_slice(&more).is_err() {
-        return Err(MergeRefusal::Memory);
-    }
+    groups.extend_from_slice(&more)?;
     Ok(groups)
-}
-
-// Whether the groups are of at most 2^20 numbers.
-fn are_few(groups: &[Group]) -> bool
-    ensures { (result ≡ true) ↔ (numbers_in (map pair_of groups.now) ≤ 2 ^ 20) }
-{
-    let mut room = 0x10_0000u64;
-    for group in groups {
-        let Some(left) = room.checked_sub(group.quad.count()) else {
-            return false;
-        };
-        room = left;
-    }
-    true
 }
 
 // The words of the groups, those of one key merged.
@@ -105,10 +129,12 @@ fn merged_words(alloc: Global, groups: Vec<Group>) -> Result<Vec<u64>, Memory>
 pub fn merge(alloc: Global, one: &[u64], other: &[u64]) -> Result<Vec<u64>, MergeRefusal>
     ensures { Merges one.now other.now result }
 {
-    let groups = both_of(alloc, one, other)?;
-    if !are_few(&groups) {
+    if !can_merge(one, other) {
         return Err(MergeRefusal::NoGroups);
     }
+    let Ok(groups) = both_of(alloc, one, other) else {
+        return Err(MergeRefusal::Memory);
+    };
     match merged_words(alloc, groups) {
         Ok(words) => Ok(words),
         Err(_) => Err(MergeRefusal::Memory),

@@ -1,11 +1,13 @@
 // Rows are appended by a writer of a log.
-ghost use Rattle.std.specs.Prelude.{◌≡◌, ◌<◌, ◌≤◌, ◌^◌, ◌↔◌, true, IfOk, OnOk, length};
+ghost use Rattle.std.specs.Prelude.{◌≡◌, ◌<◌, ◌≤◌, ◌^◌, ◌↔◌, true, IfOk, MatchOption, OnOk, length, map};
 ghost use Rattle.std.specs.Arc.{arc_value};
-ghost use Rattle.cf_row.specs.Row.{Fits};
+ghost use Rattle.cf_row.specs.declared.row.Value.TheVariants.{Num};
+ghost use Rattle.cf_row.specs.Row.{Fits, is_of_kind, values_fit};
+ghost use Rattle.cf_setup.specs.declared.source.Source.TheVariants.{Packets, Records};
 ghost use Rattle.cf_table.specs.Values.{book_of};
 ghost use Rattle.cf_append.specs.Paths.{Remembers};
 ghost use Rattle.cf_log.specs.Appended.{HasAppended};
-ghost use Rattle.cf_store.specs.Appends.{AppendsFrame, AppendsFramed, AppendsFrames, AppendsPlain, AppendsRow, AppendsValues, IsRoomOf, IsFrame, StandsIn, numbers_row, frame_of, frame_row, reads_link, bytes_in as bytes_in_of};
+ghost use Rattle.cf_store.specs.Appends.{AppendsFrame, AppendsFramed, AppendsFrames, AppendsPlain, AppendsRow, AppendsValues, IsRoomOf, IsFrame, StandsIn, numbers_row, frame_of, reads_link, row_by, bytes_in as bytes_in_of};
 
 use crate::held::Writer;
 use crate::shown::{Capture, Framed, Room, ShownValue};
@@ -15,7 +17,7 @@ use cf_headers::{packet_row, packet6_row};
 use cf_log::{AppendFault, Leaves, append_near};
 use cf_packet6::PacketSchema;
 use cf_pcap::{Frame, LinkSet};
-use cf_row::{Memory, Row, Value, fits};
+use cf_row::{Attr, Kind, Memory, Row, Value, fits};
 use cf_setup::{Setup, Source};
 use cf_table::Pass;
 use std::alloc::Global;
@@ -31,25 +33,62 @@ fn row_of(alloc: Global, number: u32, values: &[u64]) -> Result<Row, Memory>
     Ok(Row::new(number, listed))
 }
 
-// Whether the schema reads frames of that link.
-fn is_read(setup: &Setup, link: u16) -> bool
-    ensures { result ≡ reads_link setup.now.source link }
+// Whether the number is a value of that kind.
+fn is_of(kind: Kind, number: u64) -> bool
+    ensures { result ≡ is_of_kind kind (Num number) }
+{
+    match kind {
+        Kind::U8 => number < 1 << 8,
+        Kind::U16 => number < 1 << 16,
+        Kind::U32 => number < 1 << 32,
+        Kind::U64 => true,
+        Kind::Bytes(_) => false,
+    }
+}
+
+// Whether there is a number for each attribute, of its kind.
+fn are_of(attrs: &[Attr], numbers: &[u64]) -> bool
+    ensures { result ≡ values_fit attrs.now (map (λ n. Num n) numbers.now) }
+{
+    if attrs.len() != numbers.len() {
+        return false;
+    }
+    for place in 0..attrs.len() {
+        if !is_of(attrs[place].kind, numbers[place]) {
+            return false;
+        }
+    }
+    true
+}
+
+// The schema of the packets whose rows the log takes, if it is no log of records.
+fn packets_of(setup: &Setup) -> Option<PacketSchema>
+    ensures { MatchOption result (setup.now.source ≡ Records) (λ schema. setup.now.source ≡ Packets schema) }
 {
     match setup.source() {
-        Source::Packets(PacketSchema::Packet) => LinkSet::Basic.reads(link),
-        Source::Packets(PacketSchema::Packet6) => LinkSet::All.reads(link),
-        Source::Records => true,
+        Source::Packets(schema) => Some(schema),
+        Source::Records => None,
+    }
+}
+
+// Whether the schema reads frames of that link.
+fn is_read(schema: PacketSchema, link: u16) -> bool
+    ensures { result ≡ reads_link schema link }
+{
+    match schema {
+        PacketSchema::Packet => LinkSet::Basic.reads(link),
+        PacketSchema::Packet6 => LinkSet::All.reads(link),
     }
 }
 
 // Whether it is a frame that is not too long, of a link that the schema reads.
-fn is_frame(setup: &Setup, capture: Capture, bytes: &[u8]) -> bool
-    ensures { (result ≡ true) ↔ IsFrame setup.now capture bytes.now }
+fn is_frame(schema: PacketSchema, capture: Capture, bytes: &[u8]) -> bool
+    ensures { (result ≡ true) ↔ IsFrame schema capture bytes.now }
 {
     bytes.len() <= 0xffff_ffff
         && capture.reserved == 0
         && capture.link <= 0xffff
-        && is_read(setup, capture.link as u16)
+        && is_read(schema, capture.link as u16)
 }
 
 // A frame of no bytes.
@@ -99,13 +138,13 @@ fn bytes_in(buffer: &[u8], framed: Framed) -> &[u8]
     rest.split_at(framed.count as usize).0
 }
 
-// The row of a frame in a log of the setup.
-fn row_of_frame(alloc: Global, setup: &Setup, frame: &Frame) -> Result<Row, Memory>
-    ensures { IfOk result (λ row. row ≡ frame_row setup.now frame.now) }
+// The row of a frame by the schema.
+fn row_of_frame(alloc: Global, schema: PacketSchema, frame: &Frame) -> Result<Row, Memory>
+    ensures { IfOk result (λ row. row ≡ row_by schema frame.now) }
 {
-    match setup.source() {
-        Source::Packets(PacketSchema::Packet6) => packet6_row(alloc, frame),
-        Source::Packets(PacketSchema::Packet) | Source::Records => packet_row(alloc, frame),
+    match schema {
+        PacketSchema::Packet => packet_row(alloc, frame),
+        PacketSchema::Packet6 => packet6_row(alloc, frame),
     }
 }
 
@@ -162,13 +201,16 @@ impl Writer {
         ensures appended { AppendsFrame capture bytes.now self.old self.new result }
         ensures near { Remembers (arc_value self.old.of).log.shape self.new.pass.view leaves.new }
     {
-        if !is_frame(&self.of.setup, capture, bytes) {
+        let Some(schema) = packets_of(&self.of.setup) else {
+            return Err(AppendRefusal::Unfit);
+        };
+        if !is_frame(schema, capture, bytes) {
             return Err(AppendRefusal::Frame);
         }
         let Ok(()) = fill_frame(frame, capture, bytes) else {
             return Err(AppendRefusal::Memory);
         };
-        let Ok(row) = row_of_frame(alloc, &self.of.setup, frame) else {
+        let Ok(row) = row_of_frame(alloc, schema, frame) else {
             return Err(AppendRefusal::Memory);
         };
         self.append_by(&row, leaves)
@@ -200,6 +242,9 @@ impl Writer {
         ensures appended { AppendsFramed buffer.now framed self.old self.new result }
         ensures near { Remembers (arc_value self.old.of).log.shape self.new.pass.view leaves.new }
     {
+        let Some(_schema) = packets_of(&self.of.setup) else {
+            return Err(AppendRefusal::Unfit);
+        };
         if !stands_in(buffer, framed) {
             return Err(AppendRefusal::Frame);
         }
@@ -257,6 +302,9 @@ impl Writer {
     ) -> Result<u32, AppendRefusal>
         ensures { AppendsValues number values.now self.old self.new result }
     {
+        if !are_of(self.of.log.shape().schema().attrs(), values) {
+            return Err(AppendRefusal::Unfit);
+        }
         let Ok(row) = row_of(alloc, number, values) else {
             return Err(AppendRefusal::Memory);
         };

@@ -16,7 +16,7 @@ returns-then-not-is_home-clause-looked c =
     let v = c.loop-k.invariant in
     let count = v.count in
     let test = c.loop-k-test.true in
-    looked_more c.args.places.now c.loop-k.places c.loop-k.k c.index-places-k.result c.look.new.self v.looked (omega (arith, count, test)) c.look.ensures
+    looked_more c.args.places.now c.loop-k.places c.loop-k.k c.index-places-k.result c.look.new.self v.looked (omega (arith, count, test)) c.look.ensures.looked
 
 pub returns-then-not-is_home-clause-found : goal.returns-then-not-is_home-clause-found
 returns-then-not-is_home-clause-found c =
@@ -24,11 +24,12 @@ returns-then-not-is_home-clause-found c =
     let count = v.count in
     let test = c.loop-k-test.true in
     let k = c.loop-k.k in
-    let lt : k < length c.loop-k.places = omega (arith, count, test) in (
+    let lt : k < length c.loop-k.places = omega (arith, count, test) in
+    let none = none_of c.look.new.self.home
+    (home_is c.loop-k.places k c.look.new.self c.index-places-k-in-loop-k.result lt (sym c.is_home.ensures ∙ c.if-not-is_home.true)) in (
       c.look.new.self,
       get_set_same c.loop-k.places k c.look.new.self _ (slice_get-get_or c.loop-k.places k c.look.new.self lt),
-      none_of c.look.new.self.home
-          (home_is c.loop-k.places k c.look.new.self c.index-places-k-in-loop-k.result lt (sym c.is_home.ensures ∙ c.if-not-is_home.true)),
+      record { none = none; empty = c.look.ensures.empty none },
     )
 
 pub loop-k-preserved : goal.loop-k-preserved
@@ -40,7 +41,7 @@ loop-k-preserved c =
     let lt : k < length c.loop-k.places = omega (arith, count, test) in
     record {
       count = count ∙ sym (length-set c.loop-k.places k c.look.new.self);
-      looked = looked_more c.args.places.now c.loop-k.places k c.index-places-k.result c.look.new.self v.looked lt c.look.ensures;
+      looked = looked_more c.args.places.now c.loop-k.places k c.index-places-k.result c.look.new.self v.looked lt c.look.ensures.looked;
       home = home_more c.loop-k.places k c.look.new.self lt
           (home_is c.loop-k.places k c.look.new.self c.index-places-k-in-loop-k.result lt (sym c.is_home.ensures ∙ c.if-not-is_home.false)) v.home;
     }

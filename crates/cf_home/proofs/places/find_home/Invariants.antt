@@ -1,10 +1,10 @@
-use Rattle.std.proofs.Common.{◌≡◌, ◌≤◌, ◌+◌, ℕ, length, Some, None, slice_get}
-use Rattle.cf_home.specs.Homes.{HaveLooked, PlaceValue}
+use Rattle.std.proofs.Common.{◌≡◌, ◌≤◌, ◌+◌, ℕ, length, Some, slice_get}
+use Rattle.cf_home.specs.Homes.{HaveLooked, IsAway, PlaceValue}
 use Rattle.cf_home.proofs.places.find_home.Given as goal
 
 abbrev pub invariant-loop-i : goal.invariant-loop-i
 invariant-loop-i l = record {
   count : l.count ≡ length l.places;
   looked : HaveLooked l.initial.places l.places;
-  away : (k : ℕ) (place : PlaceValue) → l.count ≤ k + l.i → slice_get l.places k ≡ Some place → place.home ≡ None;
+  away : (k : ℕ) (place : PlaceValue) → l.count ≤ k + l.i → slice_get l.places k ≡ Some place → IsAway place;
 }

@@ -1,7 +1,7 @@
 use Rattle.std.proofs.Common.{◌≡◌, ◌∙◌, All, ◌∷◌, [], Some, None, slice_get, set, ap, refl, sym, subst, arith}
 use Rattle.std.specs.Arc.{arc_value}
 use Rattle.std.proofs.lemmas.Option.{slice_get_within}
-use Rattle.cf_home.specs.Homes.{PlaceValue}
+use Rattle.cf_home.specs.Homes.{PlaceValue, taken_home}
 use Rattle.cf_append.specs.Appends.{IsReady}
 use Rattle.cf_store.specs.Parts.{AreNumbered, IsOfWriter, IsPlaceOf}
 use Rattle.cf_store.specs.declared.held.Shared.{Shared}
@@ -87,7 +87,7 @@ returns-in-Ok-new c =
     (λ (w : Writer).
     (arc_value w.of ≡ arc_value log.of) × (w.way ≡ w.pass ∷ []) × ((x : PlaceValue) × (slice_get log.places.items c.args.place ≡ Some x)
     × (x.home ≡ Some w.pass)
-    × (set log.places.items c.args.place c.take.new.self ≡ set log.places.items c.args.place (record { home = None; came = w.pass ∷ [] }))))
+    × (set log.places.items c.args.place c.take.new.self ≡ set log.places.items c.args.place (taken_home w.pass))))
     (sym c.in-Ok-new.ensures.ok) (
       c.in-Ok.ensures,
       c.in-Some.ensures.1,

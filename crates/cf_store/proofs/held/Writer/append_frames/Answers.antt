@@ -6,7 +6,7 @@ use Rattle.cf_log.specs.Chains.{Chain}
 use Rattle.cf_log.proofs.Chained.{goes_more, rest_more}
 use Rattle.cf_store.specs.declared.held.Shared.{Shared}
 use Rattle.cf_store.specs.Appends.{AppendsFramed}
-use Rattle.cf_store.proofs.Appended.{no_frame}
+use Rattle.cf_store.proofs.Appended.{framed_same, no_frame}
 use Rattle.cf_store.proofs.held.Writer.append_frames.Goals as goal
 
 pub loop-k-init : goal.loop-k-init
@@ -38,7 +38,7 @@ loop-k-preserved c =
     let room = c.requires in
     record {
       near = subst (λ (s : Shared). Remembers s.log.shape c.append_framed.new.self.pass.view c.append_framed.new.leaves)
-          (ap (arc_value {X = Shared}) (sym c.in-Ok.ensures.appended.1.1.0)) c.in-Ok.ensures.near;
+          (ap (arc_value {X = Shared}) (sym (framed_same c.args.buffer.now _ c.loop-k.self c.append_framed.new.self c.in-Ok.offset c.in-Ok.ensures.appended))) c.in-Ok.ensures.near;
       chain = goes_more (λ f m n o. AppendsFramed c.args.buffer.now f m n (Ok o)) c.args.frames.now c.loop-k.offsets c.args.self.now c.loop-k.self
           c.append_framed.new.self c.loop-k.k (get_or c.args.frames.now c.loop-k.k no_frame) c.in-Ok.offset
           (slice_get-get_or c.args.frames.now c.loop-k.k no_frame low) (omega (arith, low, long, room)) v.chain c.in-Ok.ensures.appended;
