@@ -1,7 +1,7 @@
 -- What calls by handles answer, and what the handles then lead to.
-use Rattle.std.specs.Prelude.{◌≡◌, ◌⊎◌, ℕ, ◌<◌, ◌≤◌, List, length, Option, Some, None, Result, Ok, Err, Vec}
+use Rattle.std.specs.Prelude.{◌≡◌, ◌⊎◌, ℕ, ◌<◌, ◌≤◌, List, [], ◌∷◌, ◌++◌, length, Option, Some, None, Result, Ok, Err, Vec}
 use Rattle.std.specs.declared.alloc.AllocError.{AllocError}
-use Rattle.cf_table.specs.Values.{book_of}
+use Rattle.cf_table.specs.Values.{PassValue, book_of}
 use Rattle.cf_calls.specs.declared.code.Code.{Code}
 use Rattle.cf_calls.specs.declared.code.Code.TheVariants as codes
 use Rattle.cf_store.specs.declared.held.Log.{Log}
@@ -71,6 +71,11 @@ fault_or (Err refusal) before = fault_after refusal before
 abbrev pub TakesTo : Option Writer → Option Writer → Log → Log → Result ℕ Code → Type 0
 TakesTo before after m n (Ok number) = (w : Writer) × (after ≡ Some w) × Takes m n (Ok w) × (number ≡ (book_of w.pass.view).writer)
 TakesTo before after m n (Err code) = (after ≡ before) × IsCoded take_code (Takes m n) (Err code)
+
+-- A writer was given back, if there was one: its pass was sent home, behind what was sent on its way before.
+abbrev pub GivesBack : Option Writer → Option (List PassValue) → Type 0
+GivesBack (Some w) sent = sent ≡ Some (w.way ++ w.pass ∷ [])
+GivesBack None sent = sent ≡ None
 
 -- A reader was taken, and the other handle leads to it. Refused, that leads to what it led to.
 abbrev pub ForksTo : Option Reader → Option Reader → Log → Log → Result (Unit {0}) Code → Type 0

@@ -338,7 +338,7 @@ pub fn confluo_free_log(alloc: Global, log: &mut LogHandle)
 pub fn confluo_free_writer(alloc: Global, writer: &mut WriterHandle)
     ensures { writer.new.seat.held ≡ None }
 {
-    drop(writer.take(alloc));
+    drop(writer.free(alloc));
 }
 
 /// Frees the reader. The handle leads to nothing then.

@@ -190,6 +190,42 @@ fn a_schema_reads_its_links(rt: HostRuntime) {
     confluo_free_reader(alloc, &mut reader);
 }
 
+// The kinds of `packet`, by other names.
+const AS_RECORDS: &[u8] =
+    b"schema records ts:u64,a:u32,b:u32,c:b6,d:b6,e:u16,f:u8,g:u8,h:u16,i:u8,j:u8,k:u32,l:u32,m:u16,n:u16,o:u32,p:u32,q:u8,r:u16,s:u16\n";
+
+#[test]
+fn a_log_of_records_takes_no_frame(rt: HostRuntime) {
+    let alloc = rt.alloc();
+    let mut writer = WriterHandle::none(alloc);
+    let mut reader = ReaderHandle::none(alloc);
+    let (mut offsets, mut done) = ([9u32; 1], 9);
+    for link in [1, 276, 65_535, 65_536] {
+        assert_eq!(rt;
+            append_to(&rt, alloc, AS_RECORDS, link, &[0; 60], &mut reader),
+            8
+        );
+    }
+    opened(&rt, alloc, AS_RECORDS, &mut writer, &mut reader);
+    for count in [4, 5] {
+        let frames = [framed(0, 0, count)];
+        assert_eq!(rt;
+            confluo_append_many(
+                alloc,
+                &mut writer,
+                &frames,
+                b"abcd",
+                &mut offsets,
+                &mut done
+            ),
+            8
+        );
+        assert_eq!(rt; (done, offsets[0]), (0, 9));
+    }
+    confluo_free_writer(alloc, &mut writer);
+    confluo_free_reader(alloc, &mut reader);
+}
+
 #[test]
 fn an_ipv6_address_is_in_the_row(rt: HostRuntime) {
     let alloc = rt.alloc();
@@ -367,6 +403,35 @@ fn a_writer_comes_back(rt: HostRuntime) {
         assert_eq!(rt; (number, offset), (0, place));
         confluo_free_writer(alloc, &mut writer);
     }
+    confluo_free_log(alloc, &mut log);
+}
+
+#[test]
+fn a_writer_that_is_replaced_comes_back(rt: HostRuntime) {
+    let alloc = rt.alloc();
+    let mut log = LogHandle::none(alloc);
+    let mut writer = WriterHandle::none(alloc);
+    let mut other = WriterHandle::none(alloc);
+    let mut fault = Fault { line: 0, code: 0 };
+    let mut number = 9;
+    assert_eq!(rt;
+        confluo_open(alloc, &mut log, SETUP, &sizes_of(4, 2), &mut fault),
+        0
+    );
+    for expected in [1, 0] {
+        assert_eq!(rt;
+            confluo_take_writer(alloc, &mut log, &mut writer, &mut number),
+            0
+        );
+        assert_eq!(rt; number, expected);
+    }
+    assert_eq!(rt;
+        confluo_take_writer(alloc, &mut log, &mut other, &mut number),
+        0
+    );
+    assert_eq!(rt; number, 1);
+    confluo_free_writer(alloc, &mut other);
+    confluo_free_writer(alloc, &mut writer);
     confluo_free_log(alloc, &mut log);
 }
 

@@ -1,8 +1,10 @@
 // A handle of a writer, as C holds it.
 ghost use Rattle.std.specs.Prelude.{◌≡◌, ◌≢◌, ◌↔◌, IsTrue, MatchOption, Some, None};
+ghost use Rattle.cf_handles.specs.Calls.{GivesBack};
 
 use crate::parts::Parts;
 use crate::seats::WriterSeat;
+use cf_home::Sent;
 use cf_store::Writer;
 use std::alloc::Global;
 use std::mem::replace;
@@ -54,6 +56,17 @@ impl WriterHandle {
         ensures nothing { self.new.seat.held ≡ None }
     {
         replace(self, WriterHandle::none(alloc)).open()
+    }
+
+    /// Gives the writer back, if there is one: its pass goes home to its place in the log. Leaves nothing.
+    pub fn free(&mut self, alloc: Global) -> Option<Sent>
+        ensures sent { GivesBack self.old.seat.held result }
+        ensures nothing { self.new.seat.held ≡ None }
+    {
+        let Some(writer) = self.take(alloc) else {
+            return None;
+        };
+        Some(Box::into_inner(writer).give_back())
     }
 
     /// Puts the writer there. What was there is freed.
