@@ -10,8 +10,7 @@ static const char setup[] = "schema records ts:u64,host:u32,len:u32\n"
                             "ask first find hosts 1 1\n";
 
 static int refused(uint32_t code, const char *call) {
-    uint8_t text[64];
-    if (code != CONFLUO_OK) fprintf(stderr, "%s: %.*s\n", call, (int)confluo_message(code, 0, text, sizeof text), (char *)text);
+    if (code != CONFLUO_OK) fprintf(stderr, "%s: %s\n", call, confluo_error_name(code));
     return code != CONFLUO_OK;
 }
 

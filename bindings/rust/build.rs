@@ -9,6 +9,11 @@ fn main() {
     );
     println!("cargo:rerun-if-env-changed=CONFLUO_LIB_DIR");
     println!("cargo:rerun-if-changed={}", folder.join("libconfluo.a").display());
+    let documents = PathBuf::from(env!("CARGO_MANIFEST_DIR")).join("../../docs/LIBRARY.md");
+    println!("cargo:rustc-check-cfg=cfg(confluo_documents)");
+    if documents.exists() {
+        println!("cargo:rustc-cfg=confluo_documents");
+    }
     println!("cargo:rustc-link-search=native={}", folder.display());
     println!("cargo:rustc-link-lib=static=confluo");
 }

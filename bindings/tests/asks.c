@@ -112,7 +112,7 @@ static void lines(void) {
             size_t kept = confluo_words(&it.reader, 0, words, 4);
             is(confluo_ask_text(&it.reader, text_of(cases[k].line), strlen(cases[k].line), &head, &fault), cases[k].code, cases[k].line);
             is(fault.code, cases[k].fault, cases[k].line);
-            is(fault.line, fault.code == 7 ? 7 : 8, "behind the seven lines of the setup");
+            is(fault.line, fault.code == 7 ? 7 : 1, "the line is one");
             if (cases[k].code == CONFLUO_OK) {
                 is(head.tail == 3 && head.kind == cases[k].kind && head.count == cases[k].count, 1, cases[k].line);
                 is(confluo_words(&it.reader, 0, words, 4), cases[k].count, cases[k].line);

@@ -21,6 +21,7 @@ build() {
     sed -n '/^\*\* EXAMPLE/,/^\*\*   bindings/{s/^\*\*   //; /^\*\*/d; /^bindings/d; p}' "$here/../confluo.h"
     echo 'return (int)code; }'
 } > "$folder/header.c"
+# shellcheck disable=SC2016
 sed -n '/^```c$/,/^```$/{/^```/d; p}' "$here/../../docs/LIBRARY.md" > "$folder/page.c"
 example_prints() {
     [ "$("$folder/example")" = "2000 records, 200000 bytes" ] || { echo "check-c: the example prints something else"; exit 1; }
@@ -29,7 +30,7 @@ for standard in c99 c11 c17; do
     echo '#include "confluo.h"' | "$cc" -std=$standard -Wall -Wextra -Wpedantic -Werror -I"$here/.." -fsyntax-only -x c -
 done
 if echo 'int main() { return 0; }' | "$cc" -x c++ -fsyntax-only - 2> /dev/null; then
-    for standard in c++98 c++11 c++17; do
+    for standard in c++98 c++11 c++20; do
         echo '#include "confluo.h"' | "$cc" -std=$standard -Wall -Wextra -Werror -I"$here/.." -fsyntax-only -x c++ -
     done
 fi
@@ -44,7 +45,7 @@ for flags in -O2 -fsanitize=address,undefined -fsanitize=thread; do
     [ "$("$folder/header")" = "record 0" ] || { echo "check-c: the example of confluo.h prints something else"; exit 1; }
     build page "$flags" "$folder/page.c"
     [ "$("$folder/page")" = "2000 records, 120000 bytes" ] || { echo "check-c: the example of docs/LIBRARY.md prints something else"; exit 1; }
-    for name in calls asks names batches closes threads; do
+    for name in calls asks names batches closes inline threads; do
         build $name "$flags" "$here/$name.c"
         "$folder/$name"
     done

@@ -1,7 +1,8 @@
 /* Logs that are closed, and the reports of their readers: each code, and what a refused call leaves. */
 #include "check.h"
 
-static const char setup[] = "schema records ts:u64,key:u16\nindex keys key\nask all list *\nask sevens find keys 7 7\nask none find keys 9 9\n";
+static const char setup[] =
+    "schema records ts:u64,key:u16\nindex keys key\nask all list *\nask sevens find keys 7 7\nask none find keys 9 9\n";
 
 static void append(confluo_writer *writer, uint32_t number, uint64_t key) {
     uint32_t offset = 99;

@@ -13,7 +13,9 @@ do not fit are refused with ValueError, and never cut. What the library refuses 
 forked child the objects of the parent must not be used, and they refuse to be; open a log of its own there. Do not
 use an object from a signal handler.
 
-The library is sought at CONFLUO_LIBRARY, then as libconfluo.so.0. docs/LIBRARY.md says more, and confluo.h what each call does.
+The library is sought at CONFLUO_LIBRARY, then in the package, as a wheel has it, then as libconfluo.so.0 of the system. The import fails
+with ImportError if it is missing, or older than this package, or of another major number. docs/LIBRARY.md says more, and confluo.h what
+each call does.
 """
 
 from .answers import Answer, Kind, Quad

@@ -1,10 +1,16 @@
 """Answers."""
 
+from __future__ import annotations
+
+import array as arrays
 import enum
-from typing import NamedTuple
+from typing import TYPE_CHECKING, Any, Iterable, Iterator, NamedTuple, Optional, Sequence
 
 from .calls import LONG, SIZE, array, call
 from .errors import wanted
+
+if TYPE_CHECKING:
+    import pandas  # type: ignore[import]
 
 
 class Kind(enum.IntEnum):
@@ -29,51 +35,79 @@ COLUMNS = {
 class Quad(NamedTuple):
     """Count, sum, least and greatest; of no value four times 0."""
 
-    count: int
+    count: int  # type: ignore[assignment]
     sum: int
     least: int
     greatest: int
 
 
-class Answer:
-    """An answer: about how many records (`tail`), its `kind`, and its `words`, a list of numbers."""
+def pandas_module() -> Any:
+    """pandas, which only those need who want DataFrames."""
+    try:
+        import pandas
+    except ImportError:
+        raise ImportError(
+            "pandas is missing: pip install 'confluo[pandas]', or apt-get install python3-pandas"
+        ) from None
+    return pandas
 
-    def __init__(self, tail, kind, words):
-        self.tail, self.kind, self.words = tail, Kind(kind), words
+
+class Answer:
+    """An answer: about how many records (`tail`), its `kind`, and its `numbers`, an array of 64 bits each, from which numpy reads without
+    a copy. Iterate over it for its rows, one by one; `rows` and `words` make lists of all."""
+
+    __slots__ = ("tail", "kind", "numbers")
+
+    def __init__(self, tail: int, kind: int, words: Iterable[int]) -> None:
+        self.tail, self.kind = tail, Kind(kind)
+        self.numbers = words if isinstance(words, arrays.array) else arrays.array("Q", words)
 
     @property
-    def columns(self):
+    def words(self) -> list[int]:
+        """The numbers as a list."""
+        return self.numbers.tolist()
+
+    @property
+    def columns(self) -> list[str]:
         """What the numbers of a row are."""
         return COLUMNS[self.kind]
 
-    @property
-    def rows(self):
-        """The words by rows, as tuples: one for each record, mark, key or group, and a Quad for a quad."""
+    def __iter__(self) -> Iterator[Sequence[int]]:
+        """The rows, as tuples: one for each record, mark, key or group, and a Quad for a quad."""
         wide = len(self.columns)
-        rows = [tuple(self.words[k : k + wide]) for k in range(0, len(self.words), wide)]
-        return [Quad(*it) for it in rows] if self.kind == Kind.QUAD else rows
+        for k in range(0, len(self.numbers), wide):
+            row = self.numbers[k : k + wide]
+            yield Quad(*row) if self.kind == Kind.QUAD else tuple(row)
 
-    def to_frame(self):
+    @property
+    def rows(self) -> list[Sequence[int]]:
+        """All rows as a list."""
+        return list(self)
+
+    def to_frame(self) -> pandas.DataFrame:
         """The rows as a DataFrame; ImportError if pandas is missing."""
-        import pandas
+        held = pandas_module()
+        wide = len(self.columns)
+        columns = {name: self.numbers[k::wide] for k, name in enumerate(self.columns)}
+        return held.DataFrame(
+            {name: held.Series(it.tolist(), dtype="uint64") for name, it in columns.items()}
+        )
 
-        return pandas.DataFrame(self.rows, columns=self.columns, dtype="uint64")
-
-    def merge(self, other):
+    def merge(self, other: Answer) -> Answer:
         """The groups of this answer and of another, of the same lane of another log with one setup, as one."""
         if self.kind != Kind.GROUPS or other.kind != Kind.GROUPS:
             raise ValueError("only groups can be merged")
-        (one, length), (two, more), count = array(self.words), array(other.words), SIZE()
+        (one, length), (two, more), count = array(self.numbers), array(other.numbers), SIZE()
         out = (LONG * max(1, length + more))()
         wanted(call("merge")(one, length, two, more, out, length + more, count))
         return Answer(self.tail + other.tail, Kind.GROUPS, out[: count.value])
 
-    def __eq__(self, other):
+    def __eq__(self, other: object) -> bool:
         if not isinstance(other, Answer):
             return NotImplemented
-        return (self.tail, self.kind, self.words) == (other.tail, other.kind, other.words)
+        return (self.tail, self.kind, self.numbers) == (other.tail, other.kind, other.numbers)
 
-    __hash__ = None
+    __hash__: Optional[Any] = None  # type: ignore[assignment]
 
-    def __repr__(self):
+    def __repr__(self) -> str:
         return f"Answer(tail={self.tail}, kind={self.kind.name}, words={self.words})"

@@ -1,14 +1,24 @@
 """The calls of confluo.h."""
 
+from __future__ import annotations
+
 import ctypes
 import operator
 import os
+import pathlib
+from typing import Any, Iterable, Sequence, SupportsIndex, Union
+
+SHARED = "libconfluo.so.0"
+VERSION = 4000  # CONFLUO_VERSION of the header that this package is written for
 
 WORD, LONG, SIZE, TEXT = ctypes.c_uint32, ctypes.c_uint64, ctypes.c_size_t, ctypes.c_char_p
 TO = ctypes.POINTER
 
 
-def words(*names):
+BytesLike = Union[bytes, bytearray, memoryview]
+
+
+def words(*names: str) -> list[tuple[str, Any]]:
     """Fields of 32 bits."""
     return [(name, WORD) for name in names]
 
@@ -86,24 +96,50 @@ CALLS = {
 }
 
 
-def loaded():
-    """The library, with the types of its calls."""
-    library = ctypes.CDLL(os.environ.get("CONFLUO_LIBRARY", "libconfluo.so.0"))
+def place() -> str:
+    """Where the library is: at CONFLUO_LIBRARY, else in this package, else where the system seeks it."""
+    inside = pathlib.Path(__file__).with_name(SHARED)
+    return os.environ.get("CONFLUO_LIBRARY") or (str(inside) if inside.exists() else SHARED)
+
+
+def shown(number: int) -> str:
+    """A version in three numbers."""
+    return f"{number // 1000000}.{number // 1000 % 1000}.{number % 1000}"
+
+
+def loaded() -> ctypes.CDLL:
+    """The library, with the types of its calls. ImportError if it is missing, or of a version that this package was not written for."""
+    file = place()
+    try:
+        library = ctypes.CDLL(file)
+        found = library.confluo_version()
+    except OSError as fault:
+        raise ImportError(
+            f"the library of confluo cannot be loaded ({fault}): install libconfluo0, or build it with `make -C bindings archive` "
+            f"and name bindings/out/{SHARED} in CONFLUO_LIBRARY"
+        ) from None
+    except AttributeError:
+        raise ImportError(f"{file} is not the library of confluo") from None
+    if found < VERSION or found // 1000000 != VERSION // 1000000:
+        raise ImportError(
+            f"{file} has version {shown(found)} of the library of confluo, and this package needs {shown(VERSION)} or a later one "
+            f"with the major number {VERSION // 1000000}"
+        )
     for name, (answer, parameters) in CALLS.items():
-        call = getattr(library, "confluo_" + name)
-        call.restype, call.argtypes = answer, parameters
+        one = getattr(library, "confluo_" + name)
+        one.restype, one.argtypes = answer, parameters
     return library
 
 
 LIBRARY = loaded()
 
 
-def call(name):
+def call(name: str) -> Any:
     """A call of the library by its name."""
     return getattr(LIBRARY, "confluo_" + name)
 
 
-def checked(value, bits, name):
+def checked(value: SupportsIndex, bits: int, name: str) -> int:
     """The value as a number of so many bits, or ValueError."""
     found = operator.index(value)
     if not 0 <= found < 1 << bits:
@@ -111,7 +147,12 @@ def checked(value, bits, name):
     return found
 
 
-def array(numbers):
+def data_of(data: BytesLike) -> bytes:
+    """The bytes of a bytes-like object; TypeError for all else, such as a number, of which `bytes` would make so many zeros."""
+    return data if isinstance(data, bytes) else memoryview(data).tobytes()
+
+
+def array(numbers: Iterable[SupportsIndex]) -> tuple[Sequence[int], int]:
     """Numbers of 64 bits for the library, which wants a place even for none, and how many."""
     held = [checked(it, 64, "a value") for it in numbers]
-    return (LONG * max(1, len(held)))(*held), len(held)
+    return (LONG * max(1, len(held)))(*held), len(held)  # type: ignore[return-value]

@@ -1,33 +1,41 @@
 """Logs, writers and readers."""
 
+from __future__ import annotations
+
+import array as arrays
 import ctypes
 import os
 import threading
-from typing import NamedTuple, Optional
+from typing import TYPE_CHECKING, Any, Iterable, Iterator, NamedTuple, Optional, TypeVar, Union
 
 from . import calls
-from .answers import Answer
-from .calls import LONG, SIZE, WORD, array, call, checked
-from .errors import Code, wanted
+from .answers import Answer, pandas_module
+from .calls import LONG, SIZE, WORD, BytesLike, array, call, checked, data_of
+from .errors import Code, Error, code_of, wanted
 from .names import Names
 
+if TYPE_CHECKING:
+    import pandas  # type: ignore[import]
 
-def sizes_of(capacity, writers, nodes):
+Self = TypeVar("Self", bound="Part")
+
+
+def sizes_of(capacity: int, writers: int, nodes: int) -> calls.Sizes:
     return calls.Sizes(
         checked(capacity, 32, "capacity"), checked(writers, 32, "writers"), checked(nodes, 32, "nodes"), 0
     )
 
 
-def text_of(setup):
-    return setup.encode("utf-8") if isinstance(setup, str) else bytes(setup)
+def text_of(setup: Union[str, BytesLike]) -> bytes:
+    return setup.encode("utf-8") if isinstance(setup, str) else data_of(setup)
 
 
-def version():
+def version() -> int:
     """The version of the library: 1,000,000 for the major number, 1,000 for the minor one, 1 for the patch."""
-    return call("version")()
+    return int(call("version")())
 
 
-def check(setup, capacity=65536, writers=1, nodes=4096):
+def check(setup: Union[str, BytesLike], capacity: int = 65536, writers: int = 1, nodes: int = 4096) -> int:
     """How many bytes the words of such a log take; SetupError or Error if `Log` would refuse it."""
     text, found, fault = text_of(setup), LONG(), calls.Fault()
     wanted(call("check")(text, len(text), sizes_of(capacity, writers, nodes), found, fault), fault)
@@ -37,36 +45,36 @@ def check(setup, capacity=65536, writers=1, nodes=4096):
 class Part:
     """A handle, its lock, and the process that it belongs to."""
 
-    _free = None
+    _free = ""
 
-    def __init__(self):
+    def __init__(self) -> None:
         self._handle = calls.Handle()
         self._lock = threading.Lock()
         self._process = os.getpid()
 
-    def _check(self):
+    def _check(self) -> None:
         if os.getpid() != self._process:
             raise RuntimeError("a log of the parent process cannot be used in a forked child")
 
-    def _call(self, name, *words):
+    def _call(self, name: str, *words: Any) -> None:
         """Calls the library with the handle, by one thread at a time."""
         self._check()
         with self._lock:
             wanted(call(name)(self._handle, *words))
 
-    def close(self):
+    def close(self) -> None:
         """Frees it. Calls after that are refused with NOTHING. The memory of a log goes with the last of its parts."""
         if os.getpid() == self._process:
             with self._lock:
                 call(self._free)(self._handle)
 
-    def __enter__(self):
+    def __enter__(self: Self) -> Self:
         return self
 
-    def __exit__(self, *_):
+    def __exit__(self, *_: object) -> None:
         self.close()
 
-    def __del__(self):
+    def __del__(self) -> None:
         if call is not None and hasattr(self, "_process"):
             self.close()
 
@@ -77,7 +85,9 @@ class Log(Part):
 
     _free = "free_log"
 
-    def __init__(self, setup, capacity=65536, writers=1, nodes=4096):
+    def __init__(
+        self, setup: Union[str, BytesLike], capacity: int = 65536, writers: int = 1, nodes: int = 4096
+    ) -> None:
         super().__init__()
         text, fault = text_of(setup), calls.Fault()
         wanted(
@@ -86,33 +96,31 @@ class Log(Part):
         )
         self.names = Names(self._handle)
 
-    def width(self):
+    def width(self) -> int:
         """How wide a bucket is, in nanoseconds."""
         found = LONG()
         self._call("width", found)
         return found.value
 
-    def writer(self):
+    def writer(self) -> Writer:
         """A writer that is not taken; Error with NO_WRITER if all are. A writer that is closed can be taken again."""
         writer, taken = Writer(), WORD()
         self._call("take_writer", writer._handle, taken)
         writer.number = taken.value
         return writer
 
-    def reader(self):
+    def reader(self) -> Reader:
         """A reader. Take as many as you like."""
-        reader = Reader()
+        reader = Reader(self.names)
         self._call("take_reader", reader._handle)
-        reader.names = self.names
         return reader
 
-    def finish(self):
+    def finish(self) -> Reader:
         """Closes the log for good, once all its writers are closed: no record comes to it any more. Answers a reader that has seen every
         record: `ask_seen` gives the final answers, and `report` their text with the history of the log. Other readers may stay. Error with
         BUSY while a writer is taken; the log stays open then."""
-        reader = Reader()
+        reader = Reader(self.names)
         self._call("close", reader._handle)
-        reader.names = self.names
         return reader
 
 
@@ -122,7 +130,7 @@ class Frame(NamedTuple):
 
     number: int
     ns: int
-    data: bytes
+    data: BytesLike
     length: Optional[int] = None
     link: int = 1
 
@@ -131,8 +139,8 @@ class Appended(NamedTuple):
     """What came of a batch: the offsets of the frames that were appended, and the Code of why the next one was not,
     None if all were."""
 
-    offsets: list
-    refused: Optional[Code]
+    offsets: list[int]
+    refused: Union[Code, int, None]
 
 
 class Row(NamedTuple):
@@ -140,10 +148,10 @@ class Row(NamedTuple):
     attributes, an int or bytes each."""
 
     number: int
-    values: dict
+    values: dict[str, Union[int, bytes]]
 
 
-def capture_of(frame):
+def capture_of(frame: Frame) -> calls.Capture:
     """What the library is told of a frame beside its bytes."""
     return calls.Capture(
         checked(frame.ns, 64, "ns"),
@@ -154,10 +162,10 @@ def capture_of(frame):
     )
 
 
-def value_of(value):
+def value_of(value: Union[int, BytesLike]) -> calls.ValueOf:
     """A value for the library: of an int, or of at most 16 bytes."""
     if isinstance(value, (bytes, bytearray, memoryview)):
-        held = bytes(value)
+        held = data_of(value)
         if len(held) > 16:
             raise ValueError(f"a value has {len(held)} bytes, more than 16")
         return calls.ValueOf(0, 1, len(held), (ctypes.c_uint8 * 16)(*held))
@@ -177,18 +185,23 @@ class Writer(Part):
     """A writer of a log; `number` is its own."""
 
     _free = "free_writer"
-    number = None
+    number: Optional[int] = None
 
-    def append(self, number, ns, frame, length=None, link=1):
-        """Appends the record of a captured frame, any bytes-like object, and answers its offset."""
-        one, offset = Frame(number, ns, bytes(frame), length, link), WORD()
+    def append(
+        self, number: int, ns: int, frame: BytesLike, length: Optional[int] = None, link: int = 1
+    ) -> int:
+        """Appends the record of a captured frame, any bytes-like object, and answers its offset. Error with UNFIT if the schema
+        is not one of packets; with NODES if the writer has too few nodes for it: it has none left then, and appends the rows
+        that need no new one; with FULL for good, though a full log may answer NODES to a writer that was not told FULL yet.
+        """
+        one, offset = Frame(number, ns, data_of(frame), length, link), WORD()
         self._call("append", capture_of(one), one.data, len(one.data), offset)
         return offset.value
 
-    def append_many(self, frames):
+    def append_many(self, frames: Iterable[Union[Frame, tuple[Any, ...]]]) -> Appended:
         """Appends frames, each a Frame or a tuple like one, in one call, until one is refused. Answers Appended."""
         held = [Frame(*it) for it in frames]
-        held = [it._replace(data=bytes(it.data)) for it in held]
+        held = [it._replace(data=data_of(it.data)) for it in held]
         many = (calls.FrameOf * max(1, len(held)))()
         at = 0
         for place, it in zip(many, held):
@@ -200,23 +213,23 @@ class Writer(Part):
             code = call("append_many")(self._handle, many, len(held), data, at, offsets, len(held), done)
         if code == Code.NOTHING:
             wanted(code)
-        return Appended(offsets[: done.value], None if code == Code.OK else Code(code))
+        return Appended(offsets[: done.value], None if code == Code.OK else code_of(code))
 
-    def append_row(self, number, values):
+    def append_row(self, number: int, values: Iterable[Union[int, BytesLike]]) -> int:
         """Appends a record of values, an int or bytes for each attribute of the schema, and answers its offset."""
         held = [value_of(it) for it in values]
         row, offset = (calls.ValueOf * max(1, len(held)))(*held), WORD()
         self._call("append_row", checked(number, 32, "number"), row, len(held), offset)
         return offset.value
 
-    def append_values(self, number, values):
+    def append_values(self, number: int, values: Iterable[int]) -> int:
         """Appends a record of numbers, one for each attribute of the schema, and answers its offset."""
         row, count = array(values)
         offset = WORD()
         self._call("append_values", checked(number, 32, "number"), row, count, offset)
         return offset.value
 
-    def room(self):
+    def room(self) -> Room:
         """What the log has room for, and the writer."""
         room = calls.RoomOf()
         self._call("room_of", room)
@@ -228,54 +241,89 @@ class Reader(Part):
 
     _free = "free_reader"
 
-    names = None
+    def __init__(self, names: Names) -> None:
+        super().__init__()
+        self.names = names
 
-    def ask(self, question):
+    def ask(self, question: Union[str, int]) -> Answer:
         """The answer to a question of the setup, given by its name or its number, on all records below the tail."""
         return self._answer("ask", self.names.number("questions", question))
 
-    def ask_text(self, line):
+    def ask_text(self, line: Union[str, BytesLike]) -> Answer:
         """The answer to the question that a line of the setup's language says, behind the text of the setup, whose 32 questions at most it
-        is one of; its name must be new. SetupError if the line is faulty, Error with NO_QUESTION if it is no question."""
+        is one of; its name must be new. SetupError if the line is faulty, Error with NO_QUESTION if it is no question.
+        """
         text = text_of(line)
         return self._answer("ask_text", text, len(text), fault=calls.Fault())
 
-    def ask_seen(self, question):
+    def ask_seen(self, question: Union[str, int]) -> Answer:
         """The same on the records that the reader has seen: those below the tail that `tail` or `ask` found last."""
         return self._answer("ask_seen", self.names.number("questions", question))
 
-    def groups(self, lane):
+    def groups(self, lane: Union[str, int]) -> Answer:
         """All groups of an aggregate or a tally, given by its name or its number, on the records that the reader has seen."""
         return self._answer("groups", self.names.number("lanes", lane))
 
-    def row(self, offset):
+    def row(self, offset: int) -> Row:
         """The record at an offset that the reader has seen."""
         number, count, values = WORD(), SIZE(), (calls.ValueOf * 24)()
         self._call("row", checked(offset, 32, "offset"), number, values, 24, count)
         found = [bytes(it.bytes[: it.length]) if it.kind else it.number for it in values[: count.value]]
         return Row(number.value, dict(zip((it.name for it in self.names.attributes), found)))
 
-    def _answer(self, name, *words, fault=None):
+    def rows(self, offsets: Optional[Iterable[int]] = None) -> Iterator[Row]:
+        """The records at these offsets, read one by one; without them all that the reader has seen."""
+        if offsets is not None:
+            yield from map(self.row, offsets)
+            return
+        offset = 0
+        while True:
+            try:
+                row = self.row(offset)
+            except Error as refused:
+                if refused.code == Code.NO_ROW:
+                    return
+                raise
+            yield row
+            offset += 1
+
+    def to_frame(self, offsets: Optional[Iterable[int]] = None) -> pandas.DataFrame:
+        """The records of `rows` as a DataFrame: a column `number`, and one for each attribute. ImportError if pandas is missing."""
+        held, rows = pandas_module(), list(self.rows(offsets))
+        columns = {"number": held.Series([it.number for it in rows], dtype="uint32")}
+        for it in self.names.attributes:
+            kind = "object" if it.kind.startswith("b") else "uint" + it.kind[1:]
+            columns[it.name] = held.Series([row.values[it.name] for row in rows], dtype=kind)
+        return held.DataFrame(columns)
+
+    def _answer(self, name: str, *words: Any, fault: Optional[calls.Fault] = None) -> Answer:
         self._check()
         head = calls.Head()
         with self._lock:
-            wanted(call(name)(self._handle, *words, head, *([] if fault is None else [fault])), fault)
+            code = call(name)(self._handle, *words, head, *([] if fault is None else [fault]))
+            if fault is not None and fault.line:
+                fault.line = 1  # the library counts the line behind the setup's
+            wanted(code, fault)
             found = (LONG * max(1, head.count))()
             count = call("words")(self._handle, 0, found, head.count)
-        return Answer(head.tail, head.kind, found[:count])
+        return Answer(
+            head.tail, head.kind, arrays.array("Q", memoryview(found).cast("B")[: 8 * count].tobytes())
+        )
 
-    def report(self):
+    def report(self) -> str:
         """The report of the records that the reader has seen, as `confluo run` prints it: how many they are, what each question and trigger
         of the setup means on them, and the order in which the writers appended them."""
         self._check()
         count = SIZE()
         with self._lock:
-            wanted(call("report")(self._handle, b"", 0, count))
-            text = ctypes.create_string_buffer(max(1, count.value))
-            wanted(call("report")(self._handle, text, count.value, count))
+            text = ctypes.create_string_buffer(1 << 16)  # the library makes the text at each call
+            wanted(call("report")(self._handle, text, len(text), count))
+            if count.value > len(text):
+                text = ctypes.create_string_buffer(count.value)
+                wanted(call("report")(self._handle, text, len(text), count))
         return text.raw[: count.value].decode("ascii")
 
-    def tail(self):
+    def tail(self) -> int:
         """How many records are below the tail now."""
         tail = WORD()
         self._call("tail", tail)

@@ -1,8 +1,10 @@
 """What a setup names."""
 
+from __future__ import annotations
+
 import ctypes
 import itertools
-from typing import NamedTuple, Optional
+from typing import Iterator, NamedTuple, Optional, Union
 
 from . import calls
 from .calls import SIZE, call
@@ -49,14 +51,14 @@ class Question(NamedTuple):
     name: str
     kind: str
     of: Optional[str] = None
-    range: Optional[tuple] = None
+    range: Optional[tuple[int, int]] = None
     part: Optional[str] = None
     operator: Optional[str] = None
     number: Optional[int] = None
-    count: Optional[int] = None
+    count: Optional[int] = None  # type: ignore[assignment]
 
 
-def told(handle, sort):
+def told(handle: calls.Handle, sort: int) -> Iterator[tuple[str, calls.About]]:
     """The names of a sort, each with what the setup says of it."""
     for number in itertools.count():
         name, count, about = ctypes.create_string_buffer(32), SIZE(), calls.About()
@@ -68,7 +70,7 @@ def told(handle, sort):
         yield name.raw[: count.value].decode("ascii"), about
 
 
-def question_of(name, about, attributes, lanes):
+def question_of(name: str, about: calls.About, attributes: list[Attribute], lanes: list[Lane]) -> Question:
     """The question of that name, by what the library says of it."""
     kind = QUESTIONS[about.kind]
     if kind == "list":
@@ -86,17 +88,17 @@ def question_of(name, about, attributes, lanes):
 class Names:
     """All that a setup names: `attributes`, `lanes`, `triggers` and `questions`, as lists in the order of the lines."""
 
-    def __init__(self, handle):
+    def __init__(self, handle: calls.Handle) -> None:
         self.attributes = [
             Attribute(name, f"u{it.kind}" if it.kind else f"b{it.size}") for name, it in told(handle, 0)
         ]
-        attributes = [it.name for it in self.attributes]
+        keys = [it.name for it in self.attributes]
         self.lanes = [
             Lane(
                 name,
                 LANES[it.kind],
-                attributes[it.of] if it.kind in (0, 3) else None,
-                attributes[it.size] if it.kind in (2, 3) else None,
+                keys[it.of] if it.kind in (0, 3) else None,
+                keys[it.size] if it.kind in (2, 3) else None,
             )
             for name, it in told(handle, 1)
         ]
@@ -106,7 +108,7 @@ class Names:
         ]
         self.questions = [question_of(name, it, self.attributes, self.lanes) for name, it in told(handle, 3)]
 
-    def number(self, sort, name):
+    def number(self, sort: str, name: Union[str, int]) -> int:
         """The number of the thing of that name, of a sort; a number is itself."""
         if not isinstance(name, str):
             return calls.checked(name, 32, "a number")

@@ -61,6 +61,9 @@ class Calls(unittest.TestCase):
         with self.assertRaises(confluo.SetupError) as caught:
             confluo.check("schema packet\nindex\n")
         self.assertEqual((caught.exception.line, caught.exception.fault), (2, 3))
+        self.assertTrue(
+            str(caught.exception).startswith("the setup is faulty: line 2, code 3: a statement has its words")
+        )
         self.assertRaises(KeyError, reader.ask, "other")
 
     def test_writers_come_back(self):
@@ -81,7 +84,7 @@ class Calls(unittest.TestCase):
         self.assertEqual(reader.ask_text("ask seven find hosts 7 7").words, [1])
         with self.assertRaises(confluo.SetupError) as caught:
             reader.ask_text("ask one list *")
-        self.assertEqual((caught.exception.line, caught.exception.fault), (6, 5))
+        self.assertEqual((caught.exception.line, caught.exception.fault), (1, 5))
         with self.assertRaises(confluo.Error) as caught:
             reader.ask_text("index lens len")
         self.assertEqual(caught.exception.code, confluo.Code.NO_QUESTION)

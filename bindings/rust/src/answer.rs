@@ -23,6 +23,13 @@ pub enum Body {
     Marks(Vec<Mark>),
     /// The greatest keys, the heaviest first, ties by ascending key, of `top`.
     Tops(Vec<Top>),
+    /// Of a kind that this crate does not know: the library is a later one.
+    Unknown {
+        /// The kind.
+        kind: u32,
+        /// The words of the answer.
+        words: Vec<u64>,
+    },
 }
 
 /// Count, sum, least and greatest of values.
@@ -100,12 +107,20 @@ impl Body {
             raw::QUAD => Body::Quad(Quad::of(words)),
             raw::MARKS => Body::Marks(pairs().map(|(bucket, value)| Mark { bucket, value }).collect()),
             raw::TOPS => Body::Tops(pairs().map(|(key, value)| Top { key, value }).collect()),
-            _ => panic!("libconfluo answered with kind {kind}, which this version does not know"),
+            _ => Body::Unknown {
+                kind,
+                words: words.to_vec(),
+            },
         }
     }
 }
 
 impl Groups {
+    /// The groups, by ascending key.
+    pub fn iter(&self) -> std::slice::Iter<'_, Group> {
+        self.groups.iter()
+    }
+
     pub(crate) fn of(tail: u32, words: &[u64]) -> Self {
         let group = |words: &[u64]| Group {
             key: words[0],
@@ -115,6 +130,24 @@ impl Groups {
             tail,
             groups: words.chunks_exact(GROUP).map(group).collect(),
         }
+    }
+}
+
+impl IntoIterator for Groups {
+    type Item = Group;
+    type IntoIter = std::vec::IntoIter<Group>;
+
+    fn into_iter(self) -> Self::IntoIter {
+        self.groups.into_iter()
+    }
+}
+
+impl<'a> IntoIterator for &'a Groups {
+    type Item = &'a Group;
+    type IntoIter = std::slice::Iter<'a, Group>;
+
+    fn into_iter(self) -> Self::IntoIter {
+        self.iter()
     }
 }
 

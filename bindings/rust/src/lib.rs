@@ -46,7 +46,9 @@
 //! # Linking
 //!
 //! `libconfluo.a` is sought in the folder that the environment variable `CONFLUO_LIB_DIR` names when the crate is built,
-//! or else in `bindings/out`, where `make -C bindings archive` puts it.
+//! or else in `bindings/out`, where `make -C bindings archive` puts it. It is for Linux on x86-64. When a log is opened or a setup is checked,
+//! its version is compared with the one that this crate was written for: an older one, or one of another major number, is
+//! [`OpenError::Version`].
 #![deny(missing_docs)]
 #![warn(clippy::pedantic)]
 
@@ -62,17 +64,17 @@ mod writer;
 
 pub use answer::{merge, Answer, Body, Group, Groups, Mark, Quad, Top};
 pub use error::{
-    AppendError, AskError, CloseError, Fault, GroupsError, LineError, MergeError, OpenError, ReportError, RowError,
-    TakeError,
+    AppendError, AskError, CloseError, Code, Error, Fault, GroupsError, LineError, MergeError, OpenError, ReportError,
+    RowError, TakeError,
 };
 pub use log::{check, Log, Sizes};
 pub use names::{Asks, Attribute, Lane, LaneKind, Op, Part, Question, Trigger};
-pub use reader::Reader;
+pub use reader::{Reader, Rows};
 pub use row::{Row, Value};
 pub use writer::{Appended, Batch, Capture, Room, Writer};
 
-/// The examples of the documents, which are run as those of the crate are.
-#[cfg(doctest)]
+/// The examples of the documents, which are run as those of the crate are, where they are.
+#[cfg(all(doctest, confluo_documents))]
 #[doc = include_str!("../../../docs/LIBRARY.md")]
 pub struct Documents;
 

@@ -1,10 +1,11 @@
 //! Logs.
 use crate::error::{CloseError, OpenError, TakeError};
 use crate::handle::Held;
-use crate::names::{Attribute, Lane, Question, Trigger};
+use crate::names::{place_of, Attribute, Lane, Names, Question, Trigger};
 use crate::raw;
 use crate::reader::Reader;
 use crate::writer::Writer;
+use std::sync::Arc;
 
 /// How large a log is.
 #[derive(Clone, Copy, Debug, PartialEq, Eq, Hash)]
@@ -49,10 +50,12 @@ impl Sizes {
 /// ```
 /// let sizes = confluo::Sizes::default();
 /// assert!(confluo::check("schema packet\n", sizes)? > 10_000_000);
-/// assert_eq!(confluo::check("schema packet\nindex\n", sizes).unwrap_err().to_string(), "the setup is faulty: line 2, code 3");
+/// let said = confluo::check("schema packet\nindex\n", sizes).unwrap_err().to_string();
+/// assert!(said.starts_with("the setup is faulty: line 2, code 3: a statement has its words"));
 /// # Ok::<(), confluo::OpenError>(())
 /// ```
 pub fn check(setup: &str, sizes: Sizes) -> Result<u64, OpenError> {
+    OpenError::check_version()?;
     let (mut bytes, mut fault) = (0, raw::Fault::default());
     // SAFETY: the memory is ours, and the text as long as said.
     let code = unsafe { raw::confluo_check(setup.as_ptr(), setup.len(), &sizes.raw(), &mut bytes, &mut fault) };
@@ -64,6 +67,7 @@ pub fn check(setup: &str, sizes: Sizes) -> Result<u64, OpenError> {
 #[derive(Debug)]
 pub struct Log {
     held: Held<raw::Log>,
+    names: Arc<Names>,
 }
 
 impl Log {
@@ -71,15 +75,22 @@ impl Log {
     ///
     /// # Errors
     ///
-    /// [`OpenError::Setup`] if the text is no setup, else [`OpenError::Sizes`] if a size is out of range;
-    /// [`OpenError::Memory`].
+    /// [`OpenError::Version`] if the library is none for this crate, [`OpenError::Setup`] if the text is no setup, else
+    /// [`OpenError::Sizes`] if a size is out of range; [`OpenError::Memory`].
     pub fn open(setup: &str, sizes: Sizes) -> Result<Log, OpenError> {
+        OpenError::check_version()?;
         let (mut held, mut fault) = (Held::nothing(), raw::Fault::default());
         // SAFETY: the memory is ours, and the text as long as said.
         let code =
             held.call(|log| unsafe { raw::confluo_open(log, setup.as_ptr(), setup.len(), &sizes.raw(), &mut fault) });
         OpenError::check(code, &fault)?;
-        Ok(Log { held })
+        let mut names = |sort| named(&mut held, sort, |name, _| name);
+        let names = Arc::new(Names {
+            attributes: names(raw::ATTRIBUTES),
+            lanes: names(raw::LANES),
+            questions: names(raw::QUESTIONS),
+        });
+        Ok(Log { held, names })
     }
 
     /// Takes a writer that is not taken, that of the greatest number. A writer that is dropped, in whatever thread, can be taken again.
@@ -120,7 +131,7 @@ impl Log {
             .held
             .call(|log| reader.call(|reader| unsafe { raw::confluo_take_reader(log, reader) }));
         TakeError::check(code)?;
-        Ok(Reader::new(reader))
+        Ok(Reader::new(reader, Arc::clone(&self.names)))
     }
 
     /// Closes the log, once all its writers are dropped: no record comes to it any more. The reader that is left has seen every record;
@@ -151,39 +162,35 @@ impl Log {
             .held
             .call(|log| reader.call(|reader| unsafe { raw::confluo_close(log, reader) }));
         match CloseError::check(code) {
-            Ok(()) => Ok(Reader::new(reader)),
+            Ok(()) => Ok(Reader::new(reader, Arc::clone(&self.names))),
             Err(refused) => Err((self, refused)),
         }
     }
 
     /// The attributes of the schema, in its order.
     pub fn attributes(&mut self) -> Vec<Attribute> {
-        self.named(raw::ATTRIBUTES, Attribute::of)
+        named(&mut self.held, raw::ATTRIBUTES, Attribute::of)
     }
 
     /// Indexes, filters, aggregates and tallies, in the order of their lines.
     pub fn lanes(&mut self) -> Vec<Lane> {
-        self.named(raw::LANES, Lane::of)
+        named(&mut self.held, raw::LANES, Lane::of)
     }
 
     /// The triggers, in the order of their lines.
     pub fn triggers(&mut self) -> Vec<Trigger> {
-        self.named(raw::TRIGGERS, Trigger::of)
+        named(&mut self.held, raw::TRIGGERS, Trigger::of)
     }
 
     /// The questions, in the order of their lines.
     pub fn questions(&mut self) -> Vec<Question> {
-        self.named(raw::QUESTIONS, Question::of)
+        named(&mut self.held, raw::QUESTIONS, Question::of)
     }
 
     /// The number of the question of that name, if there is one.
-    pub fn question(&mut self, name: &str) -> Option<u32> {
-        let mut number = 0;
-        // SAFETY: the memory is ours, and the name as long as said.
-        let code = self
-            .held
-            .call(|log| unsafe { raw::confluo_question(log, name.as_ptr(), name.len(), &mut number) });
-        (code == raw::OK).then_some(number)
+    #[must_use]
+    pub fn question(&self, name: &str) -> Option<u32> {
+        place_of(&self.names.questions, name).and_then(|place| u32::try_from(place).ok())
     }
 
     /// How wide a bucket is, in nanoseconds.
@@ -193,24 +200,25 @@ impl Log {
         self.held.call(|log| unsafe { raw::confluo_width(log, &mut width) });
         width
     }
+}
 
-    /// All things of a sort that the setup names.
-    fn named<T>(&mut self, sort: u32, made: impl Fn(String, &raw::About) -> T) -> Vec<T> {
-        let mut found = Vec::new();
-        for number in 0.. {
-            let (mut name, mut count, mut about) = ([0; 32], 0, raw::About::default());
-            // SAFETY: the memory is ours, and as long as said.
-            let code = self.held.call(|log| unsafe {
-                match raw::confluo_name(log, sort, number, name.as_mut_ptr(), name.len(), &mut count) {
-                    raw::OK => raw::confluo_tell(log, sort, number, &mut about),
-                    code => code,
-                }
-            });
-            if code != raw::OK {
-                break;
+/// All things of a sort that the setup names.
+fn named<T>(held: &mut Held<raw::Log>, sort: u32, made: impl Fn(String, &raw::About) -> T) -> Vec<T> {
+    let mut found = Vec::new();
+    for number in 0.. {
+        let (mut name, mut count, mut about) = ([0; 32], 0, raw::About::default());
+        // SAFETY: the memory is ours, and as long as said.
+        let code = held.call(|log| unsafe {
+            match raw::confluo_name(log, sort, number, name.as_mut_ptr(), name.len(), &mut count) {
+                raw::OK => raw::confluo_tell(log, sort, number, &mut about),
+                code => code,
             }
-            found.push(made(String::from_utf8_lossy(&name[..count]).into_owned(), &about));
+        });
+        if code != raw::OK {
+            break;
         }
-        found
+        let name = &name[..count.min(name.len())];
+        found.push(made(String::from_utf8_lossy(name).into_owned(), &about));
     }
+    found
 }

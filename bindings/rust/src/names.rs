@@ -1,6 +1,19 @@
 //! What a setup names.
 use crate::raw::About;
 
+/// The names that a setup gives, in the order of their numbers.
+#[derive(Debug)]
+pub(crate) struct Names {
+    pub attributes: Vec<String>,
+    pub lanes: Vec<String>,
+    pub questions: Vec<String>,
+}
+
+/// The place of a name among others.
+pub(crate) fn place_of(names: &[String], name: &str) -> Option<usize> {
+    names.iter().position(|it| it == name)
+}
+
 /// An attribute of the schema.
 #[derive(Clone, Debug, PartialEq, Eq, Hash)]
 pub struct Attribute {
@@ -44,6 +57,8 @@ pub enum LaneKind {
         /// The attribute that is measured.
         measure: u32,
     },
+    /// Of a kind that this crate does not know: the library is a later one.
+    Unknown(u32),
 }
 
 /// A trigger: it fires in a bucket of the aggregate whose `part` compares by `op` with `number`.
@@ -89,21 +104,27 @@ pub enum Asks {
     Top { lane: u32, part: Part, count: u32 },
     /// What the attribute adds up to over the records that match.
     Total { attribute: u32 },
+    /// Of a kind that this crate does not know: the library is a later one.
+    Unknown(u32),
 }
 
 /// A part of a quad.
 #[derive(Clone, Copy, Debug, PartialEq, Eq, Hash)]
 #[allow(missing_docs)]
+#[non_exhaustive]
 pub enum Part {
     Count,
     Sum,
     Least,
     Greatest,
+    /// One that this crate does not know: the library is a later one.
+    Unknown(u32),
 }
 
 /// How numbers are compared.
 #[derive(Clone, Copy, Debug, PartialEq, Eq, Hash)]
 #[allow(missing_docs)]
+#[non_exhaustive]
 pub enum Op {
     Equal,
     NotEqual,
@@ -111,17 +132,21 @@ pub enum Op {
     AtMost,
     Greater,
     AtLeast,
+    /// One that this crate does not know: the library is a later one.
+    Unknown(u32),
 }
 
 impl Part {
     fn of(number: u32) -> Self {
-        [Part::Count, Part::Sum, Part::Least, Part::Greatest][number as usize]
+        let parts = [Part::Count, Part::Sum, Part::Least, Part::Greatest];
+        parts.get(number as usize).copied().unwrap_or(Part::Unknown(number))
     }
 }
 
 impl Op {
     fn of(number: u32) -> Self {
-        [Op::Equal, Op::NotEqual, Op::Less, Op::AtMost, Op::Greater, Op::AtLeast][number as usize]
+        let ops = [Op::Equal, Op::NotEqual, Op::Less, Op::AtMost, Op::Greater, Op::AtLeast];
+        ops.get(number as usize).copied().unwrap_or(Op::Unknown(number))
     }
 }
 
@@ -143,7 +168,7 @@ impl Lane {
             1 => LaneKind::Filter,
             2 => LaneKind::Aggregate { measure },
             3 => LaneKind::Tally { key, measure },
-            other => panic!("libconfluo told of a lane of kind {other}"),
+            other => LaneKind::Unknown(other),
         };
         Lane { name, kind }
     }
@@ -181,7 +206,7 @@ impl Question {
                 count: about.size,
             },
             6 => Asks::Total { attribute: lane },
-            other => panic!("libconfluo told of a question of kind {other}"),
+            other => Asks::Unknown(other),
         };
         Question { name, asks }
     }

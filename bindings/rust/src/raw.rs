@@ -115,6 +115,9 @@ pub struct Head {
     pub count: u64,
 }
 
+/// `CONFLUO_VERSION` of the header that this crate is written for.
+pub const VERSION: u32 = 4_000;
+
 pub const OK: u32 = 0;
 pub const MEMORY: u32 = 1;
 pub const SIZES: u32 = 2;
@@ -234,6 +237,5 @@ extern "C" {
         count: *mut usize,
     ) -> u32;
     pub fn confluo_tell(log: *mut Log, sort: u32, number: u32, about: *mut About) -> u32;
-    pub fn confluo_question(log: *mut Log, name: *const u8, name_len: usize, number: *mut u32) -> u32;
     pub fn confluo_width(log: *mut Log, width: *mut u64) -> u32;
 }

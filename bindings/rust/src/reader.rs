@@ -2,18 +2,69 @@
 use crate::answer::{Answer, Body, Groups};
 use crate::error::{AskError, GroupsError, LineError, ReportError, RowError};
 use crate::handle::Held;
+use crate::names::{place_of, Names};
 use crate::raw;
 use crate::row::{Row, Value};
+use std::sync::Arc;
 
 /// A reader of a log.
 #[derive(Debug)]
 pub struct Reader {
     held: Held<raw::Reader>,
+    names: Arc<Names>,
 }
 
 impl Reader {
-    pub(crate) fn new(held: Held<raw::Reader>) -> Self {
-        Reader { held }
+    pub(crate) fn new(held: Held<raw::Reader>, names: Arc<Names>) -> Self {
+        Reader { held, names }
+    }
+
+    /// The number of the question of that name, if there is one.
+    #[must_use]
+    pub fn question(&self, name: &str) -> Option<u32> {
+        place_of(&self.names.questions, name).and_then(|place| u32::try_from(place).ok())
+    }
+
+    /// The number of the index, filter, aggregate or tally of that name, if there is one.
+    #[must_use]
+    pub fn lane(&self, name: &str) -> Option<u32> {
+        place_of(&self.names.lanes, name).and_then(|place| u32::try_from(place).ok())
+    }
+
+    /// The place of the attribute of that name among the values of a [`Row`], if there is one.
+    #[must_use]
+    pub fn attribute(&self, name: &str) -> Option<usize> {
+        place_of(&self.names.attributes, name)
+    }
+
+    /// Asks the question of that name, as [`ask`](Reader::ask) does.
+    ///
+    /// # Errors
+    ///
+    /// As for [`ask`](Reader::ask).
+    ///
+    /// ```
+    /// use confluo::{AskError, Log, Sizes};
+    ///
+    /// let mut log = Log::open("schema records ts:u64\nask all list *\n", Sizes::default())?;
+    /// let mut reader = log.reader()?;
+    /// assert_eq!(reader.ask_named("all")?.tail, 0);
+    /// assert_eq!(reader.ask_named("other"), Err(AskError::NoQuestion));
+    /// # Ok::<(), confluo::Error>(())
+    /// ```
+    pub fn ask_named(&mut self, name: &str) -> Result<Answer, AskError> {
+        let number = self.question(name).ok_or(AskError::NoQuestion)?;
+        self.ask(number)
+    }
+
+    /// Asks the question of that name on the records that the reader has seen, as [`ask_seen`](Reader::ask_seen) does.
+    ///
+    /// # Errors
+    ///
+    /// As for [`ask`](Reader::ask).
+    pub fn ask_seen_named(&mut self, name: &str) -> Result<Answer, AskError> {
+        let number = self.question(name).ok_or(AskError::NoQuestion)?;
+        self.ask_seen(number)
     }
 
     /// Asks the question of that number in the setup, from 0, on all records below the tail.
@@ -129,8 +180,27 @@ impl Reader {
             )
         });
         RowError::check(code)?;
-        let values = values[..count].iter().map(Value::of).collect();
+        let values = values.iter().take(count).map(Value::of).collect();
         Ok(Row { number, values })
+    }
+
+    /// All records that the reader has seen, read back one by one, in the order of their offsets.
+    ///
+    /// ```
+    /// use confluo::{Log, Sizes};
+    ///
+    /// let mut log = Log::open("schema records ts:u64\n", Sizes::default())?;
+    /// let (mut writer, mut reader) = (log.writer()?, log.reader()?);
+    /// for number in 7..10 {
+    ///     writer.append_values(number, &[1_000])?;
+    /// }
+    /// reader.tail();
+    /// let numbers: Result<Vec<u32>, _> = reader.rows().map(|row| row.map(|it| it.number)).collect();
+    /// assert_eq!(numbers?, [7, 8, 9]);
+    /// # Ok::<(), confluo::Error>(())
+    /// ```
+    pub fn rows(&mut self) -> Rows<'_> {
+        Rows { reader: self, next: 0 }
     }
 
     /// The report of the records that the reader has seen, as `confluo run` prints it: how many they are, what each question and trigger
@@ -140,7 +210,7 @@ impl Reader {
     ///
     /// [`ReportError::Memory`].
     pub fn report(&mut self) -> Result<String, ReportError> {
-        let mut text = Vec::new();
+        let mut text = vec![0; 1 << 16]; // the library makes the text at each call
         loop {
             let mut count = 0;
             // SAFETY: the memory is ours, and as long as said.
@@ -176,8 +246,32 @@ impl Reader {
         let copied = self
             .held
             .call(|reader| unsafe { raw::confluo_words(reader, 0, words.as_mut_ptr(), words.len()) });
-        assert_eq!(copied, length, "the reader has the words of its answer");
+        words.truncate(copied);
         words
+    }
+}
+
+/// The records that a reader has seen, from [`Reader::rows`]. It ends after the last one, or after an error.
+#[derive(Debug)]
+pub struct Rows<'a> {
+    reader: &'a mut Reader,
+    next: u32,
+}
+
+impl Iterator for Rows<'_> {
+    type Item = Result<Row, RowError>;
+
+    fn next(&mut self) -> Option<Self::Item> {
+        let row = self.reader.row(self.next);
+        self.next = if row.is_ok() {
+            self.next.saturating_add(1)
+        } else {
+            u32::MAX
+        };
+        match row {
+            Err(RowError::NoRow) => None,
+            row => Some(row),
+        }
     }
 }
 

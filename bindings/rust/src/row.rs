@@ -9,6 +9,8 @@ pub enum Value {
     Number(u64),
     /// A string of as many bytes as its attribute says, at most 16.
     Bytes(Vec<u8>),
+    /// Of a kind that this crate does not know: the library is a later one. It fits no attribute.
+    Unknown(u32),
 }
 
 /// A record that is read back.
@@ -24,8 +26,8 @@ impl Value {
     pub(crate) fn of(value: &raw::Value) -> Self {
         match value.kind {
             raw::NUMBER => Value::Number(value.number),
-            raw::BYTES => Value::Bytes(value.bytes[..value.length as usize].to_vec()),
-            kind => panic!("libconfluo told of a value of kind {kind}"),
+            raw::BYTES => Value::Bytes(value.bytes.iter().copied().take(value.length as usize).collect()),
+            kind => Value::Unknown(kind),
         }
     }
 
@@ -46,6 +48,7 @@ impl Value {
                     bytes,
                 })
             }
+            Value::Unknown(_) => None,
         }
     }
 }

@@ -3,6 +3,7 @@ use crate::error::AppendError;
 use crate::handle::Held;
 use crate::raw;
 use crate::row::Value;
+use std::ops::Range;
 
 /// What is said of a captured frame beside its bytes.
 #[derive(Clone, Copy, Debug, PartialEq, Eq, Hash)]
@@ -53,6 +54,26 @@ impl Batch {
         self.bytes.extend_from_slice(bytes);
     }
 
+    /// A batch without frames over a buffer, such as a capture file that was read: [`push_part`](Batch::push_part) adds frames of it
+    /// without a copy.
+    #[must_use]
+    pub fn over(bytes: Vec<u8>) -> Self {
+        Batch {
+            frames: Vec::new(),
+            bytes,
+        }
+    }
+
+    /// Adds the frame whose bytes stand in that part of the buffer. If they do not all stand there, it is refused when it is appended, as
+    /// [`AppendError::Frame`].
+    pub fn push_part(&mut self, capture: &Capture, part: Range<usize>) {
+        self.frames.push(raw::Frame {
+            capture: capture.raw(),
+            from: part.start as u64,
+            count: part.len() as u64,
+        });
+    }
+
     /// How many frames it has.
     #[must_use]
     pub fn len(&self) -> usize {
@@ -65,7 +86,7 @@ impl Batch {
         self.frames.is_empty()
     }
 
-    /// Drops the frames, and keeps the memory for others.
+    /// Drops the frames and the bytes, and keeps the memory for others.
     pub fn clear(&mut self) {
         self.frames.clear();
         self.bytes.clear();
@@ -115,8 +136,9 @@ impl Writer {
     ///
     /// # Errors
     ///
-    /// [`AppendError::Frame`], [`AppendError::Memory`], [`AppendError::Unfit`] if the log's schema is not one of packets,
-    /// [`AppendError::Full`] for good, and [`AppendError::Nodes`], after which another row may still fit.
+    /// [`AppendError::Unfit`] if the log's schema is not one of packets, [`AppendError::Frame`], [`AppendError::Memory`],
+    /// [`AppendError::Nodes`], after which the writer has no nodes left and appends the rows that need no new one, and
+    /// [`AppendError::Full`] for good. A full log may answer `Nodes` to a writer that it has not answered `Full` yet.
     ///
     /// ```
     /// use confluo::{Body, Capture, Log, Sizes};
@@ -155,7 +177,7 @@ impl Writer {
     }
 
     /// Appends the frames of a batch from that one on, until one is refused. If frame `from + offsets.len()` is refused, you may go on with
-    /// it, or behind it, here or in another log.
+    /// it, or behind it, here or in another log. If the batch has fewer than `from` frames, that is [`AppendError::Sizes`].
     ///
     /// ```
     /// use confluo::{Appended, AppendError, Batch, Capture, Log, Sizes};
@@ -170,7 +192,13 @@ impl Writer {
     /// # Ok::<(), Box<dyn std::error::Error>>(())
     /// ```
     pub fn append_many(&mut self, batch: &Batch, from: usize) -> Appended {
-        let frames = batch.frames.get(from..).unwrap_or(&[]);
+        let Some(frames) = batch.frames.get(from..) else {
+            let refused = Some(AppendError::Sizes);
+            return Appended {
+                offsets: Vec::new(),
+                refused,
+            };
+        };
         let (mut offsets, mut done) = (vec![0; frames.len()], 0);
         // SAFETY: the memory is ours, and as long as said.
         let code = self.held.call(|writer| unsafe {
