@@ -4,28 +4,33 @@ _confluo_report() {
     local word=${COMP_WORDS[COMP_CWORD]} before=${COMP_WORDS[COMP_CWORD-1]} options
     COMPREPLY=()
     if [ "$COMP_CWORD" -eq 1 ]; then
-        mapfile -t COMPREPLY < <(compgen -W "show explain json csv prometheus stream merge plot packets ask check --version --help" -- "$word")
+        mapfile -t COMPREPLY < <(compgen -W "run show explain json csv prometheus stream merge plot packets ask check --version --help" -- "$word")
         return
     fi
     case ${COMP_WORDS[1]} in
+        run) options="--setup --writers --capacity --segments --nodes --live --truncated" ;;
         show) options="--setup --capture --most" ;;
         explain) options="--setup --capture --command --status" ;;
         json) options="--setup --indent" ;;
-        csv) options="--setup" ;;
-        prometheus) options="--setup --label --brief --textfile" ;;
-        stream) options="--setup --json --quiet --most --prometheus --label --exec --exec-limit --exec-seconds" ;;
+        csv) options="--setup --raw" ;;
+        prometheus) options="--setup --label --lists --textfile" ;;
+        stream) options="--setup --json --quiet --most --prometheus --label --exec --exec-limit --exec-seconds --again" ;;
         merge) options="--setup --tagged" ;;
-        plot) options="--setup --tagged --out --width --dotted" ;;
+        plot) options="--setup --tagged --out --width --dotted --most" ;;
         packets) options="--ask --out --into" ;;
-        ask) options="--setup-only --report --most --schema --truncated" ;;
+        ask) options="--setup-only --report --most --schema --truncated --out" ;;
+        check) options="--capture" ;;
         *) options="" ;;
     esac
     case $before in
         --status) mapfile -t COMPREPLY < <(compgen -W "1 2 3 4 5 6 7 8 9" -- "$word"); return ;;
         --into) mapfile -t COMPREPLY < <(compgen -d -- "$word"); return ;;
         --exec) mapfile -t COMPREPLY < <(compgen -c -- "$word"); return ;;
-        --most | --indent | --width | --label | --command | --ask | --exec-limit | --exec-seconds) return ;;
-        --schema) mapfile -t COMPREPLY < <(compgen -W "packet packet6" -- "$word"); return ;;
+        --most | --indent | --width | --label | --command | --ask | --exec-limit | --exec-seconds | --again | --capacity | --live) return ;;
+        --writers) mapfile -t COMPREPLY < <(compgen -W "1 2 4 8 15" -- "$word"); return ;;
+        --segments) mapfile -t COMPREPLY < <(compgen -W "1 2 4 16" -- "$word"); return ;;
+        --nodes) mapfile -t COMPREPLY < <(compgen -W "1024 8192 65536" -- "$word"); return ;;
+        --schema) mapfile -t COMPREPLY < <(compgen -W "packet6 packet" -- "$word"); return ;;
         --setup | --capture | --out | --textfile | --prometheus) mapfile -t COMPREPLY < <(compgen -f -- "$word"); return ;;
     esac
     if [ "${word:0:1}" = - ]; then

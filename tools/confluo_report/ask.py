@@ -4,10 +4,11 @@ from __future__ import annotations
 
 import contextlib
 import pathlib
+import re
 import shutil
 import sys
 import tempfile
-from dataclasses import dataclass
+from dataclasses import dataclass, field, replace
 from typing import Iterator, Sequence
 
 from . import program
@@ -16,36 +17,51 @@ from .errors import Complaint
 from .explain import Case, explain
 from .merge import Joined, Merged, Named, merge, merged_lines
 from .nodes import BLOCK, MOST_CAPACITY, MOST_NODES, MOST_RECORDS, Sizes
-from .questions import Query, is_question, name_of, parse_question, write_setup
-from .reports import Body, Fired, Pair, Report, lines_of, parse_report, refusal_of
+from .packets import copy_packets
+from .questions import (
+    MOST_TOP,
+    SPAN,
+    UNPARSED,
+    Query,
+    by_width,
+    is_question,
+    name_of,
+    parse_question,
+    write_setup,
+)
+from .reports import Body, Fired, Found, Pair, Quad, Report, Top, lines_of, parse_report, refusal_of
 from .setups import Setup, SetupFault, parse_setup
-from .show import Viewer, body_lines, count_text
+from .show import Viewer, bucket_lines, count_text, body_lines, silence_line, top_lines
 from .tables import Style
+from .unparsed import Unparsed, unparsed_line
 from .values import grouped
 
 FIRST_NODES = 8192
+FINDING = ("list", "find", "between")
+OTHERS = "\nconfluo-report: "
 
 
 @dataclass(frozen=True)
 class Job:
-    """Captures and questions, as typed."""
+    """Captures and questions, as typed, and why others of the questions cannot be asked."""
 
     captures: list[str]
     queries: list[Query]
-    schema: str = "packet"
+    schema: str = "packet6"
     may_be_cut: bool = False
+    faults: list[str] = field(default_factory=list)
 
     @property
     def is_several(self) -> bool:
         return len(self.captures) > 1
 
     def setup_text(self) -> str:
-        """The setup that is run."""
+        """The setup of the questions as they are asked."""
         return write_setup(self.queries, self.schema, self.is_several)
 
 
 def job_of(words: Sequence[str], schema: str, needs_capture: bool, may_be_cut: bool = False) -> Job:
-    """Sorts the words into captures and questions."""
+    """Sorts the words into captures and questions; a Complaint where none of these can be asked."""
     texts = [it for it in words if is_question(it)]
     captures = [it for it in words if not is_question(it)]
     for it in captures:
@@ -59,10 +75,23 @@ def job_of(words: Sequence[str], schema: str, needs_capture: bool, may_be_cut: b
         raise Complaint("there is no capture to ask about")
     if captures.count("-") > 1:
         raise Complaint("standard input is given twice")
-    return Job(captures, [parse_question(it) for it in texts], schema, may_be_cut)
+    job = Job(captures, [], schema, may_be_cut)
+    for it in texts:
+        try:
+            query = parse_question(it)
+            if query.is_peak and re.search(rf"[ ,]{query.key}:", schema):
+                # An attribute of CSV files that is called like a unit.
+                query = replace(query, width=0)
+            valid(write_setup([query], schema))
+            job.queries.append(query)
+        except Complaint as complaint:
+            job.faults.append(str(complaint))
+    if not job.queries:
+        raise Complaint(OTHERS.join(job.faults))
+    return job
 
 
-def lawful(job: Job, text: str) -> Setup:
+def valid(text: str) -> Setup:
     """The setup of the text; a Complaint says which question is at fault, and where."""
     try:
         return parse_setup(text.encode("utf-8", "replace"))
@@ -75,7 +104,21 @@ def _fault_text(text: str, fault: SetupFault) -> str:
     above = [it for it in lines[: max(fault.line - 1, 0)] if it.startswith("# ")]
     question = above[-1][2:] if above else ""
     why = f"{fault.fault.why}\n    {fault.text}\n    {' ' * fault.fault.place}^"
+    right = _right_question(question, fault)
+    if right:
+        why += f"\nThis means the same and is right:\n    {right}"
     return f"`{question}` cannot be asked: {why}"
+
+
+def _right_question(question: str, fault: SetupFault) -> str:
+    """The question with the right expression; it and the faulty line end with the same one."""
+    line, right, size = fault.text, fault.fault.right, 0
+    while size < min(len(question), len(line)) and question[-1 - size] == line[-1 - size]:
+        size += 1
+    front = len(line) - size
+    if not right or right[:front] != line[:front]:
+        return ""
+    return question[: len(question) - size] + right[front:]
 
 
 def _raised(sizes: Sizes, kind: str) -> Sizes | None:
@@ -118,72 +161,156 @@ def _refused(ran: program.Ran, setup_path: str, capture: str) -> str:
     refusal = refusal_of(ran.text)
     if refusal is None and ran.status not in (4, 5, 8):
         return f"{capture}: confluo ended with status {ran.status} and no refusal"
-    lines = explain(refusal, None if refusal else ran.status, Case(setup_path, [capture]))
-    return "\n".join(lines)
+    case = Case(setup_path, [capture], is_ask=True)
+    return "\n".join(explain(refusal, None if refusal else ran.status, case))
 
 
 @contextlib.contextmanager
-def _files(job: Job, text: str) -> Iterator[tuple[str, list[str]]]:
-    """The setup in a file, and the captures, of which standard input is copied into one."""
-    with tempfile.TemporaryDirectory(prefix="confluo-report-") as folder:
-        setup = pathlib.Path(folder) / "questions.setup"
-        setup.write_text(text, encoding="ascii")
-        copy = pathlib.Path(folder) / "stdin"
+def _files(job: Job) -> Iterator[tuple[pathlib.Path, list[str]]]:
+    """A folder for setups, and the captures, of which standard input is copied into one."""
+    with tempfile.TemporaryDirectory(prefix="confluo-report-") as name:
+        folder = pathlib.Path(name)
+        copy = folder / "stdin"
         if "-" in job.captures:
             with copy.open("wb") as file:
                 shutil.copyfileobj(sys.stdin.buffer, file)
-        yield str(setup), [str(copy) if it == "-" else it for it in job.captures]
+        yield folder, [str(copy) if it == "-" else it for it in job.captures]
 
 
-def answers(job: Job, style: Style, most: int, as_report: bool = False) -> list[str]:
-    """The lines to print."""
+def report_lines(job: Job) -> list[str]:
+    """The lines of the report, or of the reports of several captures together."""
     text = job.setup_text()
-    setup = lawful(job, text)
-    with _files(job, text) as (setup_path, captures):
-        named = [_named(setup_path, name, it, job.may_be_cut) for name, it in zip(job.captures, captures)]
-        if as_report and not job.is_several:
-            return list(lines_of(named[0].report))
-        asked = {name_of(at): it.count for at, it in enumerate(job.queries) if it.verb == "top"}
-        merged = merge(named, setup, asked)
-        if as_report:
-            return merged_lines(merged)
-        viewers = [
-            Viewer(setup, _details(it.report, setup, path, most) if _has_found(job) else {}, style, most)
-            for it, path in zip(named, captures)
+    setup = valid(text)
+    with _files(job) as (folder, captures):
+        named = _reports(job, text, folder, captures)
+    if not job.is_several:
+        return list(lines_of(named[0].report))
+    asked = {name_of(at): it.count for at, it in enumerate(job.queries) if it.verb == "top"}
+    return merged_lines(merge(named, setup, asked))
+
+
+def _reports(job: Job, text: str, folder: pathlib.Path, captures: Sequence[str]) -> list[Named]:
+    path = folder / "questions.setup"
+    path.write_text(text, encoding="ascii")
+    return [_named(str(path), name, it, job.may_be_cut) for name, it in zip(job.captures, captures)]
+
+
+@dataclass(frozen=True)
+class _Answered:
+    """The answers of questions that one setup asks, and for each capture how they are shown."""
+
+    merged: Merged
+    queries: Sequence[Query]
+    viewers: list[Viewer]
+    named: list[Named]
+
+    def joined(self, name: str) -> Joined | None:
+        return next((it for it in self.merged.asks if it.name == name), None)
+
+    def span(self) -> list[int]:
+        """The buckets with a packet, where they were asked."""
+        joined = self.joined(SPAN)
+        return sorted({it.key for body in fired_in(joined) for it in body.marks}) if joined else []
+
+    def unparsed(self) -> Unparsed | None:
+        """How many packets are not parsed, where it was asked."""
+        bodies = [it.body for it in map(self.joined, UNPARSED) if it]
+        counts = [it.count for it in bodies if isinstance(it, Quad)]
+        return Unparsed(*counts, self.merged.records) if len(counts) == len(UNPARSED) else None
+
+
+def fired_in(joined: Joined) -> list[Fired]:
+    return [body for _, body in joined.parts if isinstance(body, Fired)]
+
+
+def answers(job: Job, style: Style, most: int, out: str | None = None) -> list[str]:
+    """The lines to print; the packets of the one question that finds some go into the new capture `out`."""
+    found = [it for it in job.queries if it.verb in FINDING]
+    if out is not None and (len(found) != 1 or job.is_several or out == "-"):
+        raise Complaint("--out FILE takes the packets of one list, find or between in one capture")
+    with _files(job) as (folder, captures):
+        answered = [_answer(job, it, (folder, captures), style, most) for it in by_width(job.queries)]
+        copied = [
+            _copied(it, found[0], captures[0], out) for it in answered if out and found[0] in it.queries
         ]
-    return _shown(job, merged, viewers)
+    return _shown(job, answered) + copied
+
+
+def _copied(answered: _Answered, query: Query, capture: str, out: str) -> str:
+    """Copies the packets that the question found, and says how many."""
+    named = answered.named[0]
+    name = name_of(answered.queries.index(query))
+    copied = copy_packets(named.report, name, capture, out, named.name)
+    return f"\n{out}: {copied.packets} of {copied.records} packets"
+
+
+def _answer(
+    job: Job, queries: list[Query], files: tuple[pathlib.Path, list[str]], style: Style, most: int
+) -> _Answered:
+    folder, captures = files
+    text = write_setup(queries, job.schema, every=True, extras=True)
+    try:
+        setup = parse_setup(text.encode())
+    except SetupFault:
+        # With the tool's own questions there may be too many.
+        text = write_setup(queries, job.schema, every=True)
+        setup = valid(text)
+    named = _reports(job, text, folder, captures)
+    merged = merge(named, setup, {name_of(at): it.count for at, it in enumerate(queries) if it.verb == "top"})
+    has_found = any(it.verb in FINDING for it in queries)
+    viewers = [
+        Viewer(setup, _details(it.report, setup, path, most) if has_found else {}, style, most)
+        for it, path in zip(named, captures)
+    ]
+    return _Answered(merged, queries, viewers, named)
 
 
 def _details(report: Report, setup: Setup, path: str, most: int) -> Details:
-    return details_of(report.asks, report.records, setup, path, most, report.truncated)
+    return details_of(report.asks, report.records, setup, path, most, report.truncated).lines
 
 
-def _has_found(job: Job) -> bool:
-    return any(it.verb in ("list", "find", "between") for it in job.queries)
-
-
-def _shown(job: Job, merged: Merged, viewers: Sequence[Viewer]) -> list[str]:
-    viewer = viewers[0]
+def _shown(job: Job, answered: Sequence[_Answered]) -> list[str]:
+    first = answered[0]
+    viewer, merged = first.viewers[0], first.merged
     of = f" of {len(job.captures)} captures" if job.is_several else ""
     lines = [f"{grouped(merged.records)} {viewer.things}{of}"]
     for name, whole in merged.truncated:
         lines.append(f"{name} is cut off after {grouped(whole)} {viewer.things}: what came then is missing")
-    for query, joined in zip(job.queries, merged.asks):
-        lines += ["", _title(viewer, query, joined)]
-        if joined.kind == "fired" and job.is_several:
-            lines += _joined_buckets(viewer, query, joined)
-        elif joined.body is not None:
-            lines += body_lines(viewer, joined.name, joined.body)
-        else:
-            lines += _by_capture(viewers, joined)
-        if joined.note:
-            lines.append(f"  Note: {joined.note}.")
+    unparsed = first.unparsed()
+    lines += unparsed_line(unparsed, "leave out `--schema packet`") if unparsed else []
+    for query in job.queries:
+        for it in answered:
+            if query in it.queries:
+                joined = it.merged.asks[it.queries.index(query)]
+                lines += _one_shown(it, query, joined)
     return lines
 
 
+def _one_shown(answered: _Answered, query: Query, joined: Joined) -> list[str]:
+    """A question with its answer, after an empty line."""
+    viewer = answered.viewers[0]
+    lines = ["", _title(viewer, query, joined)]
+    if query.is_of_buckets:
+        lines += _buckets(answered, query, joined)
+    elif isinstance(joined.body, Top):
+        lines += top_lines(viewer, joined.name, joined.body, _is_whole(joined)) or ["  none"]
+    elif joined.body is not None:
+        lines += body_lines(viewer, joined.name, joined.body)
+    else:
+        lines += _by_capture(answered.viewers, joined)
+    return lines + ([f"  Note: {joined.note}."] if joined.note else [])
+
+
+def _is_whole(joined: Joined) -> bool:
+    """Whether an answer of top has all keys that there are."""
+    keys = {it.key for _, body in joined.parts if isinstance(body, Top) for it in body.keys}
+    is_full = any(len(body.keys) >= MOST_TOP for _, body in joined.parts if isinstance(body, Top))
+    return isinstance(joined.body, Top) and len(joined.body.keys) == len(keys) and not is_full
+
+
 def _title(viewer: Viewer, query: Query, joined: Joined) -> str:
-    body: Body | None = joined.body or (joined.parts[0][1] if len(joined.parts) == 1 else None)
-    count = count_text(viewer, body) if body and joined.kind != "top" else ""
+    body: Body | None = joined.parts[0][1] if len(joined.parts) == 1 else None
+    count = count_text(viewer, body) if isinstance(body, Found) else ""
     return viewer.style.title(query.text) + count
 
 
@@ -197,19 +324,25 @@ def _by_capture(viewers: Sequence[Viewer], joined: Joined) -> list[str]:
 
 
 def joined_marks(query: Query, fired: Sequence[Fired]) -> list[Pair]:
-    """The buckets of all captures together, of those that the question means."""
+    """All buckets of the captures together, with their values."""
     values: dict[int, list[int]] = {}
     for body in fired:
         for it in body.marks:
             values.setdefault(it.key, []).append(it.value)
     join = {"count": sum, "sum": sum, "least": min, "greatest": max}[query.part]
-    pairs = [Pair(bucket, join(its)) for bucket, its in sorted(values.items())]
-    return [it for it in pairs if query.fires(it.value)]
+    return [Pair(bucket, join(its)) for bucket, its in sorted(values.items())]
 
 
-def _joined_buckets(viewer: Viewer, query: Query, joined: Joined) -> list[str]:
-    fired = [body for _, body in joined.parts if isinstance(body, Fired)]
-    pairs = joined_marks(query, fired)
-    if not pairs:
-        return ["  none"]
-    return body_lines(viewer, joined.name, Fired(tuple(pairs)))
+def _buckets(answered: _Answered, query: Query, joined: Joined) -> list[str]:
+    """The buckets that the question means, and what is said of those without a packet."""
+    viewer = answered.viewers[0]
+    pairs = joined_marks(query, fired_in(joined))
+    if query.is_peak:
+        found = sorted(pairs, key=lambda it: (-it.value, it.key))[: query.count]
+        return bucket_lines(viewer, joined.name, found, None) or ["  none"]
+    meant = [it for it in pairs if query.fires(it.value)]
+    lines = bucket_lines(viewer, joined.name, meant, (query.operator, query.number)) or ["  none"]
+    if not query.lists_all:
+        return lines
+    ends = answered.span() or [it.key for it in pairs]
+    return lines + silence_line(viewer, {it.key for it in pairs}, ends, query.expression)

@@ -19,6 +19,7 @@ from .errors import Complaint
 MOST_BYTES = 2**32
 MOST_CAPTURED = 262144
 MOST_BLOCK = 2**20
+MOST_INTERFACES = 65536
 SECTION, INTERFACE, SIMPLE, ENHANCED = 0x0A0D0D0A, 1, 3, 6
 CUT = (5, 25)
 LEAST = {SECTION: 28, INTERFACE: 20, SIMPLE: 16, ENHANCED: 32}
@@ -60,11 +61,13 @@ class Frame:
 class Reading:
     """How a capture is read: whether a file that is cut off may be, and by which schema of packets.
 
+    Where it is `long`, as by watch, a pcapng section has at most 65,536 interfaces.
     `cut` is, once all is read, the number of whole records of a file that is cut off.
     """
 
     may_be_cut: bool = False
     schema: str = "packet"
+    long: bool = False
     cut: int | None = None
 
 
@@ -212,8 +215,8 @@ def _nanoseconds(ticks: int, resolution: int) -> int:
 class _Blocks:
     """The blocks of a pcapng file one after another."""
 
-    def __init__(self, source: _Source, head: bytes, schema: str) -> None:
-        self.source, self.head, self.schema, self.number = source, head, schema, 0
+    def __init__(self, source: _Source, head: bytes, reading: Reading) -> None:
+        self.source, self.head, self.reading, self.number = source, head, reading, 0
         self.section = _Section("<")
         source.is_blocks = True
 
@@ -279,6 +282,8 @@ class _Blocks:
             if major != 1:
                 self.fail(22, at + 12, "major version 1", f"{major}")
         if kind == INTERFACE:
+            if self.reading.long and len(self.section.interfaces) == MOST_INTERFACES:
+                self.fail(29, at, f"at most {MOST_INTERFACES} interfaces in a section", "one more")
             link, _, snap = struct.unpack_from(order + "HHI", block, 8)
             self.section.interfaces.append((link, snap, _resolution(order, block[16:-4])))
         if kind == ENHANCED:
@@ -292,8 +297,8 @@ class _Blocks:
         if number >= len(known):
             wanted = f"an interface that the section describes; it describes {len(known)}"
             self.fail(28, at + 8, wanted, f"interface {number}")
-        if known[number][0] not in LINKS[self.schema]:
-            wanted = f"an interface of {_links_text(self.schema)}"
+        if known[number][0] not in LINKS[self.reading.schema]:
+            wanted = f"an interface of {_links_text(self.reading.schema)}"
             self.fail(23, at + 8, wanted, f"interface {number} of {_link_text(known[number][0])}")
         return known[number]
 
@@ -326,7 +331,7 @@ def pieces(file: BinaryIO, reading: Reading | None = None) -> Iterator[Piece]:
     source = _Source(file, b"")
     head = source.read(4)
     if head == b"\n\r\r\n":
-        return _up_to_a_cut(_Blocks(source, head, reading.schema).pieces(), reading)
+        return _up_to_a_cut(_Blocks(source, head, reading).pieces(), reading)
     return _up_to_a_cut(_classic(source, head, reading.schema), reading)
 
 

@@ -3,6 +3,7 @@
 from __future__ import annotations
 
 import argparse
+import errno
 import os
 import pathlib
 import sys
@@ -12,40 +13,62 @@ from . import ask as asking
 from .captures import CaptureFault
 from .check import check
 from .commands import split
-from .details import details_of
+from .details import Details, details_of
 from .errors import Complaint
 from .explain import Case, explain, read_bytes
+from .explain_capture import REASONS
 from .exports import csv_text, json_text
 from .matching import must_match
-from .merge import Named, merge, merged_lines, split_reports
-from .metrics import label_of, metrics_text, write_at_once
+from .merge import Merged, Named, is_merged, merge, merged_lines, parse_merged, split_reports
+from .metrics import labels_of, metrics_text, write_at_once
 from .packets import copy_packets
 from .plot import drawing_of, plot
 from .questions import write_setup
 from .reports import Report, Snapshot, is_told, parse, parse_report, refusal_of
 from .setups import Setup, SetupFault, parse_setup
-from .show import Viewer, asks_of, report_lines, snapshot_lines
-from .stream import Commands, Incoming, JsonLines, Output, Textfile, WordLines, stream
+from .run import HELP, run
+from .show import Viewer, asks_of, merged_shown, report_lines, snapshot_lines
+from .stream import (
+    OWN_TROUBLE,
+    Again,
+    Commands,
+    Incoming,
+    JsonLines,
+    Output,
+    Textfile,
+    WordLines,
+    stream,
+)
 from .tables import style_for
+from .unparsed import notice
 from .version import version
 
 DESCRIPTION = "Shows, explains and exports what confluo prints, and asks it questions without a setup."
 EPILOG = """\
 examples:
+  confluo-report run --setup q.setup capture.pcap
   confluo-report ask capture.pcap 'top src by bytes' 'list kind==2 && flags==20'
   confluo run --setup q.setup capture.pcap | confluo-report show --setup q.setup --capture capture.pcap
   confluo run --setup q.setup capture.pcap | confluo-report explain --setup q.setup --capture capture.pcap
   tcpdump -U -w - | confluo watch --setup q.setup /dev/stdin | confluo-report stream --setup q.setup
 """
 Words = argparse.Namespace
+OTHERS = asking.OTHERS
+
+
+def _bytes_of(path: str) -> bytes:
+    return sys.stdin.buffer.read() if path == "-" else read_bytes(path)
 
 
 def _text_of(path: str) -> str:
-    data = sys.stdin.buffer.read() if path == "-" else read_bytes(path)
+    return _ascii(_bytes_of(path), path)
+
+
+def _ascii(data: bytes, path: str) -> str:
     try:
         return data.decode("ascii")
     except UnicodeDecodeError as error:
-        raise Complaint(f"{_shown(path)}: this is no report: byte {error.start} is no ASCII") from error
+        raise Complaint(f"{_shown(path)}: this is not a report: byte {error.start} is not ASCII") from error
 
 
 def _shown(path: str) -> str:
@@ -64,9 +87,13 @@ def _setup_of(path: str | None) -> Setup | None:
         ) from fault
 
 
-def _read(words: Words) -> tuple[Report | Snapshot, Setup | None]:
+def _read(words: Words) -> tuple[Report | Snapshot | Merged, Setup | None]:
     """The report and the setup, which must be its own."""
-    read, setup = parse(_text_of(words.report), _shown(words.report)), _setup_of(words.setup)
+    setup, source = _setup_of(words.setup), _shown(words.report)
+    data = _bytes_of(words.report)
+    if is_merged(data.decode("utf-8", "surrogateescape")):
+        return parse_merged(data.decode("utf-8", "surrogateescape"), source, setup), setup
+    read = parse(_ascii(data, words.report), source)
     if setup:
         must_match(read, setup, _shown(words.report))
     return read, setup
@@ -79,14 +106,22 @@ def _print(lines: Sequence[str]) -> None:
 def _show(words: Words) -> int:
     read, setup = _read(words)
     style = style_for(sys.stdout)
-    details = {}
-    if words.capture and isinstance(read, Snapshot):
-        raise Complaint("a snapshot is shown without its captures: --capture is for a report")
-    if words.capture:
+    details = Details()
+    if words.capture and not isinstance(read, Report):
+        raise Complaint(
+            "--capture is for a report of `run`: a snapshot or merged report is shown without captures"
+        )
+    if words.capture and isinstance(read, Report):
         cut = read.truncated
         details = details_of(asks_of(read), read.records, setup, words.capture, words.most, cut)
-    viewer = Viewer(setup, details, style, words.most)
-    lines = report_lines(viewer, read) if isinstance(read, Report) else snapshot_lines(viewer, read)
+    viewer = Viewer(setup, details.lines, style, words.most)
+    if isinstance(read, Merged):
+        lines = merged_shown(viewer, read)
+    elif isinstance(read, Snapshot):
+        lines = snapshot_lines(viewer, read)
+    else:
+        lines = report_lines(viewer, read)
+        lines[1:1] = notice(read, setup, details.all)
     if setup is None:
         lines += ["", style.faint("With --setup FILE times, addresses and what was asked are shown.")]
     _print(lines)
@@ -115,16 +150,14 @@ def _json(words: Words) -> int:
 
 
 def _csv(words: Words) -> int:
-    read, _ = _read(words)
-    sys.stdout.write(csv_text(read))
+    read, setup = _read(words)
+    sys.stdout.write(csv_text(read, None if words.raw else setup))
     return 0
 
 
 def _prometheus(words: Words) -> int:
     read, setup = _read(words)
-    labels = dict(label_of(it) for it in words.label)
-    triggers = [it.name for it in setup.triggers] if setup else []
-    text = metrics_text(read, labels, triggers, words.brief)
+    text = metrics_text(read, labels_of(words.label), setup, words.lists)
     if words.textfile:
         write_at_once(words.textfile, text)
     else:
@@ -151,7 +184,7 @@ def _plot(words: Words) -> int:
     setup, named = _setup_of(words.setup), _named(words)
     if len(named) > 1 or setup:
         merge(named, setup)
-    plot(drawing_of(named, setup, words.width, words.dotted), pathlib.Path(words.out))
+    plot(drawing_of(named, setup, words.width, words.dotted, words.most), pathlib.Path(words.out))
     return 0
 
 
@@ -174,20 +207,29 @@ def _packets(words: Words) -> int:
 
 def _ask(words: Words) -> int:
     job = asking.job_of(words.words, words.schema, not words.setup_only, words.truncated)
+    if job.faults and (words.setup_only or words.report):
+        raise Complaint(OTHERS.join(job.faults))
     if words.setup_only:
         text = write_setup(job.queries, job.schema)
-        asking.lawful(job, text)
+        asking.valid(text)
         sys.stdout.write(text)
         return 0
-    _print(asking.answers(job, style_for(sys.stdout), words.most, words.report))
+    if words.report and words.out:
+        raise Complaint("--out is not for --report: `confluo-report packets` copies the packets of a report")
+    if words.report:
+        _print(asking.report_lines(job))
+        return 0
+    _print(asking.answers(job, style_for(sys.stdout), words.most, words.out))
+    if job.faults:
+        raise Complaint(OTHERS.join(job.faults))
     return 0
 
 
 def _check(words: Words) -> int:
     good = True
     for path in words.setups:
-        lawful, lines = check(_shown(path), sys.stdin.buffer.read() if path == "-" else read_bytes(path))
-        good = good and lawful
+        valid, lines = check(_shown(path), _bytes_of(path), words.capture)
+        good = good and valid
         _print(lines)
     return 0 if good else 1
 
@@ -199,18 +241,39 @@ def _stream(words: Words) -> int:
     commands = Commands(words.exec, words.exec_limit, words.exec_seconds, setup) if words.exec else None
     outputs: list[Output] = [commands] if commands else []
     if words.prometheus:
-        labels = dict(label_of(it) for it in words.label)
+        labels = labels_of(words.label)
         outputs.append(Textfile(words.prometheus, labels, setup, commands))
     if words.json:
         outputs.append(JsonLines(sys.stdout, setup, words.setup))
     elif not words.quiet:
         viewer = Viewer(setup, {}, style_for(sys.stdout), words.most)
         outputs.append(WordLines(sys.stdout, viewer, words.setup))
+    if words.again:
+        # Metrics count all alerts; the other outputs have those that are not held back.
+        others = [it for it in outputs if not isinstance(it, Textfile)]
+        outputs = [Again(others, words.again), *(it for it in outputs if isinstance(it, Textfile))]
     incoming = Incoming(_shown(words.report), setup)
     if words.report == "-":
         return stream(sys.stdin.fileno(), incoming, outputs)
     with open(words.report, "rb", buffering=0) as file:
         return stream(file.fileno(), incoming, outputs)
+
+
+def _add_run(commands: argparse._SubParsersAction) -> Callable[[Words], int]:
+    # Its words are confluo's own, so `main` hands them on before they are parsed.
+    commands.add_parser("run", help="confluo run, with a refusal in words", add_help=False)
+    return lambda words: run([])
+
+
+def _run(words: Sequence[str]) -> int:
+    """`run` with its words, of which --help and --version are the tool's own."""
+    if words[:1] in (["--help"], ["-h"]):
+        sys.stdout.write(HELP)
+        return 0
+    if words[:1] == ["--version"]:
+        print(f"confluo-report {version()}")
+        return 0
+    return run(words)
 
 
 def _add_report(parser: argparse.ArgumentParser, setup: str) -> None:
@@ -265,7 +328,10 @@ def _add_csv(commands: argparse._SubParsersAction) -> Callable[[Words], int]:
     parser = commands.add_parser(
         "csv", help="a report as CSV", description="Writes all of a report as one CSV table."
     )
-    _add_report(parser, "the setup, which must be the report's")
+    _add_report(parser, "the setup: then times and addresses are written")
+    parser.add_argument(
+        "--raw", action="store_true", help="with a setup too, the numbers of buckets and keys"
+    )
     return _csv
 
 
@@ -273,13 +339,14 @@ def _add_prometheus(commands: argparse._SubParsersAction) -> Callable[[Words], i
     parser = commands.add_parser(
         "prometheus", help="a report as metrics", description="Writes a report in Prometheus' text format."
     )
-    _add_report(parser, "the setup: then triggers without alerts are shown as 0")
+    _add_report(parser, "the setup: then keys are addresses, and triggers without alerts are shown as 0")
     parser.add_argument(
         "--label", metavar="NAME=VALUE", action="append", default=[], help="a label of all metrics"
     )
     parser.add_argument(
-        "--brief", action="store_true", help="without record numbers, live answers and the order"
+        "--lists", action="store_true", help="also record numbers, live answers and what each writer loaded"
     )
+    parser.add_argument("--brief", action="store_true", help="the default")
     parser.add_argument(
         "--textfile", metavar="FILE", help="write this file at once or not at all, for node_exporter"
     )
@@ -301,7 +368,7 @@ def _add_stream(commands: argparse._SubParsersAction) -> Callable[[Words], int]:
     parser.add_argument(
         "--prometheus",
         metavar="FILE",
-        help="keep metrics in this file, which is replaced at once, for node_exporter",
+        help="keep metrics in this file, which is replaced in one step, for node_exporter",
     )
     parser.add_argument(
         "--label", metavar="NAME=VALUE", action="append", default=[], help="a label of all metrics"
@@ -321,6 +388,14 @@ def _add_stream(commands: argparse._SubParsersAction) -> Callable[[Words], int]:
         metavar="S",
         help="seconds of a command, then it is killed (30)",
     )
+    parser.add_argument(
+        "--again",
+        type=_count,
+        default=0,
+        metavar="S",
+        help="after an alert hold back those of the same trigger for S seconds, and say how many; 0: none (0)",
+    )
+    parser.set_defaults(trouble=OWN_TROUBLE)
     return _stream
 
 
@@ -343,7 +418,7 @@ def _add_merge(commands: argparse._SubParsersAction) -> Callable[[Words], int]:
     parser = commands.add_parser(
         "merge",
         help="reports of one setup together",
-        description="Puts the final parts of reports of one setup together.",
+        description="Puts the final parts of reports of one setup together; show, json, csv and prometheus read the result.",
     )
     _add_several(parser)
     return _merge
@@ -358,6 +433,9 @@ def _add_plot(commands: argparse._SubParsersAction) -> Callable[[Words], int]:
         "--width", type=_count, default=10**9, metavar="NS", help="the setup's width, without --setup"
     )
     parser.add_argument("--dotted", action="store_true", help="keys are addresses, without --setup")
+    parser.add_argument(
+        "--most", type=_count, default=40, metavar="N", help="keys drawn of each top; 0: all (40)"
+    )
     _add_several(parser)
     return _plot
 
@@ -396,11 +474,14 @@ def _add_ask(commands: argparse._SubParsersAction) -> Callable[[Words], int]:
     )
     parser.add_argument(
         "--schema",
-        default="packet",
+        default="packet6",
         metavar="S",
-        help="packet6 for IPv6, or of CSV files: 'records ts:u64,src:u32,len:u16' (packet)",
+        help="packet without IPv6, or of CSV files: 'records ts:u64,src:u32,len:u16' (packet6)",
     )
     parser.add_argument("--truncated", action="store_true", help="also about captures that are cut off")
+    parser.add_argument(
+        "--out", metavar="FILE", help="a new capture for the packets of the one list, find or between"
+    )
     parser.add_argument(
         "words",
         metavar="CAPTURE|QUESTION",
@@ -413,14 +494,16 @@ def _add_ask(commands: argparse._SubParsersAction) -> Callable[[Words], int]:
 def _add_check(commands: argparse._SubParsersAction) -> Callable[[Words], int]:
     parser = commands.add_parser(
         "check",
-        help="whether a setup is lawful",
-        description="Says whether setups are lawful; status 1 if one is not.",
+        help="whether a setup is valid",
+        description="Says whether setups are valid; status 1 if one is not.",
     )
+    parser.add_argument("--capture", metavar="FILE", help="say how many of its packets are not parsed")
     parser.add_argument("setups", metavar="SETUP", nargs="+", help="files; - is standard input")
     return _check
 
 
 ADDERS = (
+    _add_run,
     _add_show,
     _add_explain,
     _add_json,
@@ -437,7 +520,7 @@ ADDERS = (
 
 def _count(text: str) -> int:
     if not (text.isascii() and text.isdigit()):
-        raise argparse.ArgumentTypeError(f"`{text}` is no whole number from 0 on")
+        raise argparse.ArgumentTypeError(f"`{text}` is not a whole number from 0 on")
     return int(text)
 
 
@@ -457,25 +540,50 @@ def make_parser() -> argparse.ArgumentParser:
     return parser
 
 
+def _take_any_name() -> None:
+    """File names that are not UTF-8 are printed byte for byte."""
+    for it in (sys.stdout, sys.stderr):
+        if hasattr(it, "reconfigure"):
+            it.reconfigure(errors="surrogateescape")
+
+
 def main(arguments: Sequence[str] | None = None) -> int:
     """Runs the command of the words, and answers the exit status."""
-    words = make_parser().parse_args(arguments)
+    typed = list(sys.argv[1:] if arguments is None else arguments)
+    _take_any_name()
+    trouble = 2
     try:
-        status: int = words.run(words)
+        if typed[:1] == ["run"]:
+            status = _run(typed[1:])
+        else:
+            words = make_parser().parse_args(typed)
+            trouble = getattr(words, "trouble", 2)
+            status = words.run(words)
         sys.stdout.flush()
         return status
     except Complaint as complaint:
-        print(f"confluo-report: {complaint}", file=sys.stderr)
-        return 2
+        _trouble(str(complaint))
     except CaptureFault as fault:
-        print(
-            f"confluo-report: the capture is faulty: code {fault.code} at record {fault.record}",
-            file=sys.stderr,
-        )
-        return 2
+        _trouble(f"the capture is faulty: code {fault.code} at record {fault.record}: {REASONS[fault.code]}")
     except BrokenPipeError:
-        os.dup2(os.open(os.devnull, os.O_WRONLY), sys.stdout.fileno())
+        _drop_output()
         return 0
     except OSError as error:
-        print(f"confluo-report: {error.filename or 'input'}: {error.strerror}", file=sys.stderr)
-        return 2
+        no_room = error.errno in (errno.ENOSPC, errno.EDQUOT, errno.EFBIG)
+        _trouble(f"{error.filename or ('standard output' if no_room else 'input')}: {error.strerror}")
+        if no_room:
+            _drop_output()
+    return trouble
+
+
+def _trouble(text: str) -> None:
+    try:
+        sys.stdout.flush()
+    except OSError:
+        _drop_output()
+    print(f"confluo-report: {text}", file=sys.stderr)
+
+
+def _drop_output() -> None:
+    """What is left to write goes nowhere, so that no second message comes at the end."""
+    os.dup2(os.open(os.devnull, os.O_WRONLY), sys.stdout.fileno())

@@ -128,7 +128,7 @@ def _gather(form: Form, words: list[str], command: Command) -> None:
         name, equals, value = word.removeprefix("--").partition("=")
         if not word.startswith("--") or name not in (*form.options, *form.flags):
             known = ", ".join(f"--{it}" for it in (*form.options, *form.flags))
-            raise WordsFault(f"`{word}` is no option of `{command.name}`; it has {known}", form.example)
+            raise WordsFault(f"`{word}` is not an option of `{command.name}`; it has {known}", form.example)
         if name in command.options:
             raise WordsFault(f"--{name} is given twice", form.example)
         if name in form.flags and equals:
@@ -164,8 +164,8 @@ def _must_be_in_range(form: Form, command: Command) -> None:
         if name not in OPTIONS:
             continue
         low, high = OPTIONS[name]
-        lawful = text.isascii() and text.isdigit() and (text == "0" or text[0] != "0")
-        if not lawful or not low <= int(text) <= high:
+        valid = text.isascii() and text.isdigit() and (text == "0" or text[0] != "0")
+        if not valid or not low <= int(text) <= high:
             why = f"--{name} is a decimal number from {low} to {high} without sign and leading zero, and not `{text}`"
             raise WordsFault(why, f"{form.example} --{name} {default_of(command.name, name) or low}")
     capacity, segments = command.number("capacity"), command.number("segments")
@@ -180,7 +180,7 @@ def _must_be_in_range(form: Form, command: Command) -> None:
 def parse_words(words: list[str]) -> Command:
     """The command that the words are, or a WordsFault."""
     if not words or words[0] not in FORMS:
-        first = f"`{words[0]}` is no command" if words else "there are no words behind the program's name"
+        first = f"`{words[0]}` is not a command" if words else "there are no words behind the program's name"
         raise WordsFault(f"{first}; the commands are {', '.join(FORMS)}", FORMS["run"].example)
     form, command = FORMS[words[0]], Command(words[0])
     _gather(form, words[1:], command)

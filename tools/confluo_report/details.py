@@ -3,20 +3,31 @@
 from __future__ import annotations
 
 import ipaddress
-from dataclasses import dataclass
+import shlex
+import tempfile
+from dataclasses import dataclass, field
 from typing import Callable, Iterable, Mapping, Sequence
 
 from . import program
-from .captures import CaptureFault
+from .captures import CaptureFault, Reading
 from .errors import Complaint
 from .expressions import Value, value_of
+from .packets import copy_found
 from .reports import Ask, Found
 from .rows import bucket_of, rows_of
 from .setups import PACKETS, Question, Setup
+from .unparsed import Unparsed
 from .values import KINDS, PROTOCOLS, flags_text, packet_clock
 
-Details = Mapping[int, str]
 IPV6 = 0x86DD
+
+
+@dataclass(frozen=True)
+class Details:
+    """The lines by record numbers, and what is known of all packets of the capture."""
+
+    lines: Mapping[int, str] = field(default_factory=dict)
+    all: Unparsed | None = None
 
 
 @dataclass(frozen=True)
@@ -82,25 +93,38 @@ def _packet(line: str, schema: str) -> Packet:
     return Packet(int(number), values, schema)
 
 
+def _dumped(capture: str, wanted: set[int], reading: Reading) -> tuple[dict[int, Packet], Unparsed]:
+    """The packets of these numbers by `confluo dump`, which reads no others, and what is known of all."""
+    with tempfile.NamedTemporaryFile(prefix="confluo-report-") as file:
+        try:
+            found = copy_found(capture, wanted, file, reading).all  # type: ignore[arg-type]
+        except CaptureFault as fault:
+            raise Complaint(
+                f"{capture}: it is refused with code {fault.code} at record {fault.record}\n"
+                f"`confluo-report explain --capture {shlex.quote(capture)}` says what that means"
+            ) from fault
+        file.flush()
+        there = sorted(it for it in wanted if it < found.packets)
+        words = ["dump", "--schema", reading.schema, file.name]
+        ran = program.run(words) if there else program.Ran(0, "")
+    if ran.status != 0:
+        raise Complaint(f"{capture}: `confluo dump` refuses it with status {ran.status}: {ran.text.strip()}")
+    lines = ran.text.splitlines()[1:]
+    return {at: _packet(line, reading.schema) for at, line in zip(there, lines)}, found
+
+
 def dumped(
-    capture: str, wanted: Iterable[int], records: int, truncated: int | None = None, schema: str = "packet"
-) -> dict[int, Packet]:
-    """The packets of these numbers by `confluo dump`, of a capture that must have that many.
+    capture: str, wanted: Iterable[int], records: int, truncated: int | None = None, schema: str = "packet6"
+) -> tuple[dict[int, Packet], Unparsed]:
+    """The packets of these numbers, of a capture that must have that many, and what is known of all.
 
     `truncated` is what the report says of a capture that is cut off.
     """
-    words = ["dump", *["--truncated"] * (truncated is not None)]
-    ran = program.run_over(words + ["--schema", schema] * (schema != "packet"), capture)
-    if ran.status != 0:
-        raise Complaint(
-            f"{capture}: `confluo dump` refuses it with status {ran.status}: {ran.text.strip()}\n"
-            f"`confluo-report explain --capture {capture}` says what that means"
-        )
-    head, *lines = ran.text.splitlines()
-    cut = lines.pop() if lines and lines[-1].startswith("truncated: ") else None
-    _must_be_as_many(capture, len(lines), records)
-    _must_be_cut(capture, cut is not None, truncated)
-    return {it: _packet(lines[it], schema) for it in set(wanted) if it < len(lines)}
+    reading = Reading(True, schema)
+    packets, found = _dumped(capture, set(wanted), reading)
+    _must_be_as_many(capture, found.packets, records)
+    _must_be_cut(capture, reading.cut is not None, truncated)
+    return packets, found
 
 
 def _must_be_as_many(capture: str, there: int, records: int) -> None:
@@ -144,7 +168,7 @@ def _must_be_found(
             if number in rows and not meant(rows[number]):
                 raise Complaint(
                     f"{capture} is not the capture of the report: `{ask.name}` found record {number}, "
-                    f"and that record is none that `{question.text}` finds"
+                    f"and that record is not one that `{question.text}` finds"
                 )
 
 
@@ -159,14 +183,16 @@ def details_of(
     """The lines of the first records that each question found."""
     wanted = {row for ask in asks if isinstance(ask.body, Found) for row in ask.body.rows[: most or None]}
     if setup and not setup.is_packet:
-        return _record_lines(asks, records, setup, capture, wanted)
-    packets = dumped(capture, wanted, records, truncated, setup.source if setup else "packet")
+        return Details(_record_lines(asks, records, setup, capture, wanted))
+    packets, all_ = dumped(capture, wanted, records, truncated, setup.source if setup else "packet6")
     if setup:
         _must_be_found(setup, asks, {at: it.row() for at, it in packets.items()}, capture)
-    return {at: it.text() for at, it in packets.items()}
+    return Details({at: it.text() for at, it in packets.items()}, all_)
 
 
-def _record_lines(asks: Sequence[Ask], records: int, setup: Setup, capture: str, wanted: set[int]) -> Details:
+def _record_lines(
+    asks: Sequence[Ask], records: int, setup: Setup, capture: str, wanted: set[int]
+) -> dict[int, str]:
     try:
         rows = list(rows_of(setup, capture))
     except CaptureFault as fault:

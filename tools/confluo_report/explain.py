@@ -4,14 +4,16 @@ from __future__ import annotations
 
 import os
 import pathlib
+import shlex
 from dataclasses import dataclass, field
 
-from .captures import CaptureFault, Reading
+from .captures import MAGICS, CaptureFault, Reading
 from .commands import Command, WordsFault, parse_words
 from .errors import Complaint
 from .explain_capture import explain_capture, explain_stream
 from .explain_setup import explain_setup
 from .nodes import MOST_RECORDS, Need, need_of, sizes_for
+from .program import is_utf8
 from .reports import Refusal
 from .rows import rows_of
 from .setups import Setup, SetupFault, parse_setup
@@ -29,9 +31,10 @@ class Case:
     words: list[str] | None = None
     was_cut: bool = False
     is_watch: bool = False
+    is_ask: bool = False
 
     def command(self) -> Command | None:
-        """The command, where its words are given and lawful."""
+        """The command, where its words are given and valid."""
         if self.words is None:
             return None
         try:
@@ -54,7 +57,7 @@ class Case:
         return Reading(bool(command and command.may_be_cut), schema)
 
     def parsed(self) -> Setup | None:
-        """The setup, where it is given and lawful."""
+        """The setup, where it is given and valid."""
         if self.setup is None:
             return None
         try:
@@ -63,6 +66,19 @@ class Case:
             raise Complaint(
                 f"{self.setup} is not the setup of that run: its line {fault.line} is refused"
             ) from fault
+
+    def setup_name(self) -> str:
+        """The setup's name in a command."""
+        return shlex.quote(self.setup or "questions.setup")
+
+    def capture_name(self) -> str:
+        """The captures' names in a command."""
+        names = ["/dev/stdin" if it == "-" else shlex.quote(it) for it in self.captures]
+        return " ".join(names) or "capture.pcap"
+
+    def asking(self) -> str:
+        """The front of a command that asks about the capture."""
+        return "confluo-report ask" if self.is_ask else f"confluo run --setup {self.setup_name()}"
 
 
 def read_bytes(path: str) -> bytes:
@@ -79,11 +95,42 @@ def explain_words(case: Case) -> list[str]:
     if case.words is None:
         lines.append("With --command 'confluo run ..' the words are looked at. The commands are:")
         return lines + _usage()
+    strange = [it for it in case.words if not is_utf8(it)]
+    if strange:
+        return lines + [
+            f"Why: the name `{strange[0]}` is not UTF-8. A pipe needs no name:",
+            "",
+            f"    confluo run --setup {case.setup_name()} /dev/stdin < CAPTURE",
+        ]
     try:
         parse_words(case.words)
     except WordsFault as fault:
-        return lines + [f"Why: {fault.why}.", "Words that would be right:", "", f"    {fault.right}"]
-    raise Complaint("the words of --command are a lawful command: they are not the ones that were refused")
+        return lines + [
+            f"Why: {fault.why}.",
+            "For example:",
+            "",
+            f"    {_with_names(fault.right, case.words)}",
+        ]
+    raise Complaint("the words of --command are a valid command: they are not the ones that were refused")
+
+
+def _with_names(example: str, words: list[str]) -> str:
+    """The example with the setup and the capture that the words name, as far as that is clear."""
+    setups = [b for a, b in zip(words, words[1:]) if a == "--setup"]
+    setups += [it.partition("=")[2] for it in words if it.startswith("--setup=")]
+    captures = [it for it in words[1:] if not it.startswith("-") and _is_capture(it)]
+    for name, found in (("questions.setup", setups[:1]), ("capture.pcap", captures[:1])):
+        example = example.replace(name, shlex.quote(found[0])) if found else example
+    return example
+
+
+def _is_capture(path: str) -> bool:
+    """Whether the file begins like a capture."""
+    try:
+        with open(path, "rb") as file:
+            return file.read(4) in (*MAGICS, b"\n\r\r\n")
+    except OSError:
+        return False
 
 
 def _usage() -> list[str]:
@@ -101,9 +148,11 @@ def _usage() -> list[str]:
 
 def explain_file(case: Case) -> list[str]:
     """Status 9."""
-    lines = ["There is no file of that name (status 9): the setup, or, if the setup is lawful, the capture."]
+    lines = ["There is no file of that name (status 9): the setup, or, if the setup is valid, the capture."]
     known = [it for it in (case.setup, *case.captures) if it]
-    missing = [it for it in known if not os.path.lexists(it)]
+    if "-" in known:
+        lines.append("`-` is a file of that name to confluo; standard input is /dev/stdin.")
+    missing = [it for it in known if it != "-" and not os.path.lexists(it)]
     for path in missing:
         place = os.path.dirname(os.path.abspath(path))
         there = sorted(os.listdir(place))[:8] if os.path.isdir(place) else []
@@ -111,7 +160,7 @@ def explain_file(case: Case) -> list[str]:
             f"{path} does not exist."
             + (f" {place} has: {', '.join(there)}" if there else f" Nor does {place}.")
         )
-    if known and not missing:
+    if known and not missing and "-" not in known:
         raise Complaint(f"all of these exist: {', '.join(known)}; they are not the files of that run")
     return lines if known else lines + ["Check the names:", "", "    ls -l SETUP CAPTURE"]
 
@@ -124,8 +173,8 @@ def explain_reading(case: Case) -> list[str]:
         if os.path.isdir(path):
             lines.append(f"{path} is a folder, and no file.")
         elif os.path.exists(path) and not os.access(path, os.R_OK):
-            lines.append(f"{path} may not be read by you: chmod a+r {path}")
-    names = " ".join(it for it in (case.setup, *case.captures) if it) or "SETUP CAPTURE"
+            lines.append(f"{path} may not be read by you: chmod a+r {shlex.quote(path)}")
+    names = " ".join(shlex.quote(it) for it in (case.setup, *case.captures) if it) or "SETUP CAPTURE"
     return lines + ["These show why:", "", f"    ls -ld {names}", f"    cat {names} > /dev/null"]
 
 
@@ -153,7 +202,8 @@ def explain_memory(case: Case) -> list[str]:
         f"{trees / 1e6:.0f} MB for trees and {log / 1e6:.0f} MB or more for the log.",
         "One writer needs the least, and small segments are taken only as records come:",
         "",
-        f"    confluo run --setup questions.setup --writers 1 --nodes {nodes} --capacity 4096 --segments 256 capture.pcap",
+        f"    confluo run --setup {case.setup_name()} --writers 1 --nodes {nodes} --capacity 4096 --segments 256 "
+        f"{case.capture_name()}",
     ]
 
 
@@ -167,8 +217,13 @@ def _explain_memory_of_watch(case: Case) -> list[str]:
         f"up to {segments} of them.",
         "Smaller segments need less:",
         "",
-        "    confluo watch --setup questions.setup --capacity 4096 --nodes 16384 /dev/stdin",
+        f"    confluo watch --setup {case.setup_name()} --capacity 4096 --nodes 16384 /dev/stdin",
     ]
+
+
+def _is_gone(path: str) -> bool:
+    """Whether the capture came through a pipe, and cannot be read again."""
+    return path == "-" or os.path.exists(path) and not os.path.isfile(path)
 
 
 def _need(case: Case, capacity: int) -> Need | None:
@@ -177,7 +232,7 @@ def _need(case: Case, capacity: int) -> Need | None:
     A run that got as far as to count was not refused for a cut, so it had --truncated if there is one.
     """
     setup = case.parsed()
-    if setup is None or not case.captures:
+    if setup is None or not case.captures or any(map(_is_gone, case.captures)):
         return None
     needs = []
     for path in case.captures:
@@ -194,10 +249,10 @@ def _need(case: Case, capacity: int) -> Need | None:
 
 
 def _again(case: Case, options: str) -> list[str]:
-    setup, capture = case.setup or "questions.setup", " ".join(case.captures) or "capture.pcap"
+    setup, capture = case.setup_name(), case.capture_name()
     name = "run"
     if case.is_watch:
-        name, capture = "watch", case.captures[0] if case.captures else "/dev/stdin"
+        name, capture = "watch", capture if case.captures else "/dev/stdin"
     command = case.command()
     if command and command.name != "dump":
         name = command.name
@@ -226,7 +281,7 @@ def explain_full(refusal: Refusal, case: Case) -> list[str]:
         return lines + [
             f"More than {MOST_RECORDS} fit in no log. Cut the capture, and ask the parts together:",
             "",
-            f"    editcap -F pcap -c {MOST_RECORDS} {case.captures[0]} part.pcap",
+            f"    editcap -F pcap -c {MOST_RECORDS} {shlex.quote(case.captures[0])} part.pcap",
             "    confluo-report ask part_*.pcap 'top src by bytes'",
         ]
     return lines + _sized(case, need)
@@ -297,17 +352,17 @@ def explain(refusal: Refusal | None, status: int | None, case: Case) -> list[str
 def _explain_capture(refusal: Refusal, case: Case) -> list[str]:
     if len(case.captures) > 1:
         return _explain_one_of(refusal, case)
-    capture = case.captures[0] if case.captures else None
-    if case.is_watch and (capture is None or not os.path.isfile(capture)):
+    capture = next((it for it in case.captures if not _is_gone(it)), None)
+    if case.is_watch and capture is None:
         return explain_stream(refusal)
-    return explain_capture(refusal, capture, case.parsed(), case.reading())
+    return explain_capture(refusal, capture, case.parsed(), case.reading(), case.asking())
 
 
 def _explain_one_of(refusal: Refusal, case: Case) -> list[str]:
     """Of several captures the first with that fault is meant."""
     for path in case.captures:
         try:
-            return explain_capture(refusal, path, case.parsed(), case.reading())
+            return explain_capture(refusal, path, case.parsed(), case.reading(), case.asking())
         except Complaint:
             continue
     raise Complaint("none of these captures is the one that was refused")

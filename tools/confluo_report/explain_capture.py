@@ -4,6 +4,7 @@ from __future__ import annotations
 
 import contextlib
 import shlex
+from dataclasses import dataclass
 from typing import Iterable
 
 from .captures import CUT, CaptureFault, Reading, frames, opened, packer_of
@@ -13,7 +14,7 @@ from .reports import Refusal
 from .setups import Setup
 
 REASONS = {
-    1: "the file is no capture: its first bytes are none of pcap's or pcapng's",
+    1: "the file is not a capture: its first bytes are none of pcap's or pcapng's",
     2: "the version of pcap is another than 2.4",
     3: "the packets are of a link type that the schema does not read",
     4: "a packet states more than 262144 captured bytes; most likely the file is damaged there",
@@ -22,7 +23,7 @@ REASONS = {
     11: "the CSV file has no record at all, not even the names",
     12: "the first line is not the names of `schema records` in their order",
     13: "a record has another number of fields than the schema",
-    14: "a field is no value of its attribute",
+    14: "a field is not a value of its attribute",
     15: "the CSV file has 16 MiB or more",
     21: "the byte order of a pcapng section cannot be told; most likely the file is damaged there",
     22: "a pcapng section has another version than 1",
@@ -30,22 +31,33 @@ REASONS = {
     24: "a packet states more than 262144 captured bytes; most likely the file is damaged there",
     25: "the file ends within a block: it is still being written, or the disk was full",
     26: "the file has 4 GiB or more",
-    27: "the length of a pcapng block is unlawful, or a packet does not fit in its block; the file is damaged there",
+    27: "the length of a pcapng block is invalid, or a packet does not fit in its block; the file is damaged there",
     28: "a packet names an interface that the file does not describe; the file is damaged there",
+    29: "a pcapng section describes more than 65536 interfaces, which watch keeps in memory",
 }
 IN_CSV = (11, 12, 13, 14, 15)
 WIDER = "`schema packet6` reads Linux cooked v2, raw IP and BSD loopback too. If that is none of these: "
 
 
-def _keep(code: int, path: str, count: int) -> tuple[str, list[str]]:
+@dataclass(frozen=True)
+class Files:
+    """What the commands that are offered name: the capture, quoted, and the front of a command that asks about it."""
+
+    path: str = "capture.pcap"
+    asking: str = "confluo run --setup questions.setup"
+
+
+def _keep(code: int, files: Files, count: int) -> tuple[str, list[str]]:
     """How the packets before the fault are kept."""
+    path = files.path
+    behind = " 'QUESTION'" if files.asking.endswith(" ask") else ""
     if count == 0:
         return "No packet is whole before the fault: capture anew.", []
     if code in CUT:
         return (
             f"--truncated answers about the {count} packets before the fault; editcap keeps them:",
             [
-                f"confluo run --setup questions.setup --truncated {path}",
+                f"{files.asking} --truncated {path}{behind}",
                 f"editcap -r -F pcap {path} mended.pcap 1-{count}",
             ],
         )
@@ -55,25 +67,26 @@ def _keep(code: int, path: str, count: int) -> tuple[str, list[str]]:
     )
 
 
-def _unpack(path: str, packer: str | None) -> tuple[str, list[str]]:
+def _unpack(files: Files, packer: str | None) -> tuple[str, list[str]]:
     if packer:
         return (
             f"It is packed by {packer}. Let confluo read it by a pipe:",
-            [f"{packer} -dc {path} | confluo run --setup questions.setup /dev/stdin"],
+            [f"{packer} -dc {files.path} | {files.asking} /dev/stdin"],
         )
     advice = (
         "Is it the capture, and not the setup or another file? If Wireshark reads it, this writes it as pcap:"
     )
-    return advice, [f"editcap -F pcap {path} mended.pcap"]
+    return advice, [f"editcap -F pcap {files.path} mended.pcap"]
 
 
 def mending(
-    code: int, record: int, path: str, packer: str | None, schema: str = "packet"
+    code: int, record: int, files: Files, packer: str | None, schema: str = "packet"
 ) -> tuple[str, list[str]]:
     """What to do, and the commands that do it."""
+    path = files.path
     wider = WIDER if schema == "packet" else ""
     if code == 1:
-        return _unpack(path, packer)
+        return _unpack(files, packer)
     if code in (2, 21, 22):
         return "This writes it anew, as far as it can be read:", [f"editcap -F pcap {path} mended.pcap"]
     if code == 3:
@@ -87,7 +100,9 @@ def mending(
             [f"tshark -r {path} -Y 'frame.interface_id == 0' -F pcap -w mended.pcap"],
         )
     if code in (4, 5, 24, 25, 27, 28):
-        return _keep(code, path, record)
+        return _keep(code, files, record)
+    if code == 29:
+        return "This writes it as pcap, without interfaces:", [f"editcap -F pcap {path} mended.pcap"]
     if code in (6, 26):
         return "Cut it, and merge the reports:", [
             f"editcap -F pcap -c 1000000 {path} part.pcap",
@@ -99,7 +114,7 @@ def mending(
 def _csv_mending(code: int, names: str, record: int, path: str) -> tuple[str, list[str]]:
     line = record + 2
     return {
-        11: ("The first line is to be the names:", [f"echo '{names}' > {path}"]),
+        11: ("The first line must be the names:", [f"echo '{names}' > {path}"]),
         12: (
             "This puts the names before the records, if there are none yet:",
             [f"sed -i '1i {names}' {path}"],
@@ -140,7 +155,11 @@ def _exhaust(rows: Iterable[object]) -> None:
 
 
 def explain_capture(
-    refusal: Refusal, path: str | None, setup: Setup | None, reading: Reading | None = None
+    refusal: Refusal,
+    path: str | None,
+    setup: Setup | None,
+    reading: Reading | None = None,
+    asking: str = Files.asking,
 ) -> list[str]:
     """The refusal in words, with the capture where it is given."""
     reason = REASONS.get(refusal.code)
@@ -157,7 +176,8 @@ def explain_capture(
         advice, commands = _csv_mending(refusal.code, names, refusal.place, shown)
     else:
         schema = setup.source if setup else reading.schema if reading else "packet"
-        advice, commands = mending(refusal.code, refusal.place, shown, packer, schema)
+        files = Files(shown, asking)
+        advice, commands = mending(refusal.code, refusal.place, files, packer, schema)
     return lines + [advice, *["", *[f"    {it}" for it in commands]][: 1 + len(commands)]]
 
 
@@ -174,7 +194,7 @@ def explain_stream(refusal: Refusal) -> list[str]:
     if refusal.code == 1 and not refusal.place:
         lines += ["What writes into the pipe must write pcap or pcapng: tcpdump -U -w -"]
     if refusal.code in (3, 23):
-        lines += [mending(3, 0, "capture.pcap", None)[0], "", "    tcpdump -i any -y LINUX_SLL -U -w -"]
+        lines += [mending(3, 0, Files(), None)[0], "", "    tcpdump -i any -y LINUX_SLL -U -w -"]
     return lines
 
 
@@ -183,6 +203,8 @@ def _place_lines(
 ) -> list[str]:
     if refusal.code in IN_CSV and not setup:
         raise Complaint("the refusal is of a CSV file: give its setup too, with --setup FILE")
+    reading = reading or Reading()
+    reading.long = refusal.code == 29
     fault = find_fault(path, setup, refusal.code == 1, reading)
     if fault is None:
         raise Complaint(f"{path} is not the capture that was refused: nothing is wrong with it")

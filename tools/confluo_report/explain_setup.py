@@ -2,9 +2,11 @@
 
 from __future__ import annotations
 
+import shlex
+
 from .errors import Complaint
 from .reports import Refusal
-from .setups import SetupFault, parse_setup
+from .setups import SetupFault, faults_of, parse_setup
 
 RULES = {
     1: "each byte of a line is printed ASCII",
@@ -18,7 +20,7 @@ RULES = {
     9: "at most 16 indexes, filters, aggregates and tallies, 16 triggers, 32 questions, 65536 bytes",
     10: "the expression can be read: comparisons joined by && and ||, no parentheses",
     11: "the names in an expression are attributes",
-    12: "the operators suit: == != < <= > >= in; of bytes == and != alone",
+    12: "the operators suit: == != < <= > >= in; of bytes only == and !=",
     13: "the values in an expression are in their attribute's range",
     14: "an expression has at most 32 comparisons",
 }
@@ -40,34 +42,32 @@ EXAMPLES = {
 }
 
 
-def fault_lines(path: str, fault: SetupFault) -> list[str]:
-    """The faulty line with the place of the fault below it, the rule, why, and a line that would be right."""
+def fault_lines(path: str, fault: SetupFault, is_first: bool = True) -> list[str]:
+    """The faulty line with the place of the fault below it, the rule, why, and a line that means the same, if there is one."""
     where = f"{path}, line {fault.line}" if fault.line else path
-    lines = [f"{where}: the setup is refused, code {fault.fault.code}."]
+    said = "the setup is refused" if is_first else "a further fault"
+    lines = [f"{where}: {said}, code {fault.fault.code}."]
     if fault.text:
         begin = max(0, fault.fault.place - 60)
         shown = "".join(it if " " <= it <= "~" else "?" for it in fault.text[begin : begin + 76])
         lines += ["", f"    {shown}", f"    {' ' * (fault.fault.place - begin)}^"]
     lines += ["", f"Why: {fault.fault.why}.", f"Rule {fault.fault.code}: {RULES[fault.fault.code]}."]
     if fault.fault.right:
-        several = "Lines" if "\n" in fault.fault.right else "A line"
-        lines += [
-            f"{several} that would be right:",
-            "",
-            *(f"    {it}" for it in fault.fault.right.split("\n")),
-        ]
+        lines += ["A line that is right and means the same:", "", f"    {fault.fault.right}"]
     return lines
 
 
 def _packet_lines(refusal: Refusal, path: str, why: str) -> list[str]:
     """A command over packets, and a setup over others."""
-    return [
-        f"{path}, line {refusal.place}: the setup is refused, code 4.",
-        f"Why: {why}.",
-        "A line that would be right:",
-        "",
-        "    schema packet",
-    ]
+    return [f"{path}, line {refusal.place}: the setup is refused, code 4.", f"Why: {why}."]
+
+
+def _further(path: str, count: int) -> list[str]:
+    """That there are more faults."""
+    if not count:
+        return []
+    are = "There is 1 further fault" if count == 1 else f"There are {count} further faults"
+    return ["", f"{are}: `confluo-report check {shlex.quote(path)}` shows all."]
 
 
 def explain_setup(
@@ -83,19 +83,20 @@ def explain_setup(
             f"But:             {right}",
             "With --setup FILE the line is shown.",
         ]
-    try:
-        setup = parse_setup(data)
-    except SetupFault as fault:
+    faults = faults_of(data)
+    if faults:
+        fault = faults[0]
         if (fault.line, fault.fault.code) == (refusal.place, refusal.code):
-            return fault_lines(path, fault)
+            return fault_lines(path, fault) + _further(path, len(faults) - 1)
         found = f"its first fault is in line {fault.line}, code {fault.fault.code}"
-        raise Complaint(f"{path} is not the setup that was refused: {found}") from fault
+        raise Complaint(f"{path} is not the setup that was refused: {found}")
+    setup = parse_setup(data)
     if refusal.code == 4 and not setup.is_packet:
         return _packet_lines(
-            refusal, path, "it is over records, and `watch` and `synth` are over packets alone"
+            refusal, path, "it is over records, and `watch` and `synth` are only over packets"
         )
     if is_synth and refusal.code == 4 and setup.source != "packet":
         return _packet_lines(
             refusal, path, "`synth` draws packets by `schema packet`, and this setup states another schema"
         )
-    raise Complaint(f"{path} is not the setup that was refused: it is lawful")
+    raise Complaint(f"{path} is not the setup that was refused: it is valid")

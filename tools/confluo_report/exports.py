@@ -7,16 +7,17 @@ import io
 import json
 from typing import Any, Iterator, Sequence
 
+from .merge import Joined, Merged
 from .reports import Ask, Body, Fired, Found, Host, Live, Pair, Quad, Report, RoundAlert, Snapshot, Told
 from .setups import Question, Setup
-from .values import clock, value_text
+from .values import key_text, utc
 
 FORMAT = "confluo-report/1"
 COLUMNS = ("part", "host", "name", "kind", "prefix", "place", "key", "value")
 
 
 def _time(setup: Setup | None, bucket: int) -> dict[str, Any]:
-    return {"time": clock(bucket * setup.nanoseconds)} if setup else {}
+    return {"time": utc(bucket * setup.nanoseconds)} if setup else {}
 
 
 def _pairs(
@@ -26,7 +27,7 @@ def _pairs(
     for it in pairs:
         more: dict[str, Any] = _time(setup, it.key) if name == "bucket" else {}
         if name == "key" and setup and question and question.lane and question.lane.key is not None:
-            more = {"text": value_text(setup, setup.schema[question.lane.key], it.key)}
+            more = {"text": key_text(setup, question.lane, it.key)}
         found.append({name: it.key, "value": it.value, **more})
     return found
 
@@ -70,8 +71,36 @@ def told_object(it: Told, setup: Setup | None = None) -> dict[str, Any]:
     return {"kind": "live", "name": it.name, "first": it.first, "prefix": it.prefix, "answer": answer}
 
 
-def report_object(read: Report | Snapshot, setup: Setup | None = None) -> dict[str, Any]:
+def _merged_object(read: Merged, setup: Setup | None) -> dict[str, Any]:
+    alerts = [
+        {
+            "report": name,
+            "trigger": it.trigger,
+            "bucket": it.bucket,
+            "value": it.value,
+            **_time(setup, it.bucket),
+        }
+        for name, it in read.alerts
+    ]
+    truncated = [{"report": name, "records": whole} for name, whole in read.truncated]
+    asks = [_joined(it, setup) for it in read.asks]
+    found = {"format": FORMAT, "kind": "merged", "records": read.records, "asks": asks, "alerts": alerts}
+    return found | ({"truncated": truncated} if truncated else {})
+
+
+def _joined(joined: Joined, setup: Setup | None) -> dict[str, Any]:
+    question = setup.question(joined.name) if setup else None
+    if joined.body is not None:
+        note = {"note": joined.note} if joined.note else {}
+        return {"name": joined.name, **body_object(joined.body, setup, question), **note}
+    parts = [{"report": name, **body_object(body, setup, question)} for name, body in joined.parts]
+    return {"name": joined.name, "parts": parts}
+
+
+def report_object(read: Report | Snapshot | Merged, setup: Setup | None = None) -> dict[str, Any]:
     """The object that docs/report.schema.json describes; with a setup also times and addresses."""
+    if isinstance(read, Merged):
+        return _merged_object(read, setup)
     if isinstance(read, Snapshot):
         hosts = [
             {
@@ -111,7 +140,7 @@ def _truncated(read: Report | Host) -> dict[str, Any]:
     return {} if read.truncated is None else {"truncated": read.truncated}
 
 
-def json_text(read: Report | Snapshot, setup: Setup | None = None, indent: int | None = None) -> str:
+def json_text(read: Report | Snapshot | Merged, setup: Setup | None = None, indent: int | None = None) -> str:
     """The report as one JSON text."""
     return json.dumps(report_object(read, setup), indent=indent) + "\n"
 
@@ -119,61 +148,96 @@ def json_text(read: Report | Snapshot, setup: Setup | None = None, indent: int |
 Cell = object
 
 
-def _body_rows(front: Sequence[Cell], body: Body) -> Iterator[tuple[Cell, ...]]:
-    """First how many entries an answer has, then each; a quad has four rows."""
-    if isinstance(body, Quad):
-        for name in ("count", "sum", "least", "greatest"):
-            value = getattr(body, name)
-            yield (*front, "", name, "" if value is None else value)
-        return
-    if isinstance(body, Found):
-        entries: list[tuple[Cell, Cell]] = [(it, "") for it in body.rows]
-    else:
-        entries = [(it.key, it.value) for it in (body.marks if isinstance(body, Fired) else body.keys)]
-    yield (*front, "", "", len(entries))
-    for place, (key, value) in enumerate(entries):
-        yield (*front, place, key, value)
+class _Table:
+    """The rows of a report; with a setup, times and texts stand in place of buckets and keys."""
 
+    def __init__(self, setup: Setup | None) -> None:
+        self.setup = setup
 
-def _rows(read: Report | Snapshot) -> Iterator[tuple[Cell, ...]]:
-    if isinstance(read, Snapshot):
+    def bucket(self, bucket: int) -> Cell:
+        return utc(bucket * self.setup.nanoseconds) if self.setup else bucket
+
+    def key(self, name: Cell, key: int) -> Cell:
+        question = self.setup.question(str(name)) if self.setup else None
+        if self.setup and question and question.lane and question.lane.key is not None:
+            return key_text(self.setup, question.lane, key)
+        return key
+
+    def body(self, front: Sequence[Cell], body: Body) -> Iterator[tuple[Cell, ...]]:
+        """First how many entries an answer has, then each; a quad has four rows."""
+        if isinstance(body, Quad):
+            for name in ("count", "sum", "least", "greatest"):
+                value = getattr(body, name)
+                yield (*front, "", name, "" if value is None else value)
+            return
+        if isinstance(body, Found):
+            entries: list[tuple[Cell, Cell]] = [(it, "") for it in body.rows]
+        elif isinstance(body, Fired):
+            entries = [(self.bucket(it.key), it.value) for it in body.marks]
+        else:
+            entries = [(self.key(front[2], it.key), it.value) for it in body.keys]
+        yield (*front, "", "", len(entries))
+        for place, (key, value) in enumerate(entries):
+            yield (*front, place, key, value)
+
+    def rows(self, read: Report | Snapshot | Merged) -> Iterator[tuple[Cell, ...]]:
+        if isinstance(read, Snapshot):
+            return self.snapshot(read)
+        return self.merged(read) if isinstance(read, Merged) else self.report(read)
+
+    def snapshot(self, read: Snapshot) -> Iterator[tuple[Cell, ...]]:
         yield ("cut", "", "", "", "", "", "", read.cut)
         for host in read.hosts:
             yield ("host", host.number, "", "", "", "", "", host.records)
             for ask in host.asks:
-                yield from _body_rows(("ask", host.number, ask.name, ask.body.kind, ""), ask.body)
+                yield from self.body(("ask", host.number, ask.name, ask.body.kind, ""), ask.body)
             if host.truncated is not None:
                 yield ("truncated", host.number, "", "", "", "", "", host.truncated)
-        return
-    for told in read.told:
-        if isinstance(told, RoundAlert):
-            yield ("alert", "", told.trigger, "", told.prefix, "", told.bucket, told.value)
-        else:
-            prefix = f"{told.first}..{told.prefix}"
-            yield from _body_rows(("live", "", told.name, told.body.kind, prefix), told.body)
-    yield ("records", "", "", "", "", "", "", read.records)
-    if read.window is not None:
-        yield ("window", "", "", "", "", "", "", read.window)
-    for ask in read.asks:
-        yield from _body_rows(("ask", "", ask.name, ask.body.kind, ""), ask.body)
-    for it in read.alerts:
-        yield ("alert", "", it.trigger, "", "", "", it.bucket, it.value)
-    for live in read.lives:
-        yield from _body_rows(("live", "", live.name, live.body.kind, live.prefix), live.body)
-        if live.new is not None:
-            yield from _body_rows(("new", "", live.name, "fired", live.prefix), live.new)
-    if read.order is not None:
-        yield ("order", "", "", "", "", "", "", len(read.order))
-        for place, stretch in enumerate(read.order):
-            yield ("order", "", "", "", "", place, stretch.writer, stretch.count)
-    if read.truncated is not None:
-        yield ("truncated", "", "", "", "", "", "", read.truncated)
+
+    def merged(self, read: Merged) -> Iterator[tuple[Cell, ...]]:
+        """What belongs to one report has its name in the column of hosts."""
+        yield ("records", "", "", "", "", "", "", read.records)
+        for ask in read.asks:
+            for name, body in [("", ask.body)] if ask.body is not None else ask.parts:
+                yield from self.body(("ask", name, ask.name, ask.kind, ""), body)
+        for name, it in read.alerts:
+            yield ("alert", name, it.trigger, "", "", "", self.bucket(it.bucket), it.value)
+        for name, whole in read.truncated:
+            yield ("truncated", name, "", "", "", "", "", whole)
+
+    def told(self, read: Report) -> Iterator[tuple[Cell, ...]]:
+        for told in read.told:
+            if isinstance(told, RoundAlert):
+                yield ("alert", "", told.trigger, "", told.prefix, "", self.bucket(told.bucket), told.value)
+            else:
+                prefix = f"{told.first}..{told.prefix}"
+                yield from self.body(("live", "", told.name, told.body.kind, prefix), told.body)
+
+    def report(self, read: Report) -> Iterator[tuple[Cell, ...]]:
+        yield from self.told(read)
+        yield ("records", "", "", "", "", "", "", read.records)
+        if read.window is not None:
+            yield ("window", "", "", "", "", "", "", read.window)
+        for ask in read.asks:
+            yield from self.body(("ask", "", ask.name, ask.body.kind, ""), ask.body)
+        for it in read.alerts:
+            yield ("alert", "", it.trigger, "", "", "", self.bucket(it.bucket), it.value)
+        for live in read.lives:
+            yield from self.body(("live", "", live.name, live.body.kind, live.prefix), live.body)
+            if live.new is not None:
+                yield from self.body(("new", "", live.name, "fired", live.prefix), live.new)
+        if read.order is not None:
+            yield ("order", "", "", "", "", "", "", len(read.order))
+            for place, stretch in enumerate(read.order):
+                yield ("order", "", "", "", "", place, stretch.writer, stretch.count)
+        if read.truncated is not None:
+            yield ("truncated", "", "", "", "", "", "", read.truncated)
 
 
-def csv_text(read: Report | Snapshot) -> str:
-    """The report as one table."""
+def csv_text(read: Report | Snapshot | Merged, setup: Setup | None = None) -> str:
+    """The report as one table; with a setup, buckets are times and keys texts."""
     out = io.StringIO()
     writer = csv.writer(out, lineterminator="\n")
     writer.writerow(COLUMNS)
-    writer.writerows(_rows(read))
+    writer.writerows(_Table(setup).rows(read))
     return out.getvalue()

@@ -69,15 +69,11 @@ class Expression:
 
 
 class ExpressionFault(Exception):
-    """The first fault of an expression: its code in a setup, its place in the text and why.
+    """The first fault of an expression: its code in a setup, its place in the text and why."""
 
-    `size` is the length of the offending token, and `instead` are texts that may stand in its place.
-    """
-
-    def __init__(self, code: int, place: int, why: str, size: int, instead: Sequence[str]) -> None:
+    def __init__(self, code: int, place: int, why: str) -> None:
         super().__init__(why)
         self.code, self.place, self.why = code, place, why
-        self.size, self.instead = size, instead
 
 
 def is_form(text: str) -> bool:
@@ -114,16 +110,17 @@ def values_of_kind(kind: str) -> str:
     return f"a number from 0 to {most}{dotted}"
 
 
-def greatest(attribute: Attribute) -> str:
-    """The text of the attribute's greatest value."""
-    if attribute.kind in NUMBER_BITS:
-        return str((1 << NUMBER_BITS[attribute.kind]) - 1)
-    return "0x" + "ff" * int(attribute.kind[1:])
+HALVES = ("src6", "src6_low", "dst6", "dst6_low")
 
 
-def least(attribute: Attribute) -> str:
-    """The text of the attribute's least value."""
-    return "0" if attribute.kind in NUMBER_BITS else "0x" + "00" * int(attribute.kind[1:])
+def unknown_attribute(schema: Sequence[Attribute], name: str) -> str:
+    """That no attribute has the name, and what may have been meant."""
+    names = [it.name for it in schema]
+    if name in HALVES and Attribute("etype", "u16") in schema:
+        return f"`{name}` is an attribute of IPv6: `schema packet6` has it, and `schema packet` has not"
+    near = difflib.get_close_matches(name, names, 1, 0.6)
+    meant = f"; is `{near[0]}` meant?" if near else ""
+    return f"no attribute is called `{name}`{meant}; there are {', '.join(names)}"
 
 
 class _Reader:
@@ -146,9 +143,8 @@ class _Reader:
         self.at += len(token)
         self.skip()
 
-    def fail(self, code: int, why: str, *instead: str, size: int | None = None) -> None:
-        word = self.text[self.at :].split(" ")[0]
-        raise ExpressionFault(code, self.at, why, len(word) if size is None else size, instead)
+    def fail(self, code: int, why: str) -> None:
+        raise ExpressionFault(code, self.at, why)
 
     def here(self) -> str:
         """What stands here, in words."""
@@ -165,9 +161,7 @@ class _Reader:
         while self.at < len(self.text):
             connective = self.text[self.at : self.at + 2]
             if connective not in ("&&", "||"):
-                self.fail(
-                    SYNTAX, f"`&&`, `||` or the end is wanted here, and not {self.here()}", "&& ", size=0
-                )
+                self.fail(SYNTAX, f"`&&`, `||` or the end is wanted here, and not {self.here()}")
             self.pass_over(connective)
             if self.atoms == MOST_ATOMS:
                 self.fail(TOO_LONG, f"an expression has at most {MOST_ATOMS} comparisons")
@@ -188,40 +182,36 @@ class _Reader:
         name, names = self.token(WORD), [it.name for it in self.schema]
         if not name:
             why = f"the name of an attribute is wanted here, and not {self.here()}"
-            self.fail(SYNTAX, why, f"{names[-1]}==0", "*")
-        if name not in names:
-            why = f"no attribute is called `{name}`; there are {', '.join(names)}"
             self.fail(
-                UNKNOWN_NAME, why, *difflib.get_close_matches(name, names, 1, 0.5), *names, size=len(name)
+                SYNTAX, f"{why}; there are no parentheses and no `not`" if self.here()[1:2] in "(!" else why
             )
+        if name == "not":
+            self.fail(UNKNOWN_NAME, "there is no `not`: write the opposite comparison, as `!=` for `==`")
+        if name not in names:
+            self.fail(UNKNOWN_NAME, unknown_attribute(self.schema, name))
         self.pass_over(name)
         return names.index(name)
 
     def operator(self, attribute: Attribute) -> str:
         operator = self.token(SIGNS) or self.token(WORD)
         if not operator:
-            self.fail(
-                SYNTAX,
-                f"`==` or another operator is wanted here, and not {self.here()}",
-                "==",
-                f"=={least(attribute)}",
-            )
+            self.fail(SYNTAX, f"`==` or another operator is wanted here, and not {self.here()}")
         if operator not in (*OPERATORS, "in"):
-            why = f"`{operator}` is none of == != < <= > >= in"
-            self.fail(BAD_OPERATOR, why, "==", f"=={least(attribute)}", size=len(operator))
+            why = f"`{operator}` is not one of == != < <= > >= in"
+            self.fail(BAD_OPERATOR, why)
         if not attribute.is_number and operator not in ("==", "!="):
-            why = f"`{attribute.name}` is bytes, which compare by == and != alone"
-            self.fail(BAD_OPERATOR, why, "==", f"=={least(attribute)}", size=len(operator))
+            why = f"`{attribute.name}` is bytes, which compare only by == and !="
+            self.fail(BAD_OPERATOR, why)
         self.pass_over(operator)
         return operator
 
     def value(self, attribute: Attribute) -> tuple[Value, Value]:
         token = self.token(VALUE)
         if not is_form(token):
-            self.fail(SYNTAX, f"a value is wanted here, and not {self.here()}", least(attribute))
+            self.fail(SYNTAX, f"a value is wanted here, and not {self.here()}")
         value = value_of(attribute.kind, token)
         if value is None:
-            self.fail(VALUE_RANGE, _no_value(attribute, token), greatest(attribute), size=len(token))
+            self.fail(VALUE_RANGE, _no_value(attribute, token))
             raise AssertionError
         self.pass_over(token)
         return value, value
@@ -236,7 +226,7 @@ class _Reader:
             ends = self.network(attribute, address, int(bits))
         else:
             why = f"a range as 60..99 or 10.0.0.0/8 is wanted here, and not {self.here()}"
-            self.fail(SYNTAX, why, f"{least(attribute)}..{greatest(attribute)}")
+            self.fail(SYNTAX, why)
             raise AssertionError
         self.pass_over(token)
         return ends
@@ -245,49 +235,29 @@ class _Reader:
         values = value_of(attribute.kind, low), value_of(attribute.kind, high)
         for text, value in zip((low, high), values):
             if value is None:
-                self.fail(
-                    VALUE_RANGE, _no_value(attribute, text), f"{least(attribute)}..{greatest(attribute)}"
-                )
+                self.fail(VALUE_RANGE, _no_value(attribute, text))
         if values[0] > values[1]:  # type: ignore[operator]
-            self.fail(VALUE_RANGE, f"the range begins at {low}, above its end {high}", f"{high}..{low}")
+            self.fail(VALUE_RANGE, f"the range begins at {low}, above its end {high}")
         return values  # type: ignore[return-value]
 
     def network(self, attribute: Attribute, address: str, bits: int) -> tuple[Value, Value]:
-        number, whole = value_of("u32", address), f"{least(attribute)}..{greatest(attribute)}"
+        number = value_of("u32", address)
         if attribute.kind != "u32":
-            self.fail(VALUE_RANGE, f"`{attribute.name}` is no address, so it has no networks", whole)
+            self.fail(VALUE_RANGE, f"`{attribute.name}` is not an address, so it has no networks")
         if not isinstance(number, int):
-            self.fail(VALUE_RANGE, _no_value(attribute, address), "10.0.0.0/8")
+            self.fail(VALUE_RANGE, _no_value(attribute, address))
             raise AssertionError
         if bits > 32:
-            self.fail(
-                VALUE_RANGE, f"a network has 0 to 32 bits after the slash, and not {bits}", f"{address}/32"
-            )
+            self.fail(VALUE_RANGE, f"a network has 0 to 32 bits after the slash, and not {bits}")
         rest = (1 << (32 - bits)) - 1
         return number & ~rest, number | rest
 
 
 def _no_value(attribute: Attribute, text: str) -> str:
     wanted = values_of_kind(attribute.kind)
-    return f"`{text}` is no value of `{attribute.name}`, which is {wanted}"
+    return f"`{text}` is not a value of `{attribute.name}`, which is {wanted}"
 
 
 def parse_expression(schema: Sequence[Attribute], text: str) -> Expression:
     """The expression that the text is over the schema, or its first fault from the left."""
     return _Reader(schema, text).expression()
-
-
-def _is_lawful(schema: Sequence[Attribute], text: str) -> bool:
-    try:
-        parse_expression(schema, text)
-    except ExpressionFault:
-        return False
-    return True
-
-
-def repaired(schema: Sequence[Attribute], text: str, fault: ExpressionFault) -> str:
-    """A lawful expression near to the faulty one."""
-    front, rest = text[: fault.place], text[fault.place + fault.size :]
-    candidates = [it for instead in fault.instead for it in (front + instead + rest, front + instead)]
-    candidates.append(re.sub(r" *(&&|\|\|)? *$", "", front))
-    return next((it for it in candidates if _is_lawful(schema, it)), "*")

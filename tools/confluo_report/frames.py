@@ -16,7 +16,7 @@ def _number(data: bytes, at: int) -> int:
     return struct.unpack_from(">H", data, at)[0]
 
 
-def _types(frame: Frame) -> tuple[int, int, int]:
+def types_of(frame: Frame) -> tuple[int, int, int]:
     """The VLAN, the type of what the frame carries, and where that begins."""
     at = 12 if frame.link == 1 else 14
     if len(frame.data) < at + 2:
@@ -60,6 +60,6 @@ def packet_row(frame: Frame) -> tuple[Value, ...]:
     dmac = smac = NO_ADDRESS
     if frame.link == 1 and len(data) >= 14:
         dmac, smac = data[:6], data[6:12]
-    vlan, etype, at = _types(frame)
+    vlan, etype, at = types_of(frame)
     network = network_values(data, etype, at)
     return (frame.ts, len(data), frame.length, dmac, smac, etype, *network, vlan)

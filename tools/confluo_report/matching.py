@@ -17,12 +17,12 @@ def _must_have_asks(asks: Sequence[Ask], setup: Setup, source: str) -> None:
     for have, want in zip(there, wanted):
         if have != want:
             raise Complaint(
-                f"{source} is no report of this setup: it answers `{have[0]} {have[1]}` "
+                f"{source} is not a report of this setup: it answers `{have[0]} {have[1]}` "
                 f"where the setup asks `{want[0]} {want[1]}`"
             )
     few = "fewer" if len(there) < len(wanted) else "more"
     raise Complaint(
-        f"{source} is no report of this setup, or is cut off: it has {len(there)} answers, "
+        f"{source} is not a report of this setup, or is cut off: it has {len(there)} answers, "
         f"{few} than the {len(wanted)} questions of the setup"
     )
 
@@ -31,7 +31,7 @@ def _must_fit(asks: Sequence[Ask], setup: Setup, source: str) -> None:
     for ask, question in zip(asks, setup.asks):
         if isinstance(ask.body, Top) and len(ask.body.keys) > question.high:
             raise Complaint(
-                f"{source} is no report of this setup: `{ask.name}` lists {len(ask.body.keys)} keys, "
+                f"{source} is not a report of this setup: `{ask.name}` lists {len(ask.body.keys)} keys, "
                 f"and {question.high} were asked for"
             )
 
@@ -41,14 +41,16 @@ def _must_have_alerts(report: Report, setup: Setup, source: str) -> None:
     there = list(dict.fromkeys(it.trigger for it in report.alerts))
     if [it for it in names if it in there] != there:
         strange = next((it for it in there if it not in names), there[0])
-        raise Complaint(f"{source} is no report of this setup: its alerts of `{strange}` are not the setup's")
+        raise Complaint(
+            f"{source} is not a report of this setup: its alerts of `{strange}` are not the setup's"
+        )
     for ask, question in zip(report.asks, setup.asks):
         if isinstance(ask.body, Fired) and question.trigger:
             marks = tuple(Alert(question.trigger.name, it.key, it.value) for it in ask.body.marks)
             alerts = tuple(it for it in report.alerts if it.trigger == question.trigger.name)
             if marks != alerts:
                 raise Complaint(
-                    f"{source} is no report of this setup, or is cut off: the marks of `{ask.name}` "
+                    f"{source} is not a report of this setup, or is cut off: the marks of `{ask.name}` "
                     f"are not the alerts of its trigger `{question.trigger.name}`"
                 )
 
@@ -64,10 +66,10 @@ def must_match(read: Report | Snapshot, setup: Setup, source: str) -> None:
     _must_fit(read.asks, setup, source)
     _must_have_alerts(read, setup, source)
     if read.truncated is not None and not setup.is_packet:
-        raise Complaint(f"{source} is no report of this setup: a CSV file is never read as cut off")
+        raise Complaint(f"{source} is not a report of this setup: a CSV file is never read as cut off")
     strange = [it.name for it in read.lives if it.name not in setup.lives]
     if strange:
-        raise Complaint(f"{source} is no report of this setup: `{strange[0]}` is not live in it")
+        raise Complaint(f"{source} is not a report of this setup: `{strange[0]}` is not live in it")
     for it in read.told:
         must_be_told(it, setup, source)
 

@@ -8,12 +8,13 @@ which place on it could be another.
 
 from __future__ import annotations
 
+import re
 from dataclasses import dataclass
 from typing import Sequence
 
 from .errors import Complaint
 from .matching import must_match
-from .reports import Alert, Body, Pair, Quad, Report, Top, body_text, parse_report
+from .reports import NAME, NUMBER, Alert, Body, Pair, Quad, Report, Top, body_text, parse_body, parse_report
 from .setups import Question, Setup
 
 
@@ -159,7 +160,7 @@ def merge(named: Sequence[Named], setup: Setup | None, asked: dict[str, int] | N
             raise Complaint(f"{it.name} and {first.name} are reports of different setups")
         if it.report.window is not None:
             raise Complaint(
-                f"{it.name} is of `watch`, whose answers are on its window alone: it is not merged"
+                f"{it.name} is of `watch`, whose answers are only on its window: it is not merged"
             )
         if setup:
             must_match(it.report, setup, it.name)
@@ -195,3 +196,69 @@ def merged_lines(merged: Merged) -> list[str]:
             lines.append(f"ask {it.name} {body_text(it.body)}" + (f" ({it.note})" if it.note else ""))
     lines += [f"alert {it.trigger} {it.bucket} {it.value} ({name})" for name, it in merged.alerts]
     return lines + [f"truncated: record {whole} ({name})" for name, whole in merged.truncated]
+
+
+MERGED = re.compile(r"(ask|alert|truncated:) (.+?)(?: \((.*)\))?")
+ALERT = re.compile(rf"({NAME}) ({NUMBER}) ({NUMBER})")
+ASK = re.compile(rf"({NAME}) (.+)")
+
+
+def is_merged(text: str) -> bool:
+    """Whether the text is of `merge` and no report: then a line ends with the name of a report, or with a note."""
+    return text.startswith("records ") and bool(re.search(r"(?m)^(?:ask|alert|truncated:) .*\)$", text))
+
+
+class _Merging:
+    """Gathers the lines of a merged report."""
+
+    def __init__(self, records: int, source: str) -> None:
+        self.records, self.source = records, source
+        self.asks: list[Joined] = []
+        self.alerts: list[tuple[str, Alert]] = []
+        self.truncated: list[tuple[str, int]] = []
+
+    def take(self, number: int, line: str) -> None:
+        found = MERGED.fullmatch(line)
+        kind, text, behind = found.groups() if found else ("", "", "")
+        ask, alert, cut = (
+            ASK.fullmatch(text),
+            ALERT.fullmatch(text),
+            re.fullmatch(rf"record ({NUMBER})", text),
+        )
+        if kind == "ask" and ask:
+            body = parse_body(ask[2], self.source, number, self.records)
+            self.ask(ask[1], body, behind)
+        elif kind == "alert" and alert and behind:
+            self.alerts.append((behind, Alert(alert[1], int(alert[2]), int(alert[3]))))
+        elif kind == "truncated:" and cut and behind:
+            self.truncated.append((behind, int(cut[1])))
+        else:
+            raise Complaint(
+                f"{self.source}: line {number} cannot be read as part of a merged report:\n    {line[:76]}"
+            )
+
+    def ask(self, name: str, body: Body, behind: str | None) -> None:
+        """An answer on all reports, with its note, or that of one report, behind others of the same question."""
+        if isinstance(body, (Quad, Top)):
+            self.asks.append(Joined(name, body.kind, body, (), behind or ""))
+            return
+        last = (
+            self.asks.pop() if self.asks and self.asks[-1].name == name else Joined(name, body.kind, None, ())
+        )
+        self.asks.append(Joined(name, body.kind, None, (*last.parts, (behind or "", body))))
+
+
+def parse_merged(text: str, source: str, setup: Setup | None = None) -> Merged:
+    """What `merge` wrote."""
+    head, *lines = text.removesuffix("\n").split("\n")
+    if not re.fullmatch(rf"records {NUMBER}", head):
+        raise Complaint(f"{source}: line 1 is not `records K`")
+    merging = _Merging(int(head.split(" ")[1]), source)
+    for number, line in enumerate(lines, 2):
+        merging.take(number, line)
+    there, wanted = [(it.name, it.kind) for it in merging.asks], [
+        (it.name, it.kind) for it in setup.asks
+    ] if setup else []
+    if setup and there != wanted:
+        raise Complaint(f"{source} is not a report of this setup: its questions are others")
+    return Merged(merging.records, tuple(merging.asks), tuple(merging.alerts), tuple(merging.truncated))

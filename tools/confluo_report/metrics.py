@@ -6,11 +6,15 @@ import os
 import pathlib
 import re
 import tempfile
+from collections import Counter
 from dataclasses import dataclass, field
-from typing import Iterable
+from typing import Callable, Iterable
 
 from .errors import Complaint
+from .merge import Merged
 from .reports import Body, Fired, Found, Quad, Report, RoundAlert, Snapshot
+from .setups import Setup
+from .values import key_text
 
 LABEL = re.compile(r"[a-zA-Z_][a-zA-Z0-9_]*")
 EXACT = 2**53
@@ -24,15 +28,15 @@ HELP = {
     "confluo_fired_buckets": "In how many time buckets the question's trigger fires.",
     "confluo_fired_value": "The value in a time bucket in which the question's trigger fires.",
     "confluo_top_keys": "How many keys the question lists.",
-    "confluo_top_value": "The part of a key; the greatest has place 0.",
+    "confluo_top_value": "The part of a key.",
     "confluo_alerts": "In how many time buckets the trigger fires.",
     "confluo_alert_value": "The value in a time bucket in which the trigger fires.",
-    "confluo_order_records": "Consecutive records of one writer in the log.",
+    "confluo_order_records": "Records of the writer in the log.",
     "confluo_truncated_records": "Whole records of a capture that is cut off; absent of one that ends well.",
     "confluo_window_record": "The first record that the answers are on, by its number.",
     "confluo_told_alert_value": "The value in a time bucket in which the trigger began to fire.",
     "confluo_stream_running": "1 while the stream is read, 0 after its end.",
-    "confluo_stream_records": "Records that had come when the last line was written.",
+    "confluo_stream_records_total": "Records that had come when the last line was written.",
     "confluo_stream_alerts_total": "Alerts of the trigger since the start.",
     "confluo_stream_alert_bucket": "The time bucket of the trigger's last alert.",
     "confluo_stream_alert_value": "The value of the trigger's last alert.",
@@ -53,9 +57,15 @@ class Families:
         """One sample; a number that a Prometheus value cannot hold exactly is a Complaint."""
         if value > EXACT:
             raise Complaint(f"{name}: {value} is above 2^53, and no Prometheus value holds it exactly")
-        texts = {**self.common, **{key: str(it) for key, it in labels.items()}}
+        texts = {**self.common, **{self.free(key): str(it) for key, it in labels.items()}}
         inner = ",".join(f'{key}="{_escaped(text)}"' for key, text in texts.items())
         self.samples.setdefault(name, []).append(f"{name}{{{inner}}} {value}" if inner else f"{name} {value}")
+
+    def free(self, name: str) -> str:
+        """The name of a label of the metric, which gives way to a common one of that name."""
+        while name in self.common:
+            name = f"confluo_{name}"
+        return name
 
     def text(self) -> str:
         lines: list[str] = []
@@ -79,7 +89,23 @@ def help_of(name: str) -> str:
     return HELP[name]
 
 
-def add_body(families: Families, stage: str, body: Body, brief: bool, **labels: object) -> None:
+Keys = Callable[[str, int], str]
+
+
+def keys_of(setup: Setup | None) -> Keys:
+    """How a key of a question is written: as an address, for one, where the setup says that it is one."""
+
+    def text(name: str, key: int) -> str:
+        question = setup.question(name) if setup else None
+        lane = question.lane if question else None
+        return key_text(setup, lane, key) if setup and lane and lane.key is not None else str(key)
+
+    return text
+
+
+def add_body(
+    families: Families, stage: str, body: Body, keys: Keys, lists: bool = False, **labels: object
+) -> None:
     """The samples of an answer; `stage` is the front of their metrics' names behind `confluo_`."""
     front = f"confluo_{stage}"
     labels["kind"] = body.kind
@@ -90,26 +116,26 @@ def add_body(families: Families, stage: str, body: Body, brief: bool, **labels: 
                 families.add(f"{front}measured", value, **labels, part=part)
     elif isinstance(body, Found):
         families.add(f"{front}found_records", len(body.rows), **labels)
-        for place, row in enumerate(() if brief else body.rows):
-            families.add(f"{front}found_record", 1, **labels, place=place, record=row)
+        for row in body.rows if lists else ():
+            families.add(f"{front}found_record", 1, **labels, record=row)
     elif isinstance(body, Fired):
         families.add(f"{front}fired_buckets", len(body.marks), **labels)
         for it in body.marks:
             families.add(f"{front}fired_value", it.value, **labels, bucket=it.key)
     else:
         families.add(f"{front}top_keys", len(body.keys), **labels)
-        for place, it in enumerate(body.keys):
-            families.add(f"{front}top_value", it.value, **labels, place=place, key=it.key)
+        for it in body.keys:
+            families.add(f"{front}top_value", it.value, **labels, key=keys(str(labels["ask"]), it.key))
 
 
-def _add_report(families: Families, report: Report, triggers: Iterable[str], brief: bool) -> None:
+def _add_report(families: Families, report: Report, triggers: Iterable[str], keys: Keys, lists: bool) -> None:
     families.add("confluo_records", report.records)
     if report.truncated is not None:
         families.add("confluo_truncated_records", report.truncated)
     if report.window is not None:
         families.add("confluo_window_record", report.window)
     for ask in report.asks:
-        add_body(families, "", ask.body, brief, ask=ask.name)
+        add_body(families, "", ask.body, keys, lists, ask=ask.name)
     counts = dict.fromkeys(triggers, 0)
     for it in report.alerts:
         counts[it.trigger] = counts.get(it.trigger, 0) + 1
@@ -117,75 +143,93 @@ def _add_report(families: Families, report: Report, triggers: Iterable[str], bri
         families.add("confluo_alerts", count, trigger=name)
     for it in report.alerts:
         families.add("confluo_alert_value", it.value, trigger=it.trigger, bucket=it.bucket)
-    if brief:
-        return
+    if lists:
+        _add_loading(families, report, keys)
+
+
+def _add_loading(families: Families, report: Report, keys: Keys) -> None:
+    """What was asked and told while records came, and how many each writer had."""
     for line, live in enumerate(report.lives):
         labels = {"ask": live.name, "line": line, "prefix": live.prefix}
-        add_body(families, "live_", live.body, False, **labels)
+        add_body(families, "live_", live.body, keys, True, **labels)
         if live.new is not None:
-            add_body(families, "new_", live.new, False, **labels)
+            add_body(families, "new_", live.new, keys, True, **labels)
     for line, told in enumerate(report.told):
         if isinstance(told, RoundAlert):
             labels = {"trigger": told.trigger, "line": line, "prefix": told.prefix, "bucket": told.bucket}
             families.add("confluo_told_alert_value", told.value, **labels)
         else:
             labels = {"ask": told.name, "line": line, "first": told.first, "prefix": told.prefix}
-            add_body(families, "live_", told.body, False, **labels)
-    for place, stretch in enumerate(report.order or ()):
-        families.add("confluo_order_records", stretch.count, place=place, writer=stretch.writer)
+            add_body(families, "live_", told.body, keys, True, **labels)
+    writers: Counter[int] = Counter()
+    for stretch in report.order or ():
+        writers[stretch.writer] += stretch.count
+    for writer, count in sorted(writers.items()):
+        families.add("confluo_order_records", count, writer=writer)
 
 
-def _add_snapshot(families: Families, snapshot: Snapshot, brief: bool) -> None:
+def _add_snapshot(families: Families, snapshot: Snapshot, keys: Keys, lists: bool) -> None:
     families.add("confluo_cut_records", snapshot.cut)
     for host in snapshot.hosts:
         families.add("confluo_host_records", host.records, host=host.number)
         if host.truncated is not None:
             families.add("confluo_truncated_records", host.truncated, host=host.number)
         for ask in host.asks:
-            add_body(families, "", ask.body, brief, ask=ask.name, host=host.number)
+            add_body(families, "", ask.body, keys, lists, ask=ask.name, host=host.number)
+
+
+def _add_merged(families: Families, merged: Merged, keys: Keys, lists: bool) -> None:
+    families.add("confluo_records", merged.records)
+    for name, whole in merged.truncated:
+        families.add("confluo_truncated_records", whole, report=name)
+    for ask in merged.asks:
+        if ask.body is not None:
+            add_body(families, "", ask.body, keys, lists, ask=ask.name)
+            continue
+        for name, body in ask.parts:
+            add_body(families, "", body, keys, lists, ask=ask.name, report=name)
+    for name, it in merged.alerts:
+        families.add("confluo_alert_value", it.value, trigger=it.trigger, bucket=it.bucket, report=name)
 
 
 def metrics_text(
-    read: Report | Snapshot,
+    read: Report | Snapshot | Merged,
     labels: dict[str, str] | None = None,
-    triggers: Iterable[str] = (),
-    brief: bool = False,
+    setup: Setup | None = None,
+    lists: bool = False,
 ) -> str:
-    """The report in Prometheus' text format; `brief` leaves out record numbers, live answers and the order."""
-    families = Families(labels or {})
+    """The report in Prometheus' text format; `lists` adds record numbers, live answers and what each writer loaded."""
+    families, keys = Families(labels or {}), keys_of(setup)
     if isinstance(read, Snapshot):
-        _add_snapshot(families, read, brief)
+        _add_snapshot(families, read, keys, lists)
+    elif isinstance(read, Merged):
+        _add_merged(families, read, keys, lists)
     else:
-        _add_report(families, read, triggers, brief)
+        _add_report(families, read, [it.name for it in setup.triggers] if setup else (), keys, lists)
     return families.text()
 
 
-def label_of(text: str) -> tuple[str, str]:
-    """The label of a word NAME=VALUE."""
-    name, equals, value = text.partition("=")
-    taken = {
-        "ask",
-        "kind",
-        "part",
-        "place",
-        "record",
-        "bucket",
-        "key",
-        "trigger",
-        "host",
-        "line",
-        "prefix",
-        "writer",
-        "first",
-        "result",
-    }
-    if not equals or not LABEL.fullmatch(name) or name.startswith("__") or name in taken:
-        raise Complaint(f"`{text}` is no label NAME=VALUE, or its name is one of {', '.join(sorted(taken))}")
-    return name, value
+def labels_of(texts: Iterable[str]) -> dict[str, str]:
+    """The labels of words NAME=VALUE."""
+    found: dict[str, str] = {}
+    for text in texts:
+        name, equals, value = text.partition("=")
+        if not equals or not LABEL.fullmatch(name) or name.startswith("__"):
+            raise Complaint(
+                f"`{text}` is not a label NAME=VALUE with a name of letters, digits and _ that begins with no digit "
+                "and not with __"
+            )
+        if name in found:
+            raise Complaint(f"the label `{name}` is given twice")
+        found[name] = value
+    return found
 
 
-def write_at_once(path: str, text: str) -> None:
-    """The file has the whole text or is as before: a new file takes its place in one step."""
+def write_at_once(path: str, text: str, is_synced: bool = True) -> None:
+    """The file has the whole text or is as before: a new file takes its place in one step.
+
+    If it is not synced, this does not wait for the disk, and a crash of the machine may leave it empty.
+    """
     place = pathlib.Path(path)
     try:
         handle, name = tempfile.mkstemp(prefix=f".{place.name}.", suffix=".new", dir=place.parent)
@@ -195,7 +239,8 @@ def write_at_once(path: str, text: str) -> None:
         with os.fdopen(handle, "w", encoding="utf-8") as file:
             file.write(text)
             file.flush()
-            os.fsync(file.fileno())
+            if is_synced:
+                os.fsync(file.fileno())
         os.chmod(name, 0o644)
         os.replace(name, place)
     except OSError as error:

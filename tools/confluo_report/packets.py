@@ -11,15 +11,21 @@ from typing import BinaryIO
 
 from .captures import CaptureFault, Reading, opened, pieces
 from .errors import Complaint
+from .progress import shown
 from .reports import Found, Report
+from .unparsed import Unparsed
 
 
 @dataclass(frozen=True)
 class Copied:
-    """How many packets were copied, of how many."""
+    """How many packets were copied, and what is known of all."""
 
     packets: int
-    records: int
+    all: Unparsed
+
+    @property
+    def records(self) -> int:
+        return self.all.packets
 
 
 def rows_found(report: Report, name: str, source: str) -> set[int]:
@@ -35,19 +41,19 @@ def rows_found(report: Report, name: str, source: str) -> set[int]:
     raise Complaint(f"{source} has no line of `{name}`; it has {names}")
 
 
-def _copy(capture: str, wanted: set[int], out: BinaryIO, reading: Reading) -> Copied:
+def copy_found(capture: str, wanted: set[int], out: BinaryIO, reading: Reading) -> Copied:
     """Writes all that is no packet, and the packets with these numbers."""
-    packets = records = 0
+    packets, unparsed = 0, Unparsed()
     with opened(capture) as file:
-        for piece in pieces(file, reading):
+        for piece in shown(pieces(file, reading), f"reading {capture}, packets"):
             if piece.frame is None:
                 out.write(piece.raw)
                 continue
-            records += 1
+            unparsed.add(piece.frame)
             if piece.frame.number in wanted:
                 packets += 1
                 out.write(piece.raw)
-    return Copied(packets, records)
+    return Copied(packets, unparsed)
 
 
 def copy_packets(report: Report, name: str, capture: str, out: str, source: str) -> Copied:
@@ -57,7 +63,7 @@ def copy_packets(report: Report, name: str, capture: str, out: str, source: str)
     reading = Reading(report.truncated is not None, "packet6")
     with tempfile.TemporaryFile() if out == "-" else _new_file(out) as file:
         try:
-            copied = _copy(capture, wanted, file, reading)
+            copied = copy_found(capture, wanted, file, reading)
             if copied.records != report.records:
                 raise Complaint(
                     f"{capture} is not the capture of {source}: it has {copied.records} records, "

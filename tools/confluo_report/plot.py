@@ -11,7 +11,8 @@ from .errors import Complaint
 from .merge import Named, joined_top
 from .reports import Fired, Pair, Top
 from .setups import SECOND, Setup
-from .values import clock, dotted, value_text
+from .show import part_text
+from .values import clock, dotted, key_text, unit
 
 COLOURS = (
     "tab:blue",
@@ -24,13 +25,16 @@ COLOURS = (
     "tab:cyan",
 )
 Text = Callable[[int], str]
+MOST_KEYS = 40
+BYTES = ("len", "caplen", "iplen")
 
 
 @dataclass
 class Bars:
-    """The keys of one top, and how a key is written."""
+    """The keys of one top that are drawn, of so many, and how a key is written."""
 
     keys: list[Pair]
+    count: int
     text: Text = str
 
 
@@ -39,6 +43,8 @@ class Drawing:
     """What is drawn: by question and report the marks, by trigger and report the alerts, and the tops."""
 
     width: int = SECOND
+    # By question what is measured, for the axis.
+    units: dict[str, str] = field(default_factory=dict)
     marks: dict[str, list[tuple[str, list[Pair]]]] = field(default_factory=dict)
     alerts: dict[str, list[Pair]] = field(default_factory=dict)
     tops: dict[str, Bars] = field(default_factory=dict)
@@ -52,13 +58,32 @@ class Drawing:
 def _key_text(setup: Setup | None, name: str, as_addresses: bool) -> Text:
     question = setup.question(name) if setup else None
     if setup and question and question.lane and question.lane.key is not None:
-        attribute, known = setup.schema[question.lane.key], setup
-        return lambda key: value_text(known, attribute, key)
+        lane, known = question.lane, setup
+        return lambda key: key_text(known, lane, key)
     return dotted if as_addresses else str
 
 
-def drawing_of(named: Sequence[Named], setup: Setup | None, width: int, as_addresses: bool) -> Drawing:
-    """What the reports have to draw; several reports have their tops put together."""
+def _unit(setup: Setup | None, name: str) -> str:
+    """What a question measures, in words."""
+    question = setup.question(name) if setup else None
+    if setup is None or question is None:
+        return "value"
+    trigger = question.trigger
+    lane, part = (trigger.aggregate, trigger.part) if trigger else (question.lane, question.part)
+    if lane is None or lane.measure is None:
+        return "value"
+    measure = setup.schema[lane.measure].name
+    if part == "count":
+        return "packets" if setup.is_packet else "records"
+    if setup.is_packet and measure in BYTES:
+        return "bytes" if part == "sum" else f"{part} {measure}, in bytes"
+    return part_text(setup, part, lane)
+
+
+def drawing_of(
+    named: Sequence[Named], setup: Setup | None, width: int, as_addresses: bool, most: int = MOST_KEYS
+) -> Drawing:
+    """What the reports have to draw; several reports have their tops put together. 0 is as many keys as there are."""
     drawing = Drawing(setup.nanoseconds if setup else width)
     for at, ask in enumerate(named[0].report.asks):
         bodies = [(it.name, it.report.asks[at].body) for it in named]
@@ -68,7 +93,9 @@ def drawing_of(named: Sequence[Named], setup: Setup | None, width: int, as_addre
             drawing.marks[ask.name] = fired
         keys = _keys(ask.name, tops, setup) if tops else []
         if keys:
-            drawing.tops[ask.name] = Bars(keys, _key_text(setup, ask.name, as_addresses))
+            shown = keys[: most or None]
+            drawing.tops[ask.name] = Bars(shown, len(keys), _key_text(setup, ask.name, as_addresses))
+        drawing.units[ask.name] = _unit(setup, ask.name)
     for it in named:
         for alert in it.report.alerts:
             drawing.alerts.setdefault(alert.trigger, []).append(Pair(alert.bucket, alert.value))
@@ -88,7 +115,7 @@ def _keys(name: str, tops: list[Top], setup: Setup | None) -> list[Pair]:
 
 
 def _draw_marks(
-    panel: Any, name: str, series: list[tuple[str, list[Pair]]], place: Text, span: float
+    panel: Any, label: str, series: list[tuple[str, list[Pair]]], place: Text, span: float
 ) -> None:
     for at, (source, pairs) in enumerate(series):
         colour = COLOURS[at % len(COLOURS)]
@@ -111,7 +138,7 @@ def _draw_marks(
         panel.legend(fontsize="small", frameon=False)
     panel.set_ylim(bottom=0)
     panel.ticklabel_format(axis="y", style="plain")
-    panel.set_ylabel(name)
+    panel.set_ylabel(label)
 
 
 def _draw_alerts(panel: Any, alerts: dict[str, list[Pair]], place: Text, span: float) -> None:
@@ -131,7 +158,8 @@ def _draw_over_time(panels: list[Any], drawing: Drawing) -> None:
         return (bucket - first) * drawing.width / SECOND
 
     for panel, (name, series) in zip(panels, drawing.marks.items()):
-        _draw_marks(panel, name, series, place, span)
+        label = f"{name}\n{drawing.units[name]} in each {unit(drawing.width)}"
+        _draw_marks(panel, label, series, place, span)
     if drawing.alerts:
         _draw_alerts(panels[-1], drawing.alerts, place, span)
     for panel in panels[:-1]:
@@ -140,18 +168,20 @@ def _draw_over_time(panels: list[Any], drawing: Drawing) -> None:
     panels[-1].set_xlabel(f"seconds from {clock(first * drawing.width)} UTC")
 
 
-def _draw_top(panel: Any, name: str, bars: Bars) -> None:
+def _draw_top(panel: Any, name: str, bars: Bars, what: str) -> None:
     panel.barh(range(len(bars.keys)), [it.value for it in bars.keys], 0.7, color="tab:green")
     panel.set_yticks(range(len(bars.keys)))
     panel.set_yticklabels([bars.text(it.key) for it in bars.keys])
     panel.set_ylim(len(bars.keys) - 0.5, -0.5)
     panel.ticklabel_format(axis="x", style="plain")
-    panel.set_ylabel(name)
+    panel.set_xlabel(what)
+    few = f"\nthe first {len(bars.keys)} of {bars.count:,}" if len(bars.keys) < bars.count else ""
+    panel.set_ylabel(f"{name}{few}")
 
 
 def _heights(drawing: Drawing) -> list[float]:
     alerts = [0.5 + 0.5 * len(drawing.alerts)] if drawing.alerts else []
-    tops = [0.7 + 0.35 * len(it.keys) for it in drawing.tops.values()]
+    tops = [1.0 + 0.35 * len(it.keys) for it in drawing.tops.values()]
     return [3.0] * len(drawing.marks) + alerts + tops
 
 
@@ -166,7 +196,7 @@ def _figure(pyplot: Any, drawing: Drawing) -> Any:
     if timed:
         _draw_over_time(panels[:timed], drawing)
     for panel, (name, bars) in zip(panels[timed:], drawing.tops.items()):
-        _draw_top(panel, name, bars)
+        _draw_top(panel, name, bars, drawing.units[name])
     for panel in panels:
         panel.spines[["top", "right"]].set_visible(False)
     figure.align_ylabels()

@@ -54,10 +54,19 @@ def run(words: Sequence[str], stdin: BinaryIO | None = None) -> Ran:
     return Ran(done.returncode, done.stdout.decode("ascii", "replace"))
 
 
+def is_utf8(word: str) -> bool:
+    """Whether confluo takes the word: it refuses what is not UTF-8."""
+    try:
+        word.encode("utf-8")
+    except UnicodeEncodeError:
+        return False
+    return True
+
+
 def run_over(words: Sequence[str], path: str) -> Ran:
-    """Runs the program over the capture, which comes by a pipe where it is packed."""
+    """Runs the program over the capture, which comes by a pipe where it is packed or its name is not UTF-8."""
     packer = captures.packer_of(path)
-    if packer is None:
-        return run([*words, path])
-    with captures.unpacking(path, packer) as pipe:
+    if packer is None and is_utf8(path):
+        return run([*words, f"./{path}" if path.startswith("-") else path])
+    with captures.opened(path) as pipe:
         return run([*words, "/dev/stdin"], pipe)

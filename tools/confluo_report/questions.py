@@ -1,6 +1,7 @@
 """Questions as a person types them, and the setup that asks them.
 
     top [N] ATTRIBUTE by bytes|packets|MEASURE [where EXPRESSION]
+    top [N] UNIT by bytes|packets|MEASURE [where EXPRESSION]
     list EXPRESSION
     find ATTRIBUTE VALUE, or LOW..HIGH
     count [EXPRESSION]
@@ -9,8 +10,9 @@
     per UNIT bytes|packets|MEASURE [where EXPRESSION]
     over N [bytes|packets|MEASURE] in a UNIT [where EXPRESSION], or under N ..
 
-A MEASURE is an attribute, whose sum is meant, or `sum of len`, `least ttl`, `greatest win`. A UNIT is a
-second, minute, millisecond, .. or `10 seconds`. A TIME is as 2026-11-28T13:00:05, in UTC, or seconds since 1970.
+A MEASURE is an attribute, whose sum is meant, or `sum of len`, `least ttl`, `greatest win`. A UNIT is a second, minute,
+millisecond, .. or, but for top, `10 seconds`. A TIME is as 2026-11-28T13:00:05, in UTC, or seconds since 1970; of
+`between` both seconds are included.
 """
 
 from __future__ import annotations
@@ -18,13 +20,18 @@ from __future__ import annotations
 import datetime
 import re
 from dataclasses import dataclass, field
+from typing import Sequence
 
 from .errors import Complaint
-from .setups import SECOND
+from .rephrase import rephrased
+from .setups import PACKETS, SECOND
 from .values import UNITS
 
 VERBS = ("top", "list", "find", "count", "total", "between", "per", "over", "under")
 MOST_TOP = 1000
+# The tool's own questions: the buckets with a packet, and by `schema packet` what is not parsed.
+SPAN = "span"
+UNPARSED = {"ipv6": "etype==0x86dd", "tagged": "etype==0x8100 || etype==0x88a8"}
 MEASURE = r"(?:(?P<part>count|sum|least|greatest)(?: of)? )?(?P<measure>[a-z][a-z0-9_]*)"
 UNIT = r"(?:a |an )?(?:(?P<times>[1-9][0-9]*) )?(?P<unit>[a-z]+?)s?"
 WHERE = r"(?: where (?P<where>.+))?"
@@ -84,7 +91,22 @@ class Query:
     @property
     def is_timed(self) -> bool:
         """Whether it goes by time buckets and their width."""
-        return self.verb in ("per", "over", "under", "between")
+        return self.is_of_buckets or self.verb == "between"
+
+    @property
+    def is_of_buckets(self) -> bool:
+        """Whether its answer is a list of time buckets."""
+        return self.verb in ("per", "over", "under") or self.is_peak
+
+    @property
+    def is_peak(self) -> bool:
+        """Whether it is `top` of time buckets."""
+        return self.verb == "top" and bool(self.width)
+
+    @property
+    def lists_all(self) -> bool:
+        """Whether a bucket without a packet is missed in the answer."""
+        return self.verb in ("per", "under")
 
     @property
     def operator(self) -> str:
@@ -103,7 +125,7 @@ def is_question(word: str) -> bool:
 def _width(times: str | None, unit: str) -> int:
     sizes = {name: size for size, name in UNITS.items()}
     if unit not in sizes:
-        raise Complaint(f"`{unit}` is no unit of time: {', '.join(sizes)}")
+        raise Complaint(f"`{unit}` is not a unit of time: {', '.join(sizes)}")
     return int(times or 1) * sizes[unit]
 
 
@@ -116,15 +138,23 @@ def _measure(part: str | None, measure: str | None) -> tuple[str, str]:
     return part or "sum", measure or "len"
 
 
+def _six_digits(text: str) -> str:
+    """The time as every Python reads it: with six digits behind the seconds, and an offset in place of Z."""
+    fraction = re.search(r"\.([0-9]{1,9})", text)
+    if fraction:
+        text = text.replace(fraction[0], f".{fraction[1]:0<6.6}")
+    return re.sub(r"Z$", "+00:00", text)
+
+
 def time_of(text: str) -> int:
     """The time in nanoseconds since 1970."""
     if text.isdigit():
         return int(text) * SECOND
     try:
-        moment = datetime.datetime.fromisoformat(text)
+        moment = datetime.datetime.fromisoformat(_six_digits(text))
     except ValueError as error:
         raise Complaint(
-            f"`{text}` is no time as 2026-11-28T13:00:05, in UTC, or seconds since 1970"
+            f"`{text}` is not a time as 2026-11-28T13:00:05, in UTC, or seconds since 1970"
         ) from error
     if moment.tzinfo is None:
         moment = moment.replace(tzinfo=datetime.timezone.utc)
@@ -137,14 +167,27 @@ def parse_question(text: str) -> Query:
     text = " ".join(text.split())
     verb = text.split(" ")[0]
     if verb not in FORMS:
-        raise Complaint(f"`{text}` is no question: questions begin with {', '.join(VERBS)}")
+        raise Complaint(f"Cannot read `{text}`. Questions begin with {', '.join(VERBS)}.")
     form, shape, example = FORMS[verb]
     found = form.fullmatch(text)
     if not found:
-        raise Complaint(f"`{text}` is no question of the form\n    {shape}\nfor example\n    {example}")
+        listed = _as_list(text)
+        same = (
+            f"\nThis means the same and is right:\n    {listed}"
+            if listed
+            else f"\nFor example:\n    {example}"
+        )
+        raise Complaint(f"Cannot read `{text}`. Expected:\n    {shape}{same}")
     words = found.groupdict()
     query = Query(text, verb, words.get("where") or "*", words.get("key") or "")
     return _filled(query, words)
+
+
+def _as_list(text: str) -> str:
+    """A `find` of a network or an address of IPv6, which no range of one attribute is, as a `list`."""
+    found = re.fullmatch(r"find ([a-z][a-z0-9_]*) ([0-9a-fA-F.:/]+)", text)
+    right = rephrased(PACKETS["packet6"], f"{found[1]}=={found[2]}") if found else ""
+    return f"list {right}" if right else ""
 
 
 def _filled(query: Query, words: dict[str, str | None]) -> Query:
@@ -156,6 +199,8 @@ def _filled(query: Query, words: dict[str, str | None]) -> Query:
     if number >= 2**64:
         raise Complaint(f"`{query.text}`: {number} is above 2^64 - 1")
     width = _width(words.get("times"), words.get("unit") or "") if words.get("unit") else 0
+    if query.verb == "top":
+        width = {name: size for size, name in UNITS.items()}.get(query.key.removesuffix("s"), 0)
     low = words.get("low") or ""
     high = words.get("high") or low
     return Query(
@@ -181,20 +226,30 @@ class _Writer:
         return self.named[known]
 
 
-def width_of(queries: list[Query]) -> int:
+def width_of(query: Query) -> int | None:
+    """The width of the buckets that the question needs, None where any does."""
+    return (query.width or SECOND) if query.is_timed else None
+
+
+def by_width(queries: Sequence[Query]) -> list[list[Query]]:
+    """The questions that one setup can ask together, which has one width of buckets."""
+    widths = dict.fromkeys(it for it in map(width_of, queries) if it) or {SECOND: None}
+    first = next(iter(widths))
+    return [[it for it in queries if (width_of(it) or first) == width] for width in widths]
+
+
+def _one_width(queries: Sequence[Query]) -> int:
     """The width of the buckets; a Complaint where two questions want different ones."""
-    widths = {it.width: it.text for it in queries if it.width}
-    if len(widths) > 1:
-        both = "\n    ".join(widths.values())
-        raise Complaint(
-            f"one setup has one width of buckets, and these want two; ask them in two calls:\n    {both}"
-        )
-    return next(iter(widths), SECOND)
+    groups = by_width(queries)
+    if len(groups) > 1:
+        both = "\n    ".join(next(it.text for it in group if it.is_timed) for group in groups)
+        raise Complaint(f"These questions use different time units; ask them separately:\n    {both}")
+    return next((it for it in map(width_of, queries) if it), SECOND)
 
 
 def _ask(writer: _Writer, query: Query, width: int, every: bool) -> str:
     """The question's statement behind `ask NAME`."""
-    if query.verb == "top":
+    if query.verb == "top" and not query.is_peak:
         tally = writer.thing("tally", f"{query.key} {query.measure} {query.expression}")
         return f"top {tally} {query.part} {MOST_TOP if every else query.count}"
     if query.verb == "list":
@@ -212,18 +267,28 @@ def _ask(writer: _Writer, query: Query, width: int, every: bool) -> str:
     return f"fired {writer.thing('trigger', f'{lane} {query.part} {compared}')}"
 
 
+def _extras(writer: _Writer, queries: Sequence[Query], schema: str) -> None:
+    """Questions of the tool's own: where the packets are in time, and how many `schema packet` does not parse."""
+    if any(it.lists_all for it in queries):
+        lane = writer.thing("aggregate", f"{writer.thing('filter', '*')} len")
+        writer.lines.append(f"ask {SPAN} fired {writer.thing('trigger', f'{lane} count >= 0')}")
+    if schema == "packet":
+        writer.lines += [f"ask {name} total len {expression}" for name, expression in UNPARSED.items()]
+
+
 def name_of(number: int) -> str:
     """The name of the question of that number, from 0."""
     return f"q{number + 1}"
 
 
-def write_setup(queries: list[Query], schema: str = "packet", every: bool = False) -> str:
-    """The setup that asks the questions.
+def write_setup(
+    queries: Sequence[Query], schema: str = "packet6", every: bool = False, extras: bool = False
+) -> str:
+    """The setup that asks the questions, and with `extras` also what the tool wants to know.
 
-    With `every` triggers fire in every bucket and tops list as many keys as can be: what the answers of
-    several captures are put together from.
+    With `every` triggers fire in every bucket and tops list as many keys as can be: what the answers are made of.
     """
-    width = width_of(queries)
+    width = _one_width(queries)
     writer = _Writer([f"schema {schema}"])
     if width != SECOND:
         writer.lines.append(f"width {width}")
@@ -231,4 +296,6 @@ def write_setup(queries: list[Query], schema: str = "packet", every: bool = Fals
         writer.lines.append(f"# {query.text}")
         statement = _ask(writer, query, width, every)
         writer.lines.append(f"ask {name_of(number)} {statement}")
+    if extras:
+        _extras(writer, queries, schema)
     return "\n".join(writer.lines) + "\n"

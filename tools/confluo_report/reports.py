@@ -488,18 +488,18 @@ def _snapshot(lines: _Lines) -> Snapshot:
 def _must_be_text(text: str, source: str) -> None:
     if not text:
         raise Complaint(
-            f"{source}: this is no report: it is empty. confluo prints nothing with status 4 "
+            f"{source}: this is not a report: it is empty. confluo prints nothing with status 4 "
             "(a file could not be read) and 8 (out of memory)"
         )
     refusal = refusal_of(text)
     if refusal:
         raise Complaint(
-            f"{source}: this is no report but a refusal: {text.rstrip().rpartition(chr(10))[2]}\n"
+            f"{source}: this is not a report but a refusal: {text.rstrip().rpartition(chr(10))[2]}\n"
             "`confluo-report explain` says what it means"
         )
     lines = text.split("\n", 2)
     if FORMS["records"].fullmatch(lines[0]) and re.match(r"0 ts=", "".join(lines[1:2])):
-        raise Complaint(f"{source}: this is no report but the text of `confluo dump`")
+        raise Complaint(f"{source}: this is not a report but the text of `confluo dump`")
 
 
 def parse(text: str, source: str = "report") -> Report | Snapshot:
@@ -513,6 +513,13 @@ def parse(text: str, source: str = "report") -> Report | Snapshot:
         lines.fail("`records K`, the first line of a report, or `cut K`, that of a snapshot")
         raise AssertionError
     return reader(lines)
+
+
+def parse_body(text: str, source: str, number: int, records: int) -> Body:
+    """The answer that the text is, of the line of that number and over so many records."""
+    lines = _Lines(f"{text}\n", source, number - 1)
+    lines.at = 1
+    return _body(lines, text, records, True)
 
 
 def parse_report(text: str, source: str = "report") -> Report:

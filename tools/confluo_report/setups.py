@@ -8,21 +8,22 @@ from __future__ import annotations
 
 import difflib
 import re
-from dataclasses import dataclass, field
-from typing import Callable
+from dataclasses import dataclass, field, replace
+from typing import Callable, Iterator
 
 from .expressions import (
-    NUMBER_BITS,
+    HALVES,
     OPERATORS,
     Attribute,
     Expression,
     ExpressionFault,
     Value,
     parse_expression,
-    repaired,
+    unknown_attribute,
     value_of,
     values_of_kind,
 )
+from .rephrase import SAME, rephrased
 
 SECOND = 10**9
 PARTS = ("count", "sum", "least", "greatest")
@@ -38,7 +39,6 @@ PACKET = tuple(
         "proto:u8 src:u32 dst:u32 sport:u16 dport:u16 seq:u32 ack:u32 flags:u8 win:u16 vlan:u16"
     ).split()
 )
-HALVES = ("src6", "src6_low", "dst6", "dst6_low")
 PACKETS = {"packet": PACKET, "packet6": PACKET + tuple(Attribute(it, "u64") for it in HALVES)}
 
 
@@ -92,6 +92,13 @@ class Setup:
     triggers: list[Trigger] = field(default_factory=list)
     asks: list[Question] = field(default_factory=list)
     lives: list[str] = field(default_factory=list)
+    # Names of faulty lines, of which nothing more is known.
+    broken: set[str] = field(default_factory=set)
+
+    def copy(self) -> Setup:
+        """The same, to which lines can be added."""
+        lists = {it: list(getattr(self, it)) for it in ("lanes", "triggers", "asks", "lives")}
+        return replace(self, **lists, broken=set(self.broken))
 
     @property
     def is_packet(self) -> bool:
@@ -107,10 +114,6 @@ class Setup:
         """The lane of one of the families with that name."""
         return next((it for it in self.lanes if it.name == name and it.family in families), None)
 
-    def lane_of(self, family: str) -> Lane | None:
-        """The first lane of the family."""
-        return next((it for it in self.lanes if it.family == family), None)
-
     def trigger(self, name: str) -> Trigger | None:
         return next((it for it in self.triggers if it.name == name), None)
 
@@ -122,12 +125,22 @@ class Setup:
         return next((at for at, it in enumerate(self.schema) if it.name == name), None)
 
     def names(self) -> set[str]:
-        return {it.name for it in (*self.lanes, *self.triggers, *self.asks)}
+        return {it.name for it in (*self.lanes, *self.triggers, *self.asks)} | self.broken
+
+    def what_is(self, name: str) -> str:
+        """What the name stands for."""
+        lanes = {it.name: it.family for it in self.lanes}
+        kinds = {it.name: "question" for it in self.asks} | {it.name: "trigger" for it in self.triggers}
+        return _with_article((kinds | lanes).get(name, "line"))
+
+
+def _with_article(word: str) -> str:
+    return f"an {word}" if word[0] in "ai" else f"a {word}"
 
 
 @dataclass(frozen=True)
 class Fault:
-    """A broken rule: its code, the place in the line, why, and a line that would be right."""
+    """A broken rule: its code, the place in the line, why, and a right line that means the same, if one is known."""
 
     code: int
     place: int
@@ -169,24 +182,20 @@ class _Statement:
     def fault(self, code: int, word: _Word, why: str, right: str = "") -> None:
         self.faults.append(Fault(code, word.place, why, right))
 
-    def right(self) -> str:
-        """A lawful line of this statement, with the lines before it that it needs."""
-        return right_lines(self.setup, [it.text for it in self.words])
-
     def must_have(self, count: int, form: str) -> bool:
         """Whether there are that many words; `form` shows them."""
         if len(self.words) == count:
             return True
         word = self.word(min(count, len(self.words)))
         much = "too many" if len(self.words) > count else "too few"
-        self.fault(3, word, f"there are {much} words; the form is `{form}`", self.right())
+        self.fault(3, word, f"there are {much} words; the form is `{form}`")
         return False
 
     def must_begin(self, count: int, form: str) -> bool:
         """Whether there are at least that many words, before an expression."""
         if len(self.words) >= count:
             return True
-        self.fault(3, self.word(count), f"there are too few words; the form is `{form}`", self.right())
+        self.fault(3, self.word(count), f"there are too few words; the form is `{form}`")
         return False
 
     def must_be_one_of(self, number: int, words: tuple[str, ...], form: str) -> bool:
@@ -195,17 +204,22 @@ class _Statement:
             return True
         wanted = ", ".join(words[:-1]) + f" or {words[-1]}"
         why = f"`{word.text}` is not {wanted}; the form is `{form}`"
-        self.fault(3, word, why, self.right())
+        meant = SAME.get(word.text, "")
+        self.fault(3, word, why, self.with_word(number, meant) if meant in words else "")
         return False
 
     def new_name(self, number: int = 1) -> str:
         """The new name, which must be a name (3) and new (5)."""
         word = self.word(number)
         if not NAME.fullmatch(word.text):
-            why = f"`{word.text}` is no name: a letter a to z, then letters a to z, digits and _, at most 32 in all"
-            self.fault(3, word, why, self.right())
+            why = f"`{word.text}` is not a name: a letter a to z, then letters a to z, digits and _, at most 32 in all"
+            self.fault(3, word, why)
         elif word.text in self.setup.names():
-            why = f"the name `{word.text}` stands for something on a line above; names are all different"
+            there = self.setup.what_is(word.text)
+            why = (
+                f"the name `{word.text}` is that of {there} on a line above; "
+                "indexes, filters, aggregates, tallies, triggers and questions all have different names"
+            )
             self.fault(5, word, why, self.with_word(number, fresh(self.setup, word.text[:28])))
         return word.text
 
@@ -219,17 +233,16 @@ class _Statement:
         word = self.word(number)
         place = self.setup.place_of(word.text)
         if place is None:
-            names = ", ".join(it.name for it in self.setup.schema)
-            self.fault(6, word, f"no attribute is called `{word.text}`; there are {names}", self.right())
+            self.fault(6, word, unknown_attribute(self.setup.schema, word.text))
         return place
 
     def thing(self, number: int, what: str, found: object, there: list[str]) -> None:
         """Faults with 6 where nothing of that kind was found."""
-        if found is not None:
-            return
         word = self.word(number)
-        known = f"lines above have {', '.join(there)}" if there else "no line above has one"
-        self.fault(6, word, f"`{word.text}` is no {what} of a line above; {known}", self.right())
+        if found is not None or word.text in self.setup.broken:
+            return
+        known = f"; there are {', '.join(there)}" if there else ""
+        self.fault(6, word, f"no line above has {_with_article(what)} called `{word.text}`{known}")
 
     def lane(self, number: int, *families: str) -> Lane | None:
         found = self.setup.lane(self.word(number).text, *families)
@@ -241,8 +254,8 @@ class _Statement:
         word = self.word(number)
         value = value_of("u64", word.text)
         if not isinstance(value, int) or not low <= value <= high:
-            why = f"`{word.text}` is no number from {low} to {high}, decimal or as 0x1f"
-            self.fault(7, word, why, self.right())
+            why = f"`{word.text}` is not a number from {low} to {high}, decimal or as 0x1f"
+            self.fault(7, word, why)
             return 0
         return value
 
@@ -251,8 +264,8 @@ class _Statement:
         value = value_of(attribute.kind, word.text)
         if value is None:
             wanted = values_of_kind(attribute.kind)
-            why = f"`{word.text}` is no value of `{attribute.name}`, which is {wanted}"
-            self.fault(7, word, why, self.right())
+            why = f"`{word.text}` is not a value of `{attribute.name}`, which is {wanted}"
+            self.fault(7, word, why)
             return 0
         return value
 
@@ -264,13 +277,13 @@ class _Statement:
         if kind not in ("u8", "u16", "u32"):
             word = self.word(number)
             why = f"`{word.text}` is {_of_kind(kind)}; only numbers below 2^32 (u8, u16, u32) are measured"
-            self.fault(8, word, why, self.right())
+            self.fault(8, word, why)
 
     def must_be_a_key(self, number: int, place: int | None) -> None:
         if place is not None and not self.setup.schema[place].is_number:
             word = self.word(number)
             why = f"`{word.text}` is bytes; an index or a tally is over numbers (`ask NAME list {word.text}==0x..` finds one)"
-            self.fault(8, word, why, self.right())
+            self.fault(8, word, why)
 
     def must_have_room(self, what: str, there: int) -> None:
         if there >= MOST[what]:
@@ -287,8 +300,8 @@ class _Statement:
         try:
             return parse_expression(self.setup.schema, rest.text)
         except ExpressionFault as fault:
-            front = self.line[: rest.place].rstrip(" ")
-            right = f"{front} {repaired(self.setup.schema, rest.text, fault)}"
+            found = rephrased(self.setup.schema, rest.text)
+            right = f"{self.line[: rest.place].rstrip(' ')} {found}" if found else ""
             self.faults.append(Fault(fault.code, rest.place + fault.place, fault.why, right))
         return Expression("*", ((),))
 
@@ -301,94 +314,6 @@ def fresh(setup: Setup, name: str) -> str:
     """A name that stands for nothing yet."""
     names = (name, *(f"{name}_{it}" for it in range(2, 100)))
     return next(it for it in names if it not in setup.names())
-
-
-def _first(setup: Setup, kinds: tuple[str, ...], *liked: str) -> str:
-    """The name of an attribute of one of the kinds, one that is liked if it is there."""
-    names = [it.name for it in setup.schema if it.kind in kinds]
-    return next((it for it in liked if it in names), names[0] if names else "len")
-
-
-class _Example:
-    """Lawful lines of one statement, with names that are there."""
-
-    def __init__(self, setup: Setup, words: list[str]) -> None:
-        self.setup, self.words = setup, words
-        self.before: list[str] = []
-        self.key = _first(setup, tuple(NUMBER_BITS), "src")
-        self.measure = _first(setup, ("u8", "u16", "u32"), "len")
-        self.some = "dport==53" if setup.is_packet else f"{self.key}>=0"
-
-    def named(self, name: str) -> str:
-        """The name that the line gives, where it is lawful and new, else a fresh one."""
-        given = self.words[1] if len(self.words) > 1 else ""
-        lawful = NAME.fullmatch(given) and given not in self.setup.names()
-        return given if lawful else fresh(self.setup, name)
-
-    def lane(self, family: str, line: str) -> str:
-        """A lane of that family: one of a line above, else that of a line to be added."""
-        there = next((it.name for it in self.setup.lanes if it.family == family), None)
-        if there is None:
-            there = fresh(self.setup, f"some_{family}")
-            self.before.append(f"{family} {there} {line}")
-        return there
-
-    def filter(self) -> str:
-        return self.lane("filter", self.some)
-
-    def aggregate(self) -> str:
-        if self.setup.lane_of("aggregate"):
-            return self.lane("aggregate", "")
-        return self.lane("aggregate", f"{self.filter()} {self.measure}")
-
-    def trigger(self) -> str:
-        if self.setup.triggers:
-            return self.setup.triggers[0].name
-        name = fresh(self.setup, "some_trigger")
-        self.before.append(f"trigger {name} {self.aggregate()} sum > 1000")
-        return name
-
-    def ask(self) -> str:
-        """The question of the kind that the line has, else a list."""
-        kind = self.words[2] if len(self.words) > 2 else ""
-        forms: dict[str, Callable[[], str]] = {
-            "find": lambda: f"find {self.lane('index', self.key)} 0 255",
-            "between": lambda: f"between {self.filter()} 1700000000 1700000009",
-            "measure": lambda: f"measure {self.aggregate()} 1700000000 1700000009",
-            "fired": lambda: f"fired {self.trigger()}",
-            "top": lambda: f"top {self.lane('tally', f'{self.key} {self.measure} *')} sum 10",
-            "total": lambda: f"total {self.measure} *",
-        }
-        statement = forms.get(kind, lambda: f"list {self.some}")()
-        return f"ask {self.named('found')} {statement}"
-
-    def live(self) -> str:
-        name = next((it.name for it in self.setup.asks if it.name not in self.setup.lives), None)
-        if name is None:
-            name = fresh(self.setup, "found")
-            self.before.append(f"ask {name} list {self.some}")
-        return f"live {name}"
-
-    def line(self) -> str:
-        forms: dict[str, Callable[[], str]] = {
-            "schema": lambda: "schema packet",
-            "width": lambda: "width 1000000000",
-            "index": lambda: f"index {self.named('senders')} {self.key}",
-            "filter": lambda: f"filter {self.named('some')} {self.some}",
-            "aggregate": lambda: f"aggregate {self.named('sent')} {self.filter()} {self.measure}",
-            "tally": lambda: f"tally {self.named('talkers')} {self.key} {self.measure} *",
-            "trigger": lambda: f"trigger {self.named('bursts')} {self.aggregate()} sum > 1000",
-            "ask": self.ask,
-            "live": self.live,
-        }
-        return forms[self.words[0]]()
-
-
-def right_lines(setup: Setup, words: list[str]) -> str:
-    """A lawful line of the statement that begins so, after the lines that it needs."""
-    example = _Example(setup, words)
-    line = example.line()
-    return "\n".join([*example.before, line])
 
 
 def _schema(it: _Statement) -> None:
@@ -408,7 +333,6 @@ def _schema(it: _Statement) -> None:
 def _attributes(it: _Statement, word: _Word) -> tuple[Attribute, ...]:
     found: list[Attribute] = []
     place = word.place
-    right = "schema records ts:u64,src:u32,len:u16"
     for item in word.text.split(","):
         name, _, kind = item.partition(":")
         at = _Word(item, place)
@@ -418,20 +342,19 @@ def _attributes(it: _Statement, word: _Word) -> tuple[Attribute, ...]:
                 4,
                 at,
                 f"`{item}` is not NAME:KIND; a name is a letter, then letters a to z, digits and _, at most 16",
-                right,
             )
         elif not KIND.fullmatch(kind):
-            it.fault(4, at, f"`{item}` is not NAME:KIND; a kind is u8, u16, u32, u64 or b1 to b16", right)
+            it.fault(4, at, f"`{item}` is not NAME:KIND; a kind is u8, u16, u32, u64 or b1 to b16")
         elif name in [known.name for known in found]:
-            it.fault(4, at, f"two attributes are called `{name}`", right)
+            it.fault(4, at, f"two attributes are called `{name}`")
         else:
             found.append(Attribute(name, kind))
     if it.faults:
         return ()
     if len(found) > 24:
-        it.fault(4, word, f"there are {len(found)} attributes, and 24 are the most", right)
+        it.fault(4, word, f"there are {len(found)} attributes, and 24 are the most")
     elif Attribute("ts", "u64") not in found:
-        it.fault(4, word, "one of the attributes is `ts:u64`, the time in nanoseconds", right)
+        it.fault(4, word, "one of the attributes is `ts:u64`, the time in nanoseconds")
     return tuple(found)
 
 
@@ -598,22 +521,41 @@ def _misplaced(setup: Setup, it: _Statement) -> str:
     return ""
 
 
-def _take(setup: Setup, line: str) -> Fault | None:
-    """Takes what the line states, or answers its fault of the least code."""
+def _unprinted(line: str) -> Fault | None:
+    """The first byte that is not printed ASCII; where all such are white space, spaces mean the same."""
     for place, letter in enumerate(line):
         if not " " <= letter <= "~":
-            why = f"byte {ord(letter):#04x} is no printed ASCII; a tab, for one, becomes a space"
-            return Fault(1, place, why, re.sub(r"[^ -~]+", " ", line))
+            why = f"byte {ord(letter):#04x} is not printed ASCII; a tab, for one, becomes a space"
+            spaced = re.sub(r"\s", " ", line)
+            return Fault(1, place, why, spaced if re.fullmatch(r"[ -~]*", spaced) else "")
+    return None
+
+
+def _take(setup: Setup, line: str) -> list[Fault]:
+    """Takes what the line states, and answers its faults, the one of the least code first."""
+    unprinted = _unprinted(line)
+    if unprinted:
+        return [unprinted]
     statement = _Statement(setup, line)
+    first = statement.words[0]
     why = _misplaced(setup, statement)
     if why:
-        near = difflib.get_close_matches(
-            statement.words[0].text, [it for it in STATEMENTS if it not in ("schema", "width")], 1
-        )
-        right = right_lines(setup, [near[0] if near else "ask", *(it.text for it in statement.words[1:])])
-        return Fault(2, statement.words[0].place, why, right if setup.schema else "schema packet")
-    STATEMENTS[statement.words[0].text](statement)
-    return min(statement.faults, key=lambda it: it.code, default=None)
+        near = difflib.get_close_matches(first.text, [it for it in STATEMENTS if it != "schema"], 1, 0.75)
+        meant = near and first.text not in STATEMENTS
+        return [Fault(2, first.place, why, statement.with_word(0, near[0]) if meant else "")]
+    STATEMENTS[first.text](statement)
+    return sorted(statement.faults, key=lambda it: it.code)
+
+
+def _take_whole(setup: Setup, line: str) -> list[Fault]:
+    """The same; a line that is offered is valid, and a faulty line's name is known all the same."""
+    before = setup.copy()
+    faults = _take(setup, line)
+    words = line.split() or [""]
+    if faults and words[0] in ("index", "filter", "aggregate", "tally", "trigger", "ask") and len(words) > 1:
+        if NAME.fullmatch(words[1]) and words[1] not in setup.names():
+            setup.broken.add(words[1])
+    return [replace(it, right="") if it.right and _take(before.copy(), it.right) else it for it in faults]
 
 
 def _lines(data: bytes) -> list[str]:
@@ -622,21 +564,32 @@ def _lines(data: bytes) -> list[str]:
     return [it.removesuffix("\r") for it in pieces] + ([last] if last else [])
 
 
-def parse_setup(data: bytes) -> Setup:
-    """What the bytes state, or a SetupFault with the first faulty line."""
+def _faults(data: bytes, setup: Setup) -> Iterator[SetupFault]:
+    """Takes what the bytes state, and answers the faults of lines; behind a faulty schema nothing is judged."""
     if len(data) > MOST_BYTES:
         why = f"a setup has at most {MOST_BYTES} bytes, and this one has {len(data)}"
-        raise SetupFault(0, "", Fault(9, 0, why))
-    setup = Setup()
+        yield SetupFault(0, "", Fault(9, 0, why))
+        return
     lines = _lines(data)
     for number, line in enumerate(lines, 1):
         bare = line.strip(" ")
         if bare and not bare.startswith("#"):
-            fault = _take(setup, line)
-            if fault:
-                raise SetupFault(number, line, fault)
+            for fault in _take_whole(setup, line):
+                yield SetupFault(number, line, fault)
+            if not setup.schema:
+                return
     if not setup.schema:
-        raise SetupFault(
-            len(lines) + 1, "", Fault(2, 0, "there is no statement; the first is the schema", "schema packet")
-        )
+        yield SetupFault(len(lines) + 1, "", Fault(2, 0, "there is no statement; the first is the schema"))
+
+
+def parse_setup(data: bytes) -> Setup:
+    """What the bytes state, or a SetupFault with the first faulty line."""
+    setup = Setup()
+    for fault in _faults(data, setup):
+        raise fault
     return setup
+
+
+def faults_of(data: bytes) -> list[SetupFault]:
+    """All faults, the first of which the program reports."""
+    return list(_faults(data, Setup()))

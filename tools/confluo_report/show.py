@@ -2,10 +2,11 @@
 
 from __future__ import annotations
 
+import itertools
 from dataclasses import dataclass, field
-from typing import Sequence
+from typing import Collection, Mapping, Sequence
 
-from .details import Details
+from .merge import Merged
 from .reports import (
     Alert,
     Ask,
@@ -23,8 +24,8 @@ from .reports import (
     Top,
 )
 from .setups import Lane, Question, Setup, Trigger
-from .tables import MOST, Style, marks, table
-from .values import clock, grouped, unit, units, value_text
+from .tables import Style, marks, table
+from .values import clock, grouped, key_text, unit, units, utc, value_text
 
 PART_WORDS = {"count": "number", "sum": "sum", "least": "least", "greatest": "greatest"}
 
@@ -34,7 +35,7 @@ class Viewer:
     """What is known beside the report: its setup, the lines of packets, and how text is marked."""
 
     setup: Setup | None = None
-    details: Details = field(default_factory=dict)
+    details: Mapping[int, str] = field(default_factory=dict)
     style: Style = Style()
     most: int = 20
 
@@ -147,29 +148,111 @@ def _bucket_head(viewer: Viewer) -> str:
 
 def _fired(viewer: Viewer, name: str, pairs: Sequence[Pair]) -> list[str]:
     question = viewer.setup.question(name) if viewer.setup else None
+    trigger = question.trigger if question else None
+    lines = bucket_lines(viewer, name, pairs, (trigger.operator, trigger.number) if trigger else None)
+    if viewer.setup and trigger and trigger.operator in ("<", "<="):
+        lines.append(f"  {units(viewer.setup.nanoseconds)} without a {viewer.things[:-1]} are not listed")
+    return lines
+
+
+def bucket_lines(
+    viewer: Viewer, name: str, pairs: Sequence[Pair], condition: tuple[str, int] | None
+) -> list[str]:
+    """The table of buckets, of all those whose value meets the condition."""
+    question = viewer.setup.question(name) if viewer.setup else None
     value = "value"
     if viewer.setup and question and question.trigger:
         value = part_text(viewer.setup, question.trigger.part, question.trigger.aggregate)
-    noted = marks([it.value for it in pairs])
+    noted = bucket_marks(pairs, condition)
     rows = [[_bucket_cell(viewer, it.key), grouped(it.value), note] for it, note in zip(pairs, noted)]
     return table([_bucket_head(viewer), value, ""], rows, viewer.style, "lr") if rows else []
 
 
+def bucket_marks(pairs: Sequence[Pair], condition: tuple[str, int] | None) -> list[str]:
+    """The bucket with the most and that with the fewest, where no bucket that is not listed could have more or fewer."""
+    if not pairs or condition is None:
+        return [""] * len(pairs)
+    has_no_gap = pairs[-1].key - pairs[0].key == len(pairs) - 1
+    lists_all = condition in ((">=", 0), (">", 0))
+    has_fewest = has_no_gap and (lists_all or condition[0] in ("<", "<="))
+    return marks([it.value for it in pairs], condition[0] in (">", ">="), has_fewest)
+
+
+def silence_line(
+    viewer: Viewer, there: Collection[int], ends: Sequence[int], expression: str = "*"
+) -> list[str]:
+    """That buckets from the first to the last packet have none, where there are such."""
+    if not ends or not viewer.setup:
+        return []
+    gaps = _gaps(sorted({it for it in there if ends[0] <= it <= ends[-1]}), ends[0], ends[-1])
+    count = sum(last - first + 1 for first, last in gaps)
+    if not count:
+        return []
+    width = viewer.setup.nanoseconds
+    spans = [_span_text(first * width, last * width) for first, last in gaps[:3]]
+    rest = len(gaps) - 3
+    more = f", and {rest} more {'stretch' if rest == 1 else 'stretches'}" if rest > 0 else ""
+    what = f"no {viewer.things[:-1]}" + ("" if expression == "*" else f" with {expression}")
+    name = unit(width) if count == 1 else units(width)
+    has = "has" if count == 1 else "have"
+    return [
+        f"  {grouped(count)} {name} between the first and the last {viewer.things[:-1]} {has} {what} "
+        f"and {'is' if count == 1 else 'are'} not listed: {', '.join(spans)}{more}"
+    ]
+
+
+def _span_text(first: int, last: int) -> str:
+    """Both times, of which the second has no date where it is that of the first."""
+    begin, end = clock(first), clock(last)
+    if first == last:
+        return begin
+    day = begin.partition(" ")[0]
+    return f"{begin} to {end.removeprefix(f'{day} ') if ':' in begin else end}"
+
+
+def _gaps(keys: Sequence[int], first: int, last: int) -> list[tuple[int, int]]:
+    """The stretches from first to last without a key."""
+    found, begin = [], first
+    for it in keys:
+        if it > begin:
+            found.append((begin, it - 1))
+        begin = it + 1
+    return found + ([(begin, last)] if begin <= last else [])
+
+
 def _top(viewer: Viewer, name: str, body: Top) -> list[str]:
+    question = viewer.setup.question(name) if viewer.setup else None
+    return top_lines(viewer, name, body, bool(question and len(body.keys) < question.high))
+
+
+def top_lines(viewer: Viewer, name: str, body: Top, is_whole: bool) -> list[str]:
+    """The table of keys; the most and the fewest are marked where all keys are listed."""
     setup = viewer.setup
     question = setup.question(name) if setup else None
     head = ["", "key", "value", ""]
     keys = [str(it.key) for it in body.keys]
+    notes = []
     if setup and question and question.lane and question.lane.key is not None:
-        attribute = setup.schema[question.lane.key]
-        head = ["", attribute.name, part_text(setup, question.part, question.lane), ""]
-        keys = [value_text(setup, attribute, it.key) for it in body.keys]
-    noted = marks([it.value for it in body.keys])
+        lane, attribute = question.lane, setup.schema[question.lane.key]
+        head = ["", attribute.name, part_text(setup, question.part, lane), ""]
+        keys = [key_text(setup, lane, it.key) for it in body.keys]
+        notes = _zero_note(setup, attribute.name) if any(not it.key for it in body.keys) else []
+    noted = marks([it.value for it in body.keys], is_whole, is_whole)
     rows = [
         [f"{place}.", key, grouped(it.value), note]
         for place, (key, it, note) in enumerate(zip(keys, body.keys, noted), 1)
     ]
-    return table(head, rows, viewer.style, "rlr") if rows else []
+    return table(head, rows, viewer.style, "rlr") + notes if rows else []
+
+
+def _zero_note(setup: Setup, name: str) -> list[str]:
+    """What the address 0 stands for."""
+    if not setup.is_packet or name not in ("src", "dst", "src6", "dst6"):
+        return []
+    if name.endswith("6"):
+        return ["  ::/64 stands for all packets that are not IPv6"]
+    six = f", with IPv6 among them: `{name}6` has its networks" if setup.source == "packet6" else ""
+    return [f"  0.0.0.0 stands for all packets that are not IPv4{six}"]
 
 
 def count_text(viewer: Viewer, body: Body) -> str:
@@ -204,17 +287,24 @@ def _alerts(viewer: Viewer, alerts: Sequence[Alert]) -> list[str]:
     if not alerts:
         return []
     setup = viewer.setup
-    greatest: dict[str, int] = {}
-    for it in alerts:
-        greatest[it.trigger] = max(it.value, greatest.get(it.trigger, 0))
+    noted = _alert_marks(setup, alerts)
     rows = []
-    for it in alerts:
+    for it, note in zip(alerts, noted):
         trigger = setup.trigger(it.trigger) if setup else None
         condition = [condition_text(setup, trigger)] if setup and trigger else []
-        note = MOST if it.value == greatest[it.trigger] else ""
         rows.append([it.trigger, _bucket_cell(viewer, it.bucket), grouped(it.value), *condition, note])
     head = ["trigger", _bucket_head(viewer), "value", *(["fires at"] if setup else []), ""]
     return ["", viewer.style.title("Alerts"), *table(head, rows, viewer.style, "llr")]
+
+
+def _alert_marks(setup: Setup | None, alerts: Sequence[Alert]) -> list[str]:
+    """Of each trigger the greatest value, where a greater one would have fired too."""
+    noted: list[str] = []
+    for name, its in itertools.groupby(alerts, lambda it: it.trigger):
+        trigger = setup.trigger(name) if setup else None
+        is_up = trigger is not None and trigger.operator in (">", ">=")
+        noted += marks([it.value for it in its], is_up, False)
+    return noted
 
 
 def _lives(viewer: Viewer, lives: Sequence[Live]) -> list[str]:
@@ -234,6 +324,8 @@ def _order(report: Report) -> list[str]:
     counts: dict[int, int] = {}
     for it in report.order:
         counts[it.writer] = counts.get(it.writer, 0) + it.count
+    if len(counts) == 1:
+        return []
     shares = ", ".join(f"writer {at}: {grouped(counts[at])}" for at in sorted(counts))
     return ["", f"Loaded by {len(counts)} writers in {grouped(len(report.order))} stretches ({shares})"]
 
@@ -263,17 +355,20 @@ def _told(viewer: Viewer, told: Sequence[Told]) -> list[str]:
     return lines
 
 
+def bucket_text(setup: Setup | None, bucket: int) -> str:
+    """A bucket by its time, or by its number."""
+    if not setup:
+        return f"bucket {bucket}"
+    return f"{unit(setup.nanoseconds)} {utc(bucket * setup.nanoseconds)}"
+
+
 def told_lines(viewer: Viewer, it: Told) -> list[str]:
     """A line of a round of `watch`, and below a live one its table."""
     after = f"after {grouped(it.prefix)} {viewer.things}"
     if isinstance(it, RoundAlert):
         setup = viewer.setup
         trigger = setup.trigger(it.trigger) if setup else None
-        where = (
-            f"{unit(setup.nanoseconds)} {clock(it.bucket * setup.nanoseconds)}"
-            if setup
-            else f"bucket {it.bucket}"
-        )
+        where = bucket_text(setup, it.bucket)
         value = grouped(it.value)
         fires = f" (fires at {condition_text(setup, trigger)})" if setup and trigger else ""
         return [
@@ -300,6 +395,26 @@ def snapshot_lines(viewer: Viewer, snapshot: Snapshot) -> list[str]:
         lines += ["", first + _cut_text(viewer, host)]
         for ask in host.asks:
             lines += ask_lines(viewer, ask.name, ask.body)
+    return lines
+
+
+def merged_shown(viewer: Viewer, merged: Merged) -> list[str]:
+    """What `merge` wrote, as tables."""
+    lines = [f"{grouped(merged.records)} {viewer.things} of all reports"]
+    lines += [
+        f"{name} is of a capture that is cut off after {grouped(whole)}" for name, whole in merged.truncated
+    ]
+    for it in merged.asks:
+        if it.body is not None:
+            lines += ask_lines(viewer, it.name, it.body)
+            lines += [f"  Note: {it.note}."] if it.note else []
+            continue
+        lines += ["", f"{viewer.style.title(it.name)}  {heading(viewer, it.name, it.parts[0][1])}"]
+        for name, body in it.parts:
+            lines += [f"  in {name}{count_text(viewer, body)}", *body_lines(viewer, it.name, body)]
+    for name, its in itertools.groupby(merged.alerts, lambda it: it[0]):
+        first, *rest = _alerts(viewer, [alert for _, alert in its])[1:]
+        lines += ["", f"{first} of {name}", *rest]
     return lines
 
 

@@ -10,16 +10,17 @@ import subprocess
 import sys
 import time
 from collections import Counter, deque
-from dataclasses import dataclass, field
+from dataclasses import dataclass, field, replace
 from types import FrameType
-from typing import Any, Iterator, Sequence, TextIO
+from typing import Any, Callable, Iterator, Sequence, TextIO
 
 from .errors import Complaint
 from .explain import Case, explain
 from .exports import FORMAT, report_object, told_object
 from .matching import must_be_told, must_match
-from .metrics import EXACT, Families, add_body, write_at_once
+from .metrics import EXACT, Families, add_body, keys_of, write_at_once
 from .reports import (
+    Alert,
     Quad,
     Refusal,
     Report,
@@ -34,15 +35,21 @@ from .reports import (
     told_text,
 )
 from .setups import Setup
-from .show import Viewer, condition_text, report_lines, told_lines
-from .values import clock
+from .show import Viewer, bucket_text, condition_text, report_lines, told_lines
+from .values import utc
 
 MOST_LINE = 2**24
-MOST_WAITING = 1000
+MOST_WAITING = 65536
+# So many alerts are known at the end as shown.
+MOST_SHOWN = 10000
 PIECE = 65536
-# How often the metrics are written at most, and commands that run are looked at, in seconds.
+# How often the metrics are written at most, and what is timed is looked at, in seconds.
 REST, GLANCE = 1.0, 0.1
 STDERR = 2
+# What `confluo watch` ends with where it writes such a line, and what the stream then ends with too.
+STATUSES = {"words": 1, "setup": 2, "capture": 3, "full": 6, "nodes": 7, "file": 9}
+# No status of confluo: the stream ended without a final part or a refusal; it has troubles of its own.
+CUT_OFF, OWN_TROUBLE = 10, 11
 
 
 @dataclass(frozen=True)
@@ -89,7 +96,7 @@ class Incoming:
         try:
             text = line.decode("ascii")
         except UnicodeDecodeError as error:
-            raise Complaint(f"{self.source}: line {self.number} is no ASCII") from error
+            raise Complaint(f"{self.source}: line {self.number} is not ASCII") from error
         if self.final or not is_told(text):
             self.final.append(text)
             self._must_begin_an_end()
@@ -104,7 +111,7 @@ class Incoming:
         first = self.final[0]
         if not first.startswith("records ") and refusal_of(first) is None:
             shown = first if len(first) <= 76 else first[:73] + "..."
-            raise Complaint(f"{self.source}: line {self.number} is none that `watch` writes:\n    {shown}")
+            raise Complaint(f"{self.source}: line {self.number} is not one that `watch` writes:\n    {shown}")
 
     def end(self) -> Ending:
         """How the text ended, when no more comes."""
@@ -128,11 +135,24 @@ class Incoming:
         return Ending(report)
 
 
+@dataclass(frozen=True)
+class Held:
+    """Alerts of a trigger that were held back, up to the last of them; `is_over`: none came for so long."""
+
+    trigger: str
+    count: int
+    last: RoundAlert
+    is_over: bool
+
+
 class Output:
     """Where what comes is shown."""
 
     def told(self, it: Told) -> None:
         """A line of a round."""
+
+    def held(self, it: Held) -> None:
+        """Alerts that were held back, or the end of a trigger's state."""
 
     def pause(self) -> None:
         """All that has come was handed on; called at least each second while something is to be done."""
@@ -147,27 +167,90 @@ class Output:
         """Whether `pause` is to be called soon."""
         return False
 
+    def stop_at(self, stopper: Stopper) -> None:
+        """What ends a wait for room."""
 
-class WordLines(Output):
+
+class Writer:
+    """Text on its way out: it waits for room in a full pipe, or for the stop, whichever comes first."""
+
+    def __init__(self, out: TextIO) -> None:
+        self.out, self.waiting = out, bytearray()
+
+    def write(self, text: str) -> None:
+        """The text goes out with the next `flush`."""
+        self.waiting += text.encode()
+
+    def flush(self, stopper: Stopper | None = None) -> None:
+        """All that waits goes out. After a stop only what has room at once does."""
+        try:
+            fd = self.out.fileno()
+        except OSError:
+            self.out.write(self.waiting.decode())
+            self.out.flush()
+            self.waiting.clear()
+            return
+        while self.waiting:
+            stops = [stopper.fd] if stopper and not stopper.is_stopped else []
+            wait = 0 if stopper and stopper.is_stopped else None
+            _, ready, _ = select.select(stops, [fd], [], wait)
+            if ready:
+                # A pipe that has room takes so many bytes without waiting.
+                del self.waiting[: os.write(fd, self.waiting[: select.PIPE_BUF])]
+            elif stopper and stopper.is_stopped:
+                return
+
+
+class TextOutput(Output):
+    """Text on standard output."""
+
+    def __init__(self, out: TextIO) -> None:
+        self.writer, self.stopper = Writer(out), None
+
+    def stop_at(self, stopper: Stopper) -> None:
+        self.stopper = stopper
+
+    def pause(self) -> None:
+        self.writer.flush(self.stopper)
+
+
+class WordLines(TextOutput):
     """Lines for people."""
 
     def __init__(self, out: TextIO, viewer: Viewer, setup_path: str | None) -> None:
-        self.out, self.viewer, self.setup_path = out, viewer, setup_path
+        super().__init__(out)
+        self.viewer, self.setup_path = viewer, setup_path
+        self.shown = deque[Alert](maxlen=MOST_SHOWN)
 
     def _print(self, lines: Sequence[str]) -> None:
-        self.out.write("".join(f"{it}\n" for it in lines))
+        self.writer.write("".join(f"{it}\n" for it in lines))
 
     def told(self, it: Told) -> None:
+        if isinstance(it, RoundAlert):
+            self.shown.append(Alert(it.trigger, it.bucket, it.value))
         self._print(told_lines(self.viewer, it))
 
-    def pause(self) -> None:
-        self.out.flush()
+    def held(self, it: Held) -> None:
+        self._print([held_line(self.viewer, it)])
 
     def end(self, ending: Ending) -> None:
         if ending.report:
-            self._print(["", *report_lines(self.viewer, ending.report)])
+            # Its alerts were shown as they came; here are those whose value has changed since.
+            shown = set(self.shown)
+            report = replace(
+                ending.report, alerts=tuple(it for it in ending.report.alerts if it not in shown)
+            )
+            self._print(["", *report_lines(self.viewer, report)])
         if ending.refusal:
             self._print(["", *in_words(ending.refusal, self.setup_path)])
+
+
+def held_line(viewer: Viewer, it: Held) -> str:
+    """What became of the alerts of a trigger that were held back."""
+    trigger = viewer.style.title(it.trigger)
+    more = f"{it.count} more alert{'s' * (it.count != 1)} held back" if it.count else "no alert held back"
+    last = f", the last of {bucket_text(viewer.setup, it.last.bucket)}"
+    return f"{'over' if it.is_over else 'held'}  {trigger}  {more}{last}"
 
 
 def in_words(refusal: Refusal, setup_path: str | None) -> list[str]:
@@ -175,25 +258,28 @@ def in_words(refusal: Refusal, setup_path: str | None) -> list[str]:
     return explain(refusal, None, Case(setup_path, is_watch=True))
 
 
-class JsonLines(Output):
+class JsonLines(TextOutput):
     """An object a line."""
 
     def __init__(self, out: TextIO, setup: Setup | None, setup_path: str | None) -> None:
-        self.out, self.setup, self.setup_path = out, setup, setup_path
+        super().__init__(out)
+        self.setup, self.setup_path = setup, setup_path
 
     def told(self, it: Told) -> None:
-        self.out.write(json_line(it, self.setup))
+        self.writer.write(json_line(it, self.setup))
 
-    def pause(self) -> None:
-        self.out.flush()
+    def held(self, it: Held) -> None:
+        last = told_object(it.last, self.setup)
+        found = {"trigger": it.trigger, "count": it.count, "over": it.is_over, "last": last}
+        self.writer.write(json.dumps({"format": FORMAT, "kind": "held", **found}) + "\n")
 
     def end(self, ending: Ending) -> None:
         if ending.report:
-            self.out.write(json.dumps(report_object(ending.report, self.setup)) + "\n")
+            self.writer.write(json.dumps(report_object(ending.report, self.setup)) + "\n")
         if ending.refusal:
             words = in_words(ending.refusal, self.setup_path)
             found = {"format": FORMAT, "kind": "refusal", "line": ending.line, "words": words}
-            self.out.write(json.dumps(found) + "\n")
+            self.writer.write(json.dumps(found) + "\n")
 
 
 def json_line(it: Told, setup: Setup | None) -> str:
@@ -213,12 +299,13 @@ class Seen:
 
 
 class Textfile(Output):
-    """A file of metrics, which is replaced at once, at most once a second."""
+    """A file of metrics, which is replaced in one step, at most once a second."""
 
     def __init__(
         self, path: str, labels: dict[str, str], setup: Setup | None, commands: Commands | None
     ) -> None:
         self.path, self.labels, self.commands = path, labels, commands
+        self.keys = keys_of(setup)
         self.seen, self.running, self.ending = Seen(), 1, Ending()
         self.seen.alerts.update(dict.fromkeys((it.name for it in setup.triggers) if setup else (), 0))
         self.is_new, self.written = True, -REST
@@ -251,7 +338,8 @@ class Textfile(Output):
 
     def _write(self) -> None:
         try:
-            write_at_once(self.path, self.text())
+            # Nothing waits for the disk: after a crash the next start writes it anew.
+            write_at_once(self.path, self.text(), is_synced=False)
             self.is_new, self.written = False, time.monotonic()
         except Complaint as complaint:
             # A full disk now is no reason to lose the alerts to come.
@@ -262,7 +350,7 @@ class Textfile(Output):
         """The metrics; a number above 2^53, which no value holds exactly, is left out."""
         families, seen = Families(self.labels), self.seen
         families.add("confluo_stream_running", self.running)
-        families.add("confluo_stream_records", seen.records)
+        families.add("confluo_stream_records_total", seen.records)
         families.add("confluo_window_record", seen.first)
         for name, count in sorted(seen.alerts.items()):
             families.add("confluo_stream_alerts_total", count, trigger=name)
@@ -272,7 +360,7 @@ class Textfile(Output):
                     families.add(f"confluo_stream_alert_{part}", value, trigger=name)
         for name, live in sorted(seen.lives.items()):
             if _is_exact(live):
-                add_body(families, "live_", live.body, True, ask=name)
+                add_body(families, "live_", live.body, self.keys, ask=name)
         for result, count in sorted(self.commands.results.items() if self.commands else ()):
             families.add("confluo_stream_commands_total", count, result=result)
         if self.ending.refusal:
@@ -312,6 +400,7 @@ class Commands(Output):
             return
         if len(self.waiting) < MOST_WAITING:
             self.waiting.append(it)
+            self.pause()
             return
         if not self.passed_over:
             report_trouble(f"{MOST_WAITING} alerts wait for their commands: those that come now have none")
@@ -401,7 +490,7 @@ def environment_of(alert: RoundAlert, setup: Setup | None) -> dict[str, str]:
     }
     trigger = setup.trigger(alert.trigger) if setup else None
     if setup and trigger:
-        found["CONFLUO_TIME"] = clock(alert.bucket * setup.nanoseconds)
+        found["CONFLUO_TIME"] = utc(alert.bucket * setup.nanoseconds)
         found["CONFLUO_CONDITION"] = condition_text(setup, trigger)
     return found
 
@@ -411,8 +500,79 @@ def report_trouble(text: str) -> None:
     print(f"confluo-report: {text}", file=sys.stderr, flush=True)
 
 
+class Again(Output):
+    """Hands a trigger's alert on, and holds back further ones for so many seconds after it.
+
+    What was held back is told with the trigger's next alert behind these seconds, or once no alert has come for so long.
+    """
+
+    def __init__(
+        self, outputs: Sequence[Output], seconds: float, now: Callable[[], float] = time.monotonic
+    ) -> None:
+        self.outputs, self.seconds, self.now = outputs, seconds, now
+        self.states = dict[str, State]()
+
+    def told(self, it: Told) -> None:
+        if isinstance(it, RoundAlert) and self._is_held(it):
+            return
+        for output in self.outputs:
+            output.told(it)
+
+    def _is_held(self, alert: RoundAlert) -> bool:
+        now, state = self.now(), self.states.get(alert.trigger)
+        if state and now - state.told < self.seconds:
+            state.count, state.last, state.came = state.count + 1, alert, now
+            return True
+        if state and state.count:
+            self._tell(state, False)
+        self.states[alert.trigger] = State(now, now, alert)
+        return False
+
+    def _tell(self, state: State, is_over: bool) -> None:
+        for output in self.outputs:
+            output.held(Held(state.last.trigger, state.count, state.last, is_over))
+
+    def pause(self) -> None:
+        now = self.now()
+        for name, state in list(self.states.items()):
+            if now - state.came >= self.seconds:
+                self._tell(state, True)
+                del self.states[name]
+        for output in self.outputs:
+            output.pause()
+
+    def is_busy(self) -> bool:
+        return bool(self.states) or any(it.is_busy() for it in self.outputs)
+
+    def end(self, ending: Ending) -> None:
+        for state in self.states.values():
+            if state.count:
+                self._tell(state, False)
+        self.states.clear()
+        for output in self.outputs:
+            output.end(ending)
+
+    def close(self) -> None:
+        for output in self.outputs:
+            output.close()
+
+    def stop_at(self, stopper: Stopper) -> None:
+        for output in self.outputs:
+            output.stop_at(stopper)
+
+
+@dataclass
+class State:
+    """A trigger that was told of: when, when its last alert came, that alert, and how many were held back."""
+
+    told: float
+    came: float
+    last: RoundAlert
+    count: int = 0
+
+
 class Stopper:
-    """Turns SIGTERM and SIGINT into a byte that can be waited for."""
+    """Turns SIGTERM, SIGINT and the end of a command into a byte that can be waited for."""
 
     def __init__(self) -> None:
         self.fd, self._write = os.pipe()
@@ -423,11 +583,24 @@ class Stopper:
     def __enter__(self) -> Stopper:
         for number in (signal.SIGTERM, signal.SIGINT):
             self._before[number] = signal.signal(number, self._stop)
+        self._before[signal.SIGCHLD] = signal.signal(signal.SIGCHLD, self._wake)
         return self
 
     def _stop(self, number: int, frame: FrameType | None) -> None:
         self.is_stopped = True
-        os.write(self._write, b"!")
+        self._wake(number, frame)
+
+    def _wake(self, number: int, frame: FrameType | None) -> None:
+        try:
+            os.write(self._write, b"!")
+        except BlockingIOError:
+            # There are bytes enough to wake whoever waits.
+            pass
+
+    def drain(self) -> None:
+        """Takes the bytes that have come; after a stop they stay."""
+        if not self.is_stopped:
+            os.read(self.fd, PIECE)
 
     def __exit__(self, *_: object) -> None:
         for number, handler in self._before.items():
@@ -443,6 +616,8 @@ def _pump(fd: int, incoming: Incoming, outputs: Sequence[Output], stopper: Stopp
             it.pause()
         wait = GLANCE if any(it.is_busy() for it in outputs) else None
         ready, _, _ = select.select([fd, stopper.fd], [], [], wait)
+        if stopper.fd in ready:
+            stopper.drain()
         if fd not in ready or stopper.is_stopped:
             continue
         piece = os.read(fd, PIECE)
@@ -456,8 +631,10 @@ def _pump(fd: int, incoming: Incoming, outputs: Sequence[Output], stopper: Stopp
 
 def _drain(outputs: Sequence[Output], stopper: Stopper) -> None:
     """The commands of the alerts that wait are run too."""
-    while not stopper.is_stopped and any(it.is_busy() for it in outputs if isinstance(it, Commands)):
-        time.sleep(GLANCE / 2)
+    while not stopper.is_stopped and any(it.is_busy() for it in outputs):
+        ready, _, _ = select.select([stopper.fd], [], [], GLANCE)
+        if ready:
+            stopper.drain()
         for it in outputs:
             it.pause()
 
@@ -473,12 +650,14 @@ def _read(fd: int, incoming: Incoming, outputs: Sequence[Output], stopper: Stopp
     if ending.report:
         return 0
     report_trouble(f"{incoming.source}: the stream ended before its end: {ending.line or ending.why}")
-    return 1
+    return STATUSES[ending.refusal.kind] if ending.refusal else CUT_OFF
 
 
 def stream(fd: int, incoming: Incoming, outputs: Sequence[Output]) -> int:
-    """Reads to the end, or until SIGTERM; 1 where the stream ended without a final part."""
+    """Reads to the end, or until SIGTERM. Answers 0, the status of a refusal, or CUT_OFF where there was neither it nor a final part."""
     with Stopper() as stopper:
+        for it in outputs:
+            it.stop_at(stopper)
         try:
             return _read(fd, incoming, outputs, stopper)
         finally:

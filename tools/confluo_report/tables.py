@@ -58,9 +58,11 @@ def _marked(line: str, row: Sequence[str], style: Style) -> str:
 MOST, FEWEST = "most", "fewest"
 
 
-def marks(values: Sequence[int]) -> list[str]:
-    """For each value whether it is the greatest or the least, where they differ."""
-    high, low = max(values, default=0), min(values, default=0)
-    if high == low:
+def marks(values: Sequence[int], has_most: bool = True, has_fewest: bool = True) -> list[str]:
+    """For each value whether it is the one greatest or the one least, of three or more."""
+    if len(values) < 3:
         return [""] * len(values)
-    return [MOST if it == high else FEWEST if it == low else "" for it in values]
+    high, low = max(values), min(values)
+    most = high if has_most and values.count(high) == 1 else None
+    fewest = low if has_fewest and values.count(low) == 1 else None
+    return [MOST if it == most else FEWEST if it == fewest else "" for it in values]

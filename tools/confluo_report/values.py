@@ -6,10 +6,22 @@ import datetime
 import ipaddress
 
 from .expressions import Attribute
-from .setups import HALVES, SECOND, Setup
+from .setups import HALVES, SECOND, Lane, Setup
 
 ADDRESSES = ("src", "dst")
 PROTOCOLS = {1: "ICMP", 2: "IGMP", 6: "TCP", 17: "UDP", 47: "GRE", 50: "ESP", 58: "ICMPv6"}
+TYPES = {
+    0x0800: "IPv4",
+    0x0806: "ARP",
+    0x8100: "VLAN tag",
+    0x86DD: "IPv6",
+    0x8847: "MPLS",
+    0x8863: "PPPoE discovery",
+    0x8864: "PPPoE",
+    0x88A8: "service tag",
+    0x88CC: "LLDP",
+    0x88E5: "MACsec",
+}
 KINDS = {0: "not IPv4", 1: "other IPv4", 2: "TCP", 3: "UDP"}
 KINDS6 = KINDS | {0: "not IP", 1: "other IP"}
 UNITS = {
@@ -39,6 +51,12 @@ def clock(nanoseconds: int) -> str:
     while digits.endswith("000"):
         digits = digits[:-3]
     return f"{day:%Y-%m-%d %H:%M:%S}" + (f".{digits}" if digits else "")
+
+
+def utc(nanoseconds: int) -> str:
+    """The time with its zone, Z."""
+    text = clock(nanoseconds)
+    return text if text.endswith(" ns") else text + "Z"
 
 
 def packet_clock(nanoseconds: int) -> str:
@@ -83,6 +101,8 @@ def value_text(setup: Setup, attribute: Attribute, value: int) -> str:
         return dotted(value)
     if attribute.name == "ts":
         return clock(value)
+    if setup.is_packet and attribute.name == "etype" and value:
+        return f"{value:#06x} ({TYPES[value]})" if value in TYPES else f"{value:#06x}"
     if setup.is_packet and attribute.name == "proto" and value in PROTOCOLS:
         return f"{value} ({PROTOCOLS[value]})"
     if setup.is_packet and attribute.name == "kind" and value in KINDS:
@@ -90,6 +110,29 @@ def value_text(setup: Setup, attribute: Attribute, value: int) -> str:
     if setup.is_packet and attribute.name == "flags":
         return f"{value} ({flags_text(value)})" if value else "0"
     return str(value)
+
+
+def key_text(setup: Setup, lane: Lane, value: int) -> str:
+    """A key of a tally; an address of IPv6 is whole if the tally is over one value of its other half."""
+    assert lane.key is not None
+    attribute = setup.schema[lane.key]
+    other = _other_half(setup, lane, attribute.name) if setup.source == "packet6" else None
+    if other is None:
+        return value_text(setup, attribute, value)
+    high, low = (other, value) if attribute.name.endswith("_low") else (value, other)
+    return str(ipaddress.IPv6Address((high << 64) + low))
+
+
+def _other_half(setup: Setup, lane: Lane, name: str) -> int | None:
+    """The one value of the address's other half that the lane selects."""
+    if name not in HALVES:
+        return None
+    other = setup.place_of(name.removesuffix("_low") if name.endswith("_low") else f"{name}_low")
+    found: set[int | None] = set()
+    for atoms in lane.select.conjunctions:
+        its = {it.low for it in atoms if it.attribute == other and it.operator == "=="}
+        found.add(its.pop() if len(its) == 1 else None)  # type: ignore[arg-type]
+    return found.pop() if len(found) == 1 else None
 
 
 def flags_text(flags: int) -> str:

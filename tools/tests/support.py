@@ -118,6 +118,20 @@ def frame(src: int = 1, dport: int = 80, size: int = 54, flags: int = 16) -> byt
     return link + ip + tcp
 
 
+def frame6(flags: int = 2, dport: int = 443) -> bytes:
+    """An Ethernet frame of TCP from 2001:db8::1 to 2001:db8::2."""
+    ends = struct.pack(">QQQQ", 0x20010DB8 << 32, 1, 0x20010DB8 << 32, 2)
+    tcp = struct.pack(">HHIIBBHI", 40000, dport, 0, 0, 0x50, flags, 1024, 0)
+    ip = struct.pack(">IHBB", 6 << 28, len(tcp), 6, 64) + ends
+    return bytes.fromhex("020000000001 020000000002 86dd") + ip + tcp
+
+
+def tagged(tags: str = "8100000a81000014") -> bytes:
+    """The frame of `frame` behind two VLAN tags."""
+    data = frame()
+    return data[:12] + bytes.fromhex(tags) + data[12:]
+
+
 def pcap(frames: list[tuple[int, bytes]], link: int = 1, length: int | None = None) -> bytes:
     """A classic capture of frames with their seconds."""
     head = struct.pack("<IHHIIII", 0xA1B2C3D4, 2, 4, 0, 0, 65535, link)

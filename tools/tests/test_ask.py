@@ -2,12 +2,13 @@
 
 import os
 import pathlib
+import re
 import shutil
 import subprocess
 import tempfile
 import unittest
 
-from support import EXAMPLES, INCIDENTS, needs_program, pcap, tool
+from support import EXAMPLES, INCIDENTS, frame, frame6, needs_program, pcap, tagged, tool
 
 from confluo_report.ask import _raised, joined_marks
 from confluo_report.errors import Complaint
@@ -43,6 +44,15 @@ QUESTIONS = (
         ],
     ),
     (
+        "top 3 seconds by packets where dport==443",
+        [
+            "filter filter1 dport==443",
+            "aggregate aggregate1 filter1 len",
+            "trigger trigger1 aggregate1 count >= 0",
+            "ask q1 fired trigger1",
+        ],
+    ),
+    (
         "over 1000 in a second",
         [
             "filter filter1 *",
@@ -63,13 +73,15 @@ QUESTIONS = (
     ),
 )
 BAD = (
-    ("top src", "no question of the form"),
-    ("top src by bytes at once", "no question of the form"),
+    ("top src", "Cannot read `top src`. Expected:"),
+    ("top src by bytes at once", "Cannot read"),
     ("top 0 src by bytes", "from 1 to 1000"),
-    ("list", "no question of the form"),
-    ("per fortnight len", "no unit of time"),
-    ("between yesterday and 1700000001", "no time"),
-    ("which src", "no question"),
+    ("list", "Cannot read `list`. Expected:"),
+    ("find src6 2001:db8::1", "right:\n    list src6==0x20010db800000000 && src6_low==0x0000000000000001"),
+    ("find src 10.0.0.0/8", "right:\n    list src in 10.0.0.0/8"),
+    ("per fortnight len", "not a unit of time"),
+    ("between yesterday and 1700000001", "not a time"),
+    ("which src", "Questions begin with top, list"),
     ("over 18446744073709551616 in a second", "above 2^64"),
 )
 
@@ -79,14 +91,14 @@ class Questions(unittest.TestCase):
         for text, lines in QUESTIONS:
             setup = write_setup([parse_question(text)])
             said = [it for it in setup.splitlines() if not it.startswith("#")]
-            self.assertEqual(said, ["schema packet", *lines])
+            self.assertEqual(said, ["schema packet6", *lines])
             self.assertEqual(len(parse_setup(setup.encode()).asks), 1)
 
     def test_bad_questions(self) -> None:
         for text, why in BAD:
             with self.assertRaisesRegex(Complaint, why.replace("^", r"\^")):
                 write_setup([parse_question(text)])
-        with self.assertRaisesRegex(Complaint, "two calls"):
+        with self.assertRaisesRegex(Complaint, "different time units; ask them separately"):
             write_setup([parse_question("per second len"), parse_question("per minute len")])
 
     def test_lanes_are_shared(self) -> None:
@@ -110,7 +122,7 @@ class Questions(unittest.TestCase):
         self.assertEqual(ended.out.splitlines()[1:3], ["# top src by bytes", "tally tally1 src len *"])
         for words, why in (
             (("top scr by bytes",), "`top scr by bytes` cannot be asked: no attribute is called `scr`"),
-            (("list dport=53",), "`=` is none of"),
+            (("list dport=53",), "`=` is not one of"),
             (("nosuchfile", "list *"), "neither a file nor a question"),
             ((WEB,), "there is no question"),
         ):
@@ -136,8 +148,9 @@ class Questions(unittest.TestCase):
 
     def test_buckets_of_several_captures_are_added_up(self) -> None:
         parts = [Fired((Pair(1, 600), Pair(2, 5))), Fired((Pair(1, 500), Pair(3, 2000)))]
-        joined = joined_marks(parse_question("over 1000 in a second"), parts)
-        self.assertEqual(joined, [Pair(1, 1100), Pair(3, 2000)])
+        query = parse_question("over 1000 in a second")
+        joined = joined_marks(query, parts)
+        self.assertEqual([it for it in joined if query.fires(it.value)], [Pair(1, 1100), Pair(3, 2000)])
         joined = joined_marks(parse_question("per second greatest len"), parts)
         self.assertEqual(joined, [Pair(1, 600), Pair(2, 5), Pair(3, 2000)])
 
@@ -154,7 +167,7 @@ class Answers(unittest.TestCase):
             WEB, "top 2 src by bytes", "over 1000 in a second where dport==443", "list dport==53", "count"
         )
         self.assertTrue(out.startswith("16 packets\n"))
-        self.assertIn("  1.  10.0.0.5            3,478  most\n", out)
+        self.assertIn("  1.  10.0.0.5            3,478\n", out)
         self.assertIn("  2023-11-14 22:13:22       2,508\n", out)
         line = "       0  2023-11-14 22:13:20.000100  UDP 10.0.0.5:40001 > 10.0.0.53:53  71 bytes\n"
         self.assertIn(line, out)
@@ -186,7 +199,7 @@ class Answers(unittest.TestCase):
         self.assertTrue(out.startswith("230 packets of 2 captures\n"))
         self.assertIn("198.51.100.90                 50  fewest", out)
         self.assertNotIn("Note", out)
-        self.assertIn("  2023-11-22 13:00:06      14,120  most\n", out)
+        self.assertIn("  2023-11-22 13:00:06      14,120\n", out)
         self.assertIn("lost_before.pcap: 15\n", out)
         self.assertIn("lost_behind.pcap: 5\n", out)
 
@@ -211,13 +224,109 @@ class Answers(unittest.TestCase):
             path.write_text("ts,src,len\n1,10.0.0.1,60\n2,10.0.0.2,90\n3,10.0.0.1,70\n")
             schema = "records ts:u64,src:u32,len:u16"
             out = self.asked("--schema", schema, path, "top src by bytes", "list len>=70")
-        self.assertIn("  1.  10.0.0.1         130  most\n", out)
+        self.assertIn("  1.  10.0.0.1         130\n", out)
         self.assertIn("       1  ts=2 src=167772162 len=90\n", out)
+        ended = tool(
+            "ask", "--setup-only", "--schema", "records ts:u64,day:u8,len:u16", "top day by sum of len"
+        )
+        self.assertIn("tally tally1 day len *\n", ended.out)
+
+    def test_what_is_not_parsed_is_said(self) -> None:
+        frames = [
+            (1, frame()),
+            (1, frame6(flags=4)),
+            (2, frame6(flags=4)),
+            (2, frame(flags=4)),
+            (2, tagged()),
+        ]
+        with tempfile.TemporaryDirectory() as folder:
+            path = pathlib.Path(folder, "c")
+            path.write_bytes(pcap(frames))
+            out = self.asked(path, "count flags==4", "top src by packets")
+            self.assertIn("        3         202 ", out)
+            self.assertNotIn("not parsed", out)
+            self.assertIn(
+                "  0.0.0.0 stands for all packets that are not IPv4, with IPv6 among them: `src6` has", out
+            )
+            out = self.asked("--schema", "packet", path, "count flags==4")
+            self.assertIn("        1          54 ", out)
+            said = (
+                "2 of 5 packets are IPv6, and 1 has a second VLAN tag or a service tag: these were not parsed"
+            )
+            self.assertIn(f"{said} (addresses and ports are 0): leave out `--schema packet`\n", out)
+            out = self.asked("--schema", "packet", path, path, "count flags==4")
+            self.assertIn("4 of 10 packets are IPv6", out)
+            ended = tool("ask", "--schema", "packet", path, "count src6==1")
+            self.assertIn("`schema packet6` has it", ended.err)
+            many = [f"list dport=={it}" for it in range(32)]
+            self.assertIn("list dport==31: none", self.asked("--schema", "packet", path, *many))
+
+    def test_units_are_asked_in_setups_of_their_own(self) -> None:
+        words = ("per minute packets", "over 2000 in a second", "count", "top 1 second by bytes")
+        out = self.asked(WEB, *words)
+        self.assertEqual(re.findall(r"(?m)^(?:per|over|count|top).*$", out), list(words))
+        self.assertIn("  2023-11-14 22:13:00                 16\n", out)
+        self.assertIn("  2023-11-14 22:13:22       2,562\n", out)
+        ended = tool("ask", "--report", WEB, *words)
+        self.assertEqual((ended.status, ended.out), (2, ""))
+
+    def test_seconds_without_packets_are_said(self) -> None:
+        seconds = (10, 11, 14, 15, 15, 30)
+        with tempfile.TemporaryDirectory() as folder:
+            path = pathlib.Path(folder, "c")
+            path.write_bytes(pcap([(it, frame(dport=80 if it < 20 else 443)) for it in seconds]))
+            out = self.asked(path, "under 100 bytes in a second", "per second packets where dport==80")
+        self.assertIn(
+            "  16 seconds between the first and the last packet have no packet and are not listed: "
+            "1970-01-01 00:00:12 to 00:00:13, 1970-01-01 00:00:16 to 00:00:29\n",
+            out,
+        )
+        self.assertIn("  17 seconds between the first and the last packet have no packet with dport==80", out)
+        self.assertIn("1970-01-01 00:00:16 to 00:00:30\n", out)
+        self.assertNotIn("fewest", out)
+
+    def test_most_and_fewest_are_of_all_keys(self) -> None:
+        with tempfile.TemporaryDirectory() as folder:
+            path = pathlib.Path(folder, "c")
+            path.write_bytes(pcap([(it, frame(it)) for it in (1, 1, 1, 2, 2, 3)]))
+            out = self.asked(path, "top src by packets", "top 2 src by packets", "per second packets")
+            self.assertEqual(out.count("most"), 2)
+            self.assertIn("  3.  10.0.0.3                  1  fewest\n", out)
+            self.assertIn("  1970-01-01 00:00:03                  1  fewest\n", out)
+            path.write_bytes(pcap([(it, frame(it)) for it in (1, 1, 2, 3)]))
+            out = self.asked(path, "top src by packets")
+            self.assertIn("most", out)
+            self.assertNotIn("fewest", out)
+
+    def test_one_bad_question_does_not_stop_the_others(self) -> None:
+        ended = tool("ask", WEB, "count", "top talkers", "list dport==http and len>60")
+        self.assertEqual(ended.status, 2)
+        self.assertIn("count\n  packets", ended.out)
+        self.assertIn("Cannot read `top talkers`. Expected:", ended.err)
+        self.assertIn("means the same and is right:\n    list dport==80 && len>60\n", ended.err)
+
+    def test_found_packets_are_copied(self) -> None:
+        with tempfile.TemporaryDirectory() as folder:
+            path = pathlib.Path(folder, "found.pcap")
+            out = self.asked("--out", path, WEB, "count", "list dport==53", "per minute packets")
+            self.assertTrue(out.endswith(f"\n{path}: 2 of 16 packets\n"))
+            self.assertIn("list dport==53: 2\n", self.asked(path, "list dport==53", "count"))
+            for words in ((WEB, "count"), (WEB, "list *", "list len>1"), (WEB, WEB, "list *")):
+                ended = tool("ask", "--out", path, *words)
+                self.assertEqual((ended.status, ended.out), (2, ""))
+
+    def test_names_that_are_not_utf8_or_begin_with_a_dash(self) -> None:
+        with tempfile.TemporaryDirectory() as folder:
+            for name in (b"n\xff.pcap", b"-n.pcap"):
+                path = os.path.join(os.fsencode(folder), name)
+                with open(path, "wb") as file:
+                    file.write(WEB.read_bytes())
+                self.assertTrue(self.asked(os.fsdecode(path), "list dport==53").startswith("16 packets\n"))
 
     def test_what_is_refused_is_explained(self) -> None:
         ended = tool("ask", EXAMPLES / "web_and_dns.setup", "count")
         self.assertEqual((ended.status, ended.out), (2, ""))
-        self.assertIn("the file is no capture", ended.err)
+        self.assertIn("the file is not a capture", ended.err)
 
 
 if __name__ == "__main__":

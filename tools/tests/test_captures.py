@@ -71,6 +71,16 @@ class Captures(unittest.TestCase):
                 list(frames(io.BytesIO(bad), Reading(may_be_cut=True)))
             self.assertEqual((caught.exception.record, caught.exception.code), (record, code))
 
+    def test_a_watched_section_has_at_most_65536_interfaces(self) -> None:
+        full = BLOCKS + interface() * 65535 + enhanced(frame(), number=65535)
+        for more, code in ((section() + interface(), None), (interface(), 29)):
+            for reading in (Reading(), Reading(long=True), Reading(long=True, may_be_cut=True)):
+                try:
+                    self.assertEqual(len(list(frames(io.BytesIO(full + more), reading))), 1)
+                    self.assertTrue(code is None or not reading.long)
+                except CaptureFault as fault:
+                    self.assertEqual((fault.record, fault.code, fault.at), (1, code, len(full)))
+
     @staticmethod
     def cut_of(data: bytes) -> tuple[int, int]:
         """The number of whole records, and the code of the fault behind them, if there is one."""

@@ -21,7 +21,7 @@ from confluo_report.setups import SetupFault, parse_setup
 SETUP = "schema packet\nindex s src\nask a find s 10.0.0.1 10.0.0.2\n"
 WORDS = (
     ("", "no words"),
-    ("help", "`help` is no command"),
+    ("help", "`help` is not a command"),
     ("run c", "--setup is missing"),
     ("run --setup s", "the capture is missing"),
     ("run --setup s c d", "takes one capture"),
@@ -31,7 +31,7 @@ WORDS = (
     ("run --setup s --writers 16 c", "from 1 to 15"),
     ("run --setup s --nodes 65537 c", "from 0 to 65536"),
     ("run --setup s --nodes 01 c", "leading zero"),
-    ("run --setup s --seed 1 c", "no option of `run`"),
+    ("run --setup s --seed 1 c", "not an option of `run`"),
     ("run --setup s --segments 2 --capacity 5000 c", "multiple of 4096"),
     ("run --setup s --segments 17 c", "above 1048576"),
     ("synth --setup s --seed 1", "--count is missing"),
@@ -39,15 +39,15 @@ WORDS = (
     ("dump --setup s c", "it has --schema, --truncated"),
     ("dump --schema records c", "packet or packet6"),
     ("dump --schema packet6 --schema packet c", "given twice"),
-    ("run --setup s --schema packet6 c", "no option of `run`"),
+    ("run --setup s --schema packet6 c", "not an option of `run`"),
     ("dump --truncated=1 c", "takes no value"),
     ("run --truncated --setup s --truncated c", "given twice"),
-    ("synth --setup s --seed 1 --count 1 --truncated", "no option of `synth`"),
+    ("synth --setup s --seed 1 --count 1 --truncated", "not an option of `synth`"),
     ("snapshot --setup s c", "--after is missing"),
     ("snapshot --setup s --after 1 --turn 0 c", "from 1 to 4096"),
     ("snapshot --setup s --after 1" + " c" * 17, "at most 16 captures"),
 )
-LAWFUL = (
+VALID = (
     "run --setup=s --writers=2 c",
     "run c --setup s --live 3",
     "dump c",
@@ -84,7 +84,7 @@ class OfSetups(Folder):
             text = self.explained(stdin=f"setup: line 2 code {code}\n")
             self.assertIn(f"Rule {code}:", text)
 
-    def test_the_lines_that_would_be_right_are_lawful(self) -> None:
+    def test_the_lines_that_would_be_right_are_valid(self) -> None:
         for text, line, _, _ in SETUPS:
             with self.assertRaises(SetupFault) as caught:
                 parse_setup(text.encode())
@@ -122,7 +122,7 @@ class OfSetups(Folder):
 
 class OfCaptures(Folder):
     def test_every_code_has_a_reason(self) -> None:
-        self.assertEqual(set(REASONS), {*range(1, 7), *range(11, 16), *range(21, 29)})
+        self.assertEqual(set(REASONS), {*range(1, 7), *range(11, 16), *range(21, 30)})
         for code, reason in REASONS.items():
             self.assertIn(reason, self.explained(stdin=f"capture: record 0 code {code}\n"))
 
@@ -215,7 +215,7 @@ class OfRuns(Folder):
         for text, why in WORDS:
             with self.assertRaisesRegex(WordsFault, why):
                 parse_words(text.split())
-        for text in LAWFUL:
+        for text in VALID:
             parse_words(text.split())
 
     @needs_program
@@ -225,7 +225,7 @@ class OfRuns(Folder):
             self.assertEqual((ran.status, ran.out), (1, "words: not a command\n"), text)
             said = self.explained("--command", f"confluo {text}", stdin=ran.out)
             self.assertIn(why, said)
-        for text in LAWFUL:
+        for text in VALID:
             self.assertEqual(confluo(*text.split()).status, 9, text)
 
     @needs_program

@@ -2,6 +2,7 @@
 
 import csv
 import io
+import itertools
 import json
 import os
 import pathlib
@@ -16,7 +17,7 @@ from unittest import mock
 from support import CUT_REPORT, CUT_SNAPSHOT, EXAMPLES, REPORT, ROOT, SNAPSHOT, tool
 
 from confluo_report.errors import Complaint
-from confluo_report.metrics import label_of, write_at_once
+from confluo_report.metrics import labels_of, write_at_once
 
 TEXTS = [it.read_text() for it in sorted(EXAMPLES.rglob("*.report"))]
 TEXTS += [REPORT, SNAPSHOT, CUT_REPORT, CUT_SNAPSHOT]
@@ -131,7 +132,7 @@ class Exports(unittest.TestCase):
         self.assertEqual(from_json(read), FULL_LINK)
         tops = {it["name"]: it for it in read["asks"]}["most"]["keys"]
         self.assertEqual(tops[0], {"key": 3221226015, "value": 154428, "text": "192.0.2.31"})
-        self.assertEqual(read["alerts"][0]["time"], "2023-11-20 13:00:00")
+        self.assertEqual(read["alerts"][0]["time"], "2023-11-20 13:00:00Z")
 
     def test_json_meets_its_schema(self) -> None:
         try:
@@ -144,8 +145,37 @@ class Exports(unittest.TestCase):
             jsonschema.validate(json.loads(tool("json", stdin=text).out), schema)
         jsonschema.validate(json.loads(tool("json", "--setup", SETUP, stdin=FULL_LINK).out), schema)
 
-    def test_metrics_have_each_number_of_each_line(self) -> None:
+    def test_csv_with_a_setup_has_what_json_has(self) -> None:
+        read = json.loads(tool("json", "--setup", SETUP, stdin=FULL_LINK).out)
+        rows = list(csv.DictReader(io.StringIO(tool("csv", "--setup", SETUP, stdin=FULL_LINK).out)))
+        raw = tool("csv", "--setup", SETUP, "--raw", stdin=FULL_LINK).out
+        self.assertEqual(raw, tool("csv", stdin=FULL_LINK).out)
+        asks = {it["name"]: it for it in read["asks"]}
+        for name, kind, text in (("most", "keys", "text"), ("load", "marks", "time")):
+            keys = [it["key"] for it in rows if it["part"] == "ask" and it["name"] == name and it["key"]]
+            self.assertEqual(keys, [it[text] for it in asks[name][kind]])
+        alerts = [it["key"] for it in rows if it["part"] == "alert"]
+        self.assertEqual(alerts, [it["time"] for it in read["alerts"]])
+        self.assertIn(
+            "ask,,most,top,,0,192.0.2.31,154428\n", tool("csv", "--setup", SETUP, stdin=FULL_LINK).out
+        )
+
+    def test_metrics_have_no_lists_unless_asked(self) -> None:
         found = samples_of(tool("prometheus", stdin=REPORT).out)
+        for name in ("confluo_found_record", "confluo_order_records", "confluo_live_found_records"):
+            self.assertNotIn(name, found)
+        self.assertEqual([value for _, value in found["confluo_found_records"]], [4, 0, 2])
+        self.assertEqual(
+            tool("prometheus", "--brief", stdin=REPORT).out, tool("prometheus", stdin=REPORT).out
+        )
+
+    def test_keys_in_metrics_are_addresses_where_the_setup_says_so(self) -> None:
+        out = tool("prometheus", "--setup", SETUP, stdin=FULL_LINK).out
+        self.assertIn('confluo_top_value{ask="most",kind="top",key="192.0.2.31"} 154428\n', out)
+        self.assertNotIn("place=", out)
+
+    def test_metrics_have_each_number_of_each_line(self) -> None:
+        found = samples_of(tool("prometheus", "--lists", stdin=REPORT).out)
         self.assertEqual(found["confluo_records"], [({}, 4)])
         all_ = [int(it["record"]) for it, _ in found["confluo_found_record"] if it["ask"] == "all"]
         self.assertEqual(all_, [0, 1, 2, 3])
@@ -155,8 +185,8 @@ class Exports(unittest.TestCase):
         self.assertEqual(m, {"count": 3, "sum": 190, "least": 60, "greatest": 70})
         z = {it["part"]: value for it, value in found["confluo_measured"] if it["ask"] == "z"}
         self.assertEqual(z, {"count": 0, "sum": 0})
-        tops = [(int(it["place"]), int(it["key"]), value) for it, value in found["confluo_top_value"]]
-        self.assertEqual(tops, [(0, 167772161, 120), (1, 167772162, 70)])
+        tops = [(int(it["key"]), value) for it, value in found["confluo_top_value"]]
+        self.assertEqual(tops, [(167772161, 120), (167772162, 70)])
         alerts = [(it["trigger"], int(it["bucket"]), value) for it, value in found["confluo_alert_value"]]
         self.assertEqual(alerts, [("t", 1, 90), ("t", 2, 100)])
         live = [(it["line"], it["prefix"], it["record"]) for it, _ in found["confluo_live_found_record"]]
@@ -164,7 +194,7 @@ class Exports(unittest.TestCase):
         new = [(it["line"], it["bucket"], value) for it, value in found["confluo_new_fired_value"]]
         self.assertEqual(new, [("1", "1", 71), ("3", "2", 100)])
         order = [(int(it["writer"]), value) for it, value in found["confluo_order_records"]]
-        self.assertEqual(order, [(1, 1), (0, 2), (1, 1)])
+        self.assertEqual(order, [(0, 2), (1, 2)])
 
     def test_a_capture_that_is_cut_off_has_a_metric(self) -> None:
         for text, wanted in (
@@ -176,9 +206,11 @@ class Exports(unittest.TestCase):
         self.assertNotIn("truncated", tool("prometheus", stdin=REPORT).out)
 
     def test_no_two_samples_are_the_same(self) -> None:
-        for text in TEXTS:
+        for text, words in itertools.product(TEXTS, ((), ("--lists",), ("--label", "host=web1"))):
             lines = [
-                it.rsplit(" ", 1)[0] for it in tool("prometheus", stdin=text).out.splitlines() if it[0] != "#"
+                it.rsplit(" ", 1)[0]
+                for it in tool("prometheus", *words, stdin=text).out.splitlines()
+                if it[0] != "#"
             ]
             self.assertEqual(len(lines), len(set(lines)))
 
@@ -189,9 +221,19 @@ class Exports(unittest.TestCase):
             path.write_text(setup)
             out = tool("prometheus", "--setup", path, "--label", 'site=a"b', stdin="records 0\n").out
         self.assertIn('confluo_alerts{site="a\\"b",trigger="t"} 0\n', out)
-        for text in ("ask=x", "nolabel", "9x=1", "__x=1"):
+        for texts in (["nolabel"], ["9x=1"], ["__x=1"], ["a-b=1"], ["a=1", "a=2"]):
             with self.assertRaises(Complaint):
-                label_of(text)
+                labels_of(texts)
+
+    def test_any_legal_name_is_a_label(self) -> None:
+        out = tool(
+            "prometheus", "--label", "host=web1", "--label", "ask=x", "--label", "le=y", stdin=SNAPSHOT
+        ).out
+        self.assertIn('confluo_host_records{host="web1",ask="x",le="y",confluo_host="0"} 1\n', out)
+        self.assertIn(
+            'confluo_found_records{host="web1",ask="x",le="y",confluo_ask="big",confluo_host="1",kind="list"} 1\n',
+            out,
+        )
 
     def test_a_number_that_is_not_exact_is_refused(self) -> None:
         ended = tool("prometheus", stdin=f"records 1\nalert t 1 {2**53 + 1}\n")
@@ -201,7 +243,7 @@ class Exports(unittest.TestCase):
     @unittest.skipUnless(shutil.which("promtool"), "promtool is missing: apt-get install prometheus")
     def test_promtool_finds_nothing(self) -> None:
         for text in TEXTS:
-            out = tool("prometheus", "--label", "site=office", stdin=text).out
+            out = tool("prometheus", "--lists", "--label", "site=office", stdin=text).out
             done = subprocess.run(["promtool", "check", "metrics"], input=out.encode(), capture_output=True)
             self.assertEqual((done.returncode, done.stdout + done.stderr), (0, b""), out[:300])
 

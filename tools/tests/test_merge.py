@@ -1,5 +1,6 @@
 """Merged reports have exact sums, and tops that say from which place on they could be wrong."""
 
+import json
 import random
 import re
 import shutil
@@ -7,11 +8,11 @@ import subprocess
 import sys
 import unittest
 
-from support import EXAMPLES, INCIDENTS, SNAPSHOT, TOOLS, confluo, needs_program, tool
+from support import EXAMPLES, INCIDENTS, ROOT, SNAPSHOT, TOOLS, confluo, needs_program, tool
 
 from confluo_report.errors import Complaint
 from confluo_report.expressions import Expression
-from confluo_report.merge import joined_top, split_reports
+from confluo_report.merge import joined_top, merged_lines, parse_merged, split_reports
 from confluo_report.program import find_program
 from confluo_report.reports import Pair, Top
 from confluo_report.setups import Lane, Question
@@ -103,13 +104,77 @@ class Merges(unittest.TestCase):
     def test_sums_and_lists(self) -> None:
         self.assertEqual(self.merged(), (0, MERGED, ""))
 
+    def test_a_merged_report_is_read(self) -> None:
+        cut = MERGED + "truncated: record 4 (a b (c))\n"
+        for text in (
+            MERGED,
+            cut,
+            MERGED.replace("2=19\n", "2=19 (certain up to place 1 only: 1 report lists 2)\n"),
+        ):
+            self.assertEqual("\n".join(merged_lines(parse_merged(text, "m"))) + "\n", text)
+        with tempfile.TemporaryDirectory() as folder:
+            path = pathlib.Path(folder, "s")
+            path.write_text(SETUP)
+            ended = tool("show", "--setup", path, stdin=cut)
+            self.assertEqual((ended.status, ended.err), (0, ""))
+            for line in (
+                "7 packets of all reports",
+                "a b (c) is of a capture that is cut off after 4",
+                "all  packets with len>0",
+                "  in one: 2",
+                "        5          39          4            15",
+                "  1.  0.0.0.1          20",
+                "  t        1970-01-01 00:00:05     30  sum of len > 20, of all packets",
+            ):
+                self.assertIn(line, ended.out.splitlines())
+            read = json.loads(tool("json", "--setup", path, stdin=cut).out)
+            rows = tool("csv", "--setup", path, stdin=cut).out.splitlines()
+        self.assertEqual((read["kind"], read["records"]), ("merged", 7))
+        parts = [
+            {"report": "one", "kind": "list", "records": [0, 2]},
+            {"report": "two", "kind": "list", "records": [1]},
+        ]
+        self.assertEqual(read["asks"][0], {"name": "all", "parts": parts})
+        self.assertEqual(
+            read["asks"][1], {"name": "o", "kind": "total", "count": 5, "sum": 39, "least": 4, "greatest": 15}
+        )
+        self.assertEqual(read["truncated"], [{"report": "a b (c)", "records": 4}])
+        self.assertIn("ask,two,all,list,,0,1,", rows)
+        self.assertIn("alert,one,t,,,,1970-01-01 00:00:05,30", rows)
+        out = tool("prometheus", stdin=cut).out
+        self.assertIn('confluo_found_records{ask="all",report="one",kind="list"} 2\n', out)
+        for text, why in (
+            (MERGED.replace("sum 39", "sum x"), "line 4 cannot be read"),
+            (MERGED.replace("alert t 5 30 (one)", "alert t 5 30"), "line 9 cannot be read"),
+            (MERGED + "order\n", "line 10 cannot be read"),
+            (MERGED.replace("0 2 (one)", "0 7 (one)"), "below 7"),
+        ):
+            self.assertIn(why, tool("show", stdin=text).err)
+        self.assertIn("not a report of this setup", self.other(MERGED.replace("ask o", "ask p")))
+
+    def other(self, text: str) -> str:
+        """What is said of a merged report with the setup."""
+        with tempfile.TemporaryDirectory() as folder:
+            path = pathlib.Path(folder, "s")
+            path.write_text(SETUP)
+            return tool("show", "--setup", path, stdin=text).err
+
+    def test_json_of_a_merged_report_meets_its_schema(self) -> None:
+        try:
+            import jsonschema
+        except ImportError:
+            self.skipTest("the Python package jsonschema is missing: apt-get install python3-jsonschema")
+        schema = json.loads((ROOT / "docs" / "report.schema.json").read_text())
+        for text in (MERGED, MERGED + "truncated: record 4 (one)\n"):
+            jsonschema.validate(json.loads(tool("json", stdin=text).out), schema)
+
     def test_what_does_not_fit_is_refused(self) -> None:
         for setup, second, why in (
             ("", SECOND, "give the setup"),
             (SETUP, SECOND.replace("ask o", "ask p"), "different setups"),
             (SETUP, SECOND[:-20], "cut off"),
             (SETUP, SNAPSHOT, "a snapshot"),
-            (SETUP.replace("ask o total", "ask o2 total"), SECOND, "no report of this setup"),
+            (SETUP.replace("ask o total", "ask o2 total"), SECOND, "not a report of this setup"),
             (SETUP.replace("sum 3", "sum 1"), SECOND, "2 keys, and 1 were asked for"),
         ):
             status, out, err = self.merged(setup=setup, second=second)

@@ -77,10 +77,29 @@ class Packets(unittest.TestCase):
     def test_a_picture(self) -> None:
         report = INCIDENTS / "full_link.report"
         by_setup = self.plotted("--setup", INCIDENTS / "full_link.setup", report)
-        for text in ("load", "when", "alerts", "192.0.2.31", "seconds from 2023-11-20 13:00:00 UTC"):
+        axes = ("bytes in each second", ">bytes<", "seconds from 2023-11-20 13:00:00 UTC")
+        for text in ("load", "when", "alerts", "192.0.2.31", *axes):
             self.assertIn(text, by_setup)
-        self.assertEqual(by_setup, self.plotted("--dotted", report))
+        self.assertEqual(by_setup, self.plotted("--setup", INCIDENTS / "full_link.setup", report))
+        self.assertIn("192.0.2.31", self.plotted("--dotted", report))
         self.assertNotIn("192.0.2.31", self.plotted(report))
+
+    def test_at_most_forty_keys_unless_asked(self) -> None:
+        report = pathlib.Path(self.place.name, "r")
+        pairs = " ".join(f"{at}={2000 - at}" for at in range(100, 300))
+        report.write_text(f"records 9\nask h top 200: {pairs}\n")
+        few, all_ = self.plotted(report), self.plotted("--most", "0", report)
+        self.assertIn("the first 40 of 200", few)
+        for text, last in ((few, 139), (all_, 299)):
+            self.assertIn(f">{last}<", text)
+            self.assertNotIn(f">{last + 1}<", text)
+        self.assertIn(">120<", self.plotted("--most", "21", report))
+
+    def test_png(self) -> None:
+        self.plotted("--dotted", INCIDENTS / "full_link.report")
+        out = self.out.with_suffix(".png")
+        self.assertEqual(tool("plot", "--out", out, INCIDENTS / "full_link.report").status, 0)
+        self.assertEqual(out.read_bytes()[:8], b"\x89PNG\r\n\x1a\n")
 
     def test_a_picture_of_several(self) -> None:
         report = INCIDENTS / "full_link.report"

@@ -1,4 +1,4 @@
-"""Reports are read exactly, and what is no report is refused in words."""
+"""Reports are read exactly, and what is not a report is refused in words."""
 
 import re
 import unittest

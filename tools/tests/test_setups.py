@@ -42,7 +42,7 @@ class Setups(unittest.TestCase):
                 (fault.line, fault.fault.code, fault.fault.place), (line, code, place), text[-60:]
             )
 
-    def test_a_lawful_setup(self) -> None:
+    def test_a_valid_setup(self) -> None:
         for end in ("\n", "\r\n"):
             setup = parse_setup(EVERY.replace("\n", end).encode())
             self.assertEqual((setup.width, len(setup.lanes), len(setup.asks)), (1000, 4, 7))
@@ -92,7 +92,7 @@ class Setups(unittest.TestCase):
             ended = tool("check", good)
             self.assertEqual((ended.status, ended.err), (0, ""))
             self.assertIn(
-                "lawful: packets, by the microsecond; 1 index, 1 filter, 1 aggregate, 1 tally", ended.out
+                "valid: packets, by the microsecond; 1 index, 1 filter, 1 aggregate, 1 tally", ended.out
             )
             ended = tool("check", good, bad)
             self.assertEqual(ended.status, 1)

@@ -1,5 +1,7 @@
 """The text of `watch` as it comes: words, JSON lines, metrics and commands; and its whole text in the other commands."""
 
+import array
+import fcntl
 import json
 import os
 import pathlib
@@ -8,6 +10,7 @@ import select
 import signal
 import subprocess
 import tempfile
+import termios
 import time
 import unittest
 
@@ -15,8 +18,8 @@ from support import ROOT, TOOLS, tool
 
 from confluo_report.commands import WordsFault, parse_words
 from confluo_report.errors import Complaint
-from confluo_report.reports import lines_of, parse
-from confluo_report.stream import Incoming
+from confluo_report.reports import RoundAlert, lines_of, parse
+from confluo_report.stream import Again, Ending, Held, Incoming, Output
 from confluo_report.setups import parse_setup
 
 SETUP = """\
@@ -128,7 +131,7 @@ class Texts(Folder):
         self.assertIn("confluo_window_record 1\n", tool("prometheus", "--brief", stdin=NARROW).out)
         self.assertIn("not merged", tool("merge", self.file("a", ONE), self.file("b", ONE)).err)
         other = self.file("o", SETUP.replace("trigger t", "trigger u"))
-        self.assertIn("no report of this setup", tool("show", "--setup", other, stdin=ONE).err)
+        self.assertIn("not a report of this setup", tool("show", "--setup", other, stdin=ONE).err)
 
     def test_json_meets_its_schema(self) -> None:
         try:
@@ -138,8 +141,9 @@ class Texts(Folder):
         schema = json.loads((ROOT / "docs" / "report.schema.json").read_text())
         for text in WHOLE:
             jsonschema.validate(json.loads(tool("json", stdin=text).out), schema)
-        for text in (*WHOLE, FAULT):
-            for line in tool("stream", "--json", self.file("w", text)).out.splitlines():
+        twice = "alert t 1 60 @1\nalert t 2 60 @2\nrecords 2\nwindow 0\n"
+        for text in (*WHOLE, FAULT, twice):
+            for line in tool("stream", "--json", "--again", "60", self.file("w", text)).out.splitlines():
                 jsonschema.validate(json.loads(line), schema)
 
     def test_refusals(self) -> None:
@@ -152,16 +156,16 @@ class Texts(Folder):
         ):
             self.assertIn(said, tool("explain", stdin=f"alert t 1 60 @1\n{line}\n").out)
         out = tool("explain", "--status", "8", "--command", "confluo watch --setup s /dev/stdin").out
-        self.assertIn("confluo watch --setup questions.setup --capacity 4096", out)
+        self.assertIn("confluo watch --setup s --capacity 4096", out)
         records = self.file("r", "schema records ts:u64\n")
         out = tool("explain", "--setup", records, stdin="setup: line 1 code 4\n").out
-        self.assertIn("`watch` and `synth` are over packets alone", out)
+        self.assertIn("`watch` and `synth` are only over packets", out)
 
     def test_words(self) -> None:
         for text, why in (
             ("watch --setup s --segments 17 c", "above 1048576"),
             ("watch --setup s --every 4294967296 c", "from 0 to 4294967295"),
-            ("watch --setup s --writers 1 c", "no option of `watch`"),
+            ("watch --setup s --writers 1 c", "not an option of `watch`"),
             ("watch c", "--setup is missing"),
         ):
             with self.assertRaisesRegex(WordsFault, re.escape(why)):
@@ -182,16 +186,19 @@ class Streams(Folder):
         self.assertEqual(
             out.splitlines()[:6],
             [
-                f"alert t  second 1970-01-01 00:00:01: 60 {fires}, after 1 packets",
+                f"alert t  second 1970-01-01 00:00:01Z: 60 {fires}, after 1 packets",
                 "live q  packets with len>=1: 1, after 1 packets",
                 "  0",
-                f"alert t  second 1970-01-01 00:00:02: 100 {fires}, after 2 packets",
+                f"alert t  second 1970-01-01 00:00:02Z: 100 {fires}, after 2 packets",
                 "live q  packets with len>=1: 1, after 2 packets on those from number 1",
                 "  1",
             ],
         )
         self.assertIn("2 packets; the answers are on the last 1, from number 1\n", out)
         self.assertIn("alert t  bucket 1: 60, after 2 packets\n", self.stream(ONE)[1])
+        self.assertNotIn("Alerts", out)
+        grown = self.stream(ONE.replace("alert t 2 100\n", "alert t 2 120\n"))[1]
+        self.assertIn("Alerts\n  trigger  bucket  value\n  t        2         120\n", grown)
         self.assertEqual(self.stream(ONE, "--quiet"), (0, "", ""))
 
     def test_json_lines(self) -> None:
@@ -199,7 +206,7 @@ class Streams(Folder):
         found = [json.loads(it) for it in out.splitlines()]
         self.assertEqual([it["kind"] for it in found], ["alert", "live", "alert", "live", "report"])
         alert = {"kind": "alert", "trigger": "t", "bucket": 1, "value": 60, "prefix": 1}
-        alert |= {"time": "1970-01-01 00:00:01"}
+        alert |= {"time": "1970-01-01 00:00:01Z"}
         self.assertEqual(found[0], {"format": "confluo-report/1", **alert})
         live = {"kind": "live", "name": "q", "first": 0, "prefix": 2}
         answer = {"kind": "list", "records": [0, 1]}
@@ -209,17 +216,21 @@ class Streams(Folder):
         for text, status, said in (
             (CUT, 0, ""),
             (EMPTY, 0, ""),
-            (FAULT, 1, "ended before its end: capture: record 1 code 5"),
-            ("", 1, "there is no final part"),
-            ("alert t 1 60 @1\n", 1, "there is no final part"),
-            ("alert t 1 60 @1\nali", 1, "the last line is cut off"),
-            (ONE[: ONE.index("ask")], 1, "the final part is cut off"),
-            ("setup: line 2 code 10\n", 1, "setup: line 2 code 10"),
-            ("alert u 1 60 @1\n", 2, "no trigger `u`"),
-            ("live t @0..1 list 1: 0\n", 2, "no `t list` is live"),
-            ("nothing\n", 2, "line 1 is none that `watch` writes"),
-            ("alert t 1 60 @1\n\xff\n", 2, "line 2 is no ASCII"),
-            ("records 2\nask q list 0:\norder 0*2\n", 2, "a report of `confluo run`"),
+            (FAULT, 3, "ended before its end: capture: record 1 code 5"),
+            ("", 10, "there is no final part"),
+            ("alert t 1 60 @1\n", 10, "there is no final part"),
+            ("alert t 1 60 @1\nali", 10, "the last line is cut off"),
+            (ONE[: ONE.index("ask")], 10, "the final part is cut off"),
+            ("words: not a command\n", 1, "words: not a command"),
+            ("setup: line 2 code 10\n", 2, "setup: line 2 code 10"),
+            ("full: more than 4294967295 records\n", 6, "full: more"),
+            ("alert t 1 60 @1\nnodes: more than 29 nodes\n", 7, "nodes: more than 29 nodes"),
+            ("file: none of that name\n", 9, "file: none"),
+            ("alert u 1 60 @1\n", 11, "no trigger `u`"),
+            ("live t @0..1 list 1: 0\n", 11, "no `t list` is live"),
+            ("nothing\n", 11, "line 1 is not one that `watch` writes"),
+            ("alert t 1 60 @1\n\xff\n", 11, "line 2 is not ASCII"),
+            ("records 2\nask q list 0:\norder 0*2\n", 11, "a report of `confluo run`"),
         ):
             with self.subTest(text=text):
                 found = self.stream(text, "--setup", self.setup, "--quiet")
@@ -245,7 +256,8 @@ class Streams(Folder):
         for line in (
             "# TYPE confluo_stream_alerts_total counter",
             'confluo_stream_running{site="a"} 0',
-            'confluo_stream_records{site="a"} 2',
+            "# TYPE confluo_stream_records_total counter",
+            'confluo_stream_records_total{site="a"} 2',
             'confluo_window_record{site="a"} 1',
             'confluo_stream_alerts_total{site="a",trigger="t"} 2',
             'confluo_stream_alert_bucket{site="a",trigger="t"} 2',
@@ -276,6 +288,53 @@ class Streams(Folder):
                 ["promtool", "check", "metrics"], input=path.read_bytes(), capture_output=True
             )
             self.assertEqual((done.returncode, done.stdout + done.stderr), (0, b""))
+
+
+class Shown(Output):
+    """Notes what is handed on."""
+
+    def __init__(self) -> None:
+        self.found = list[object]()
+
+    def told(self, it: RoundAlert) -> None:
+        self.found.append(it.bucket)
+
+    def held(self, it: Held) -> None:
+        self.found.append((it.trigger, it.count, it.last.bucket, it.is_over))
+
+
+class Holding(unittest.TestCase):
+    """A trigger that was told is held back for some seconds."""
+
+    def test_alerts_are_held_back_and_counted(self) -> None:
+        time_now, shown = [0.0], Shown()
+        again = Again([shown], 10, lambda: time_now[0])
+        # When, the trigger and the bucket of an alert; none: only the time passes.
+        for now, trigger, bucket in (
+            (0, "t", 1),
+            (3, "t", 2),
+            (4, "u", 3),
+            (9, "t", 4),
+            (10, "t", 5),
+            (13, None, 0),
+            (14, None, 0),
+            (20, None, 0),
+        ):
+            time_now[0] = now
+            if trigger:
+                again.told(RoundAlert(trigger, bucket, 60, bucket))
+            again.pause()
+        told = [1, 3, ("t", 2, 4, False), 5, ("u", 0, 3, True), ("t", 0, 5, True)]
+        self.assertEqual(shown.found, told)
+        self.assertFalse(again.is_busy())
+
+    def test_what_is_held_at_the_end_is_told(self) -> None:
+        shown = Shown()
+        again = Again([shown], 10, lambda: 0.0)
+        for bucket in (1, 2):
+            again.told(RoundAlert("t", bucket, 60, bucket))
+        again.end(Ending())
+        self.assertEqual(shown.found, [1, ("t", 1, 2, False)])
 
 
 class AsAProcess(Folder):
@@ -316,9 +375,9 @@ class AsAProcess(Folder):
         path = pathlib.Path(self.place.name, "m.prom")
         process = self.start("--setup", self.setup, "--prometheus", str(path))
         self.send(process, "alert t 1 60 @1\nalert t 2")
-        self.assertIn("second 1970-01-01 00:00:01: 60", self.line(process))
+        self.assertIn("second 1970-01-01 00:00:01Z: 60", self.line(process))
         self.send(process, " 100 @2\n")
-        self.assertIn("second 1970-01-01 00:00:02: 100", self.line(process))
+        self.assertIn("second 1970-01-01 00:00:02Z: 100", self.line(process))
         self.until(lambda: path.exists() and 'alerts_total{trigger="t"} 2' in path.read_text())
         self.assertIn("running 1", path.read_text())
         process.send_signal(signal.SIGTERM)
@@ -340,7 +399,7 @@ class AsAProcess(Folder):
         _, err = process.communicate(ONE.encode(), 30)
         self.assertEqual((process.returncode, err), (0, b""))
         lines = out.read_text().splitlines()
-        self.assertEqual(lines[::2], ["t 1 60 2 1970-01-01 00:00:01", "t 2 100 2 1970-01-01 00:00:02"])
+        self.assertEqual(lines[::2], ["t 1 60 2 1970-01-01 00:00:01Z", "t 2 100 2 1970-01-01 00:00:02Z"])
         self.assertEqual([json.loads(it)["value"] for it in lines[1::2]], [60, 100])
 
     def test_commands_that_fail_or_stay(self) -> None:
@@ -377,14 +436,36 @@ class AsAProcess(Folder):
         self.assertEqual(process.wait(20), 0)
         return process.stderr.read().decode()
 
+    def test_sigterm_ends_it_while_nobody_reads(self) -> None:
+        process = self.start("--setup", self.setup)
+        self.send(process, "".join(f"alert t {at} 60 @{at}\n" for at in range(1, 3000)))
+        # What it has read makes more text than a pipe holds.
+        self.until(lambda: self.is_waiting(process))
+        process.send_signal(signal.SIGTERM)
+        self.assertEqual(process.wait(20), 0)
+
+    def is_waiting(self, process: subprocess.Popen) -> bool:
+        """Whether as much waits to be read as a pipe holds, less one write."""
+        found = array.array("i", [0])
+        fcntl.ioctl(process.stdout, termios.FIONREAD, found)
+        return found[0] > 65536 - 2 * select.PIPE_BUF
+
+    def test_a_burst_has_all_its_commands(self) -> None:
+        path = pathlib.Path(self.place.name, "m.prom")
+        process = self.start("--quiet", "--exec", "true", "--prometheus", str(path))
+        text = "".join(f"alert t {at} 60 @{at}\n" for at in range(1, 1201))
+        _, err = process.communicate(f"{text}records 1200\nwindow 0\n".encode(), 120)
+        self.assertEqual((process.returncode, err), (0, b""))
+        self.assertIn('commands_total{result="done"} 1200\n', path.read_text())
+
     def test_too_many_alerts_for_their_commands(self) -> None:
-        text = "".join(f"alert t {at} 60 @{at}\n" for at in range(1, 2000))
+        text = "".join(f"alert t {at} 60 @{at}\n" for at in range(1, 66000))
         words = ("--exec", "exec sleep 600", "--exec-limit", "1", "--exec-seconds", "600")
         process = self.start("--quiet", *words)
         self.send(process, text)
         ready, _, _ = select.select([process.stderr], [], [], 20)
         self.assertTrue(ready)
-        self.assertIn(b"1000 alerts wait for their commands: those", process.stderr.readline())
+        self.assertIn(b"65536 alerts wait for their commands: those", process.stderr.readline())
         self.assertIn("alerts have had no command", self.stopped(process, 1))
 
 

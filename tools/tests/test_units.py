@@ -1,7 +1,9 @@
 """The systemd units are well formed, and give no more rights than they need."""
 
+import os
 import pathlib
 import re
+import shlex
 import shutil
 import subprocess
 import tempfile
@@ -9,10 +11,14 @@ import unittest
 
 from support import TOOLS
 
+from confluo_report.stream import STATUSES
+
 ANALYZE = shutil.which("systemd-analyze")
 UNITS = sorted((TOOLS / "systemd").glob("*.service"))
 # What systemd-analyze counts against a unit at most, in tenths: 0 is the least.
-EXPOSURES = {"confluo-capture@.service": 20, "confluo-watch@.service": 5}
+EXPOSURES = {"confluo-capture@.service": 20, "confluo-watch@.service": 6}
+# Refusals that come again at each start.
+STAYING = ("words", "setup", "capture", "nodes")
 
 
 class Units(unittest.TestCase):
@@ -35,11 +41,33 @@ class Units(unittest.TestCase):
         self.assertEqual([it.name for it in UNITS], list(EXPOSURES))
         capture, watch = (re.findall(r"(?m)^(\w+=.*)$", it.read_text()) for it in UNITS)
         self.assertIn("CapabilityBoundingSet=CAP_NET_RAW", capture)
-        for line in ("CapabilityBoundingSet=", "PrivateNetwork=yes", "RestrictAddressFamilies=none"):
+        for line in ("CapabilityBoundingSet=", "PrivateNetwork=yes", "RestrictAddressFamilies=AF_UNIX"):
             self.assertIn(line, watch)
         for line in ("DynamicUser=yes", "ProtectSystem=strict", "NoNewPrivileges=yes", "Restart=always"):
             self.assertIn(line, capture)
             self.assertIn(line, watch)
+
+    def test_the_watch_has_its_words(self) -> None:
+        """The line of the unit, run by a shell over programs that say which words they have."""
+        folder = pathlib.Path(self.place.name)
+        for name in ("confluo", "confluo-report"):
+            (folder / name).write_text(f'#!/bin/sh\nprintf "%s|" "$0" "$@" >> {folder}/words\n')
+            (folder / name).chmod(0o755)
+        text = UNITS[1].read_text().replace("@BIN@", str(folder)).replace("\\\n", "")
+        line = next(it for it in text.splitlines() if it.startswith("ExecStart="))
+        words = shlex.split(line.removeprefix("ExecStart=").replace("$$", "$").replace("%i", "br-12"))
+        options = {"WATCH": "--segments 8", "STREAM": "--exec 'mail -s \"two words\" root'"}
+        subprocess.run(words, env=os.environ | options, check=True, timeout=60)
+        for found in (
+            "watch|--setup|/etc/confluo/br-12.setup|--segments|8|/run/confluo/br-12/packets.pcap|",
+            '|--label|interface=br-12|--exec|mail -s "two words" root|',
+        ):
+            self.assertIn(found, (folder / "words").read_text())
+
+    def test_a_refusal_that_stays_is_not_tried_again(self) -> None:
+        found = re.search(r"(?m)^RestartPreventExitStatus=(.*)$", UNITS[1].read_text())
+        assert found
+        self.assertEqual({int(it) for it in found.group(1).split()}, {STATUSES[it] for it in STAYING})
 
     @unittest.skipUnless(ANALYZE, "systemd-analyze is missing: apt-get install systemd")
     def test_systemd_reads_them(self) -> None:

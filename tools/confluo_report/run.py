@@ -1,0 +1,102 @@
+"""`confluo-report run ..`: confluo's own run, with its report on standard output and a refusal in words on standard error."""
+
+from __future__ import annotations
+
+import errno
+import os
+import shutil
+import subprocess
+import sys
+import tempfile
+from typing import BinaryIO, Sequence
+
+from .captures import opened, packer_of
+from .commands import WordsFault, parse_words
+from .errors import Complaint
+from .explain import Case, explain
+from .program import is_utf8, program
+from .reports import refusal_of
+
+CANNOT_WRITE = 5
+HELP = """\
+usage: confluo-report run --setup FILE [--writers W] [--capacity N] [--segments G] [--nodes M] [--live R]
+                          [--truncated] CAPTURE
+
+Runs `confluo run` with these words. The report goes to standard output. If the run is refused, nothing goes there: standard error
+says why in words, and the status is confluo's. The capture may be packed by gzip or zstd, and - is standard input.
+`confluo-report explain --help` is about runs that were refused before; confluo(1) has the options.
+"""
+
+
+def _run(words: Sequence[str], stdin: BinaryIO | int, out: BinaryIO) -> int:
+    """The status; what is printed goes to the file."""
+    named = program()
+    try:
+        return subprocess.run([named, *map(os.fsencode, words)], stdin=stdin, stdout=out).returncode
+    except OSError as error:
+        raise Complaint(f"{named} cannot be run: {error.strerror}") from error
+
+
+def _stdin() -> int:
+    return sys.stdin.fileno() if sys.stdin else subprocess.DEVNULL
+
+
+def _capture_of(words: Sequence[str]) -> str | None:
+    """The capture, where it must come through a pipe."""
+    try:
+        captures = parse_words(["run", *words]).captures
+    except WordsFault:
+        return None
+    path = captures[0]
+    if path != "-" and (not os.path.isfile(path) or is_utf8(path) and packer_of(path) is None):
+        return None
+    return path
+
+
+def _run_over(words: Sequence[str], out: BinaryIO) -> int:
+    path = _capture_of(words)
+    if path is None:
+        return _run(["run", *words], _stdin(), out)
+    piped = ["run", *("/dev/stdin" if it == path else it for it in words)]
+    if path == "-":
+        return _run(piped, _stdin(), out)
+    with opened(path) as pipe:
+        return _run(piped, pipe, out)
+
+
+def run(words: Sequence[str]) -> int:
+    """Runs confluo with the words, and answers its status."""
+    with tempfile.TemporaryFile(prefix="confluo-report-") as out:
+        status = _run_over(words, out)  # type: ignore[arg-type]
+        out.seek(0)
+        if status == 0:
+            return _copied(out)  # type: ignore[arg-type]
+        text = out.read().decode("ascii", "replace")
+    if status < 0:
+        print(f"confluo-report: confluo was ended by signal {-status}", file=sys.stderr)
+        return 128 - status
+    print("\n".join(_said(status, text, words)), file=sys.stderr)
+    return status
+
+
+def _copied(out: BinaryIO) -> int:
+    """0, or confluo's status where standard output cannot be written."""
+    try:
+        shutil.copyfileobj(out, sys.stdout.buffer)
+        sys.stdout.buffer.flush()
+    except OSError as error:
+        os.dup2(os.open(os.devnull, os.O_WRONLY), sys.stdout.fileno())
+        if error.errno != errno.EPIPE:
+            print(f"confluo-report: standard output: {error.strerror}", file=sys.stderr)
+        return CANNOT_WRITE
+    return 0
+
+
+def _said(status: int, text: str, words: Sequence[str]) -> list[str]:
+    """The refusal in words, or as it is where that fails."""
+    refusal = refusal_of(text)
+    case = Case(words=["run", *words])
+    try:
+        return explain(refusal, None if refusal else status, case)
+    except Complaint as complaint:
+        return [text.strip() or f"confluo ended with status {status}", f"confluo-report: {complaint}"]
