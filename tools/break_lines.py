@@ -6,7 +6,7 @@
 A line of more than 160 columns, or a clause of more than 200, goes on below, where rt fmt then indents it: before an arrow, a
 product, a sum or a step of an equation, behind a comma, a semicolon, `in` or `=`, or before an argument in parentheses, as far out
 as one fits; if there is no such place, before any argument. Comments are broken between words; a line of `use` and text between
-quotes stay. With --check nothing is written: ends with 1 if a line would be broken. Needs the standard library alone.
+quotes stay. With --check nothing is written: ends with 1 if a line would be broken. Needs only the standard library.
 """
 
 import pathlib
@@ -23,7 +23,7 @@ BEHIND = re.compile(r"(?<=[,;]) (?=\S)|(?<= in) (?=\S)|(?<= =) (?=\S)")
 ARGUMENT = re.compile(r" (?=[(])")
 # A name behind a name or a closed bracket, which is an argument if neither is a word of the language or an operator.
 PLAIN = re.compile(r"(?<=[\w)\]}']) (?=[\w])")
-WORDS = {"in", "let", "if", "then", "else", "where", "record", "rw", "at", "of", "pub", "abbrev", "ghost", "ensures", "requires"}
+WORDS = set("in let if then else where record rw at of pub abbrev ghost ensures requires".split())
 QUOTED = re.compile(r'"(?:[^"\\]|\\.)*"')
 
 

@@ -4,7 +4,7 @@
     tools/crate_table.py [--check]
 
 The comment lines of crates.txt name the layers. With --check nothing is written: ends with 1 if the table differs, or if a
-crate stands before one of its own layer that it needs. Needs the standard library alone.
+crate stands before one of its own layer that it needs. Needs only the standard library.
 """
 
 import pathlib

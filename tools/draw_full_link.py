@@ -4,7 +4,7 @@
     tools/draw_full_link.py [OUT]
 
 OUT is the file to write; docs/full_link.svg by default. The picture has the bytes of each second with the threshold of the
-trigger `full`, and the three senders that sent most. The same report gives the same file. Needs the standard library alone.
+trigger `full`, and the three senders that sent most. The same report gives the same file. Needs only the standard library.
 """
 
 import datetime
