@@ -13,8 +13,8 @@ for sanitizer in none address,undefined thread; do
     done
 done
 for words in "--writers 0" "--lanes 17" "--batch" "--records -1" "--other 1"; do
-    # shellcheck disable=SC2086
     status=0
+    # shellcheck disable=SC2086
     "$folder/twin" $words 2> /dev/null || status=$?
     [ "$status" -eq 2 ] || { echo "check-twin: status $status for: $words"; exit 1; }
 done

@@ -5,10 +5,10 @@ Run it from anywhere after `make run` has built the program:
 
     bench/damage.py [CASES] [SEED]
 
-It draws CASES cases (1,000 where it is not said): files with flipped bits, cut, inserted, repeated and overwritten bytes, and
+It draws CASES cases (default 1,000): files with flipped bits, cut, inserted, repeated and overwritten bytes, and
 lengths and counts set to extremes. Each is given to the program. It fails on a signal, on a status above 9, on a text that is
 not the status's, on a run of over 10 seconds, and where a dump, of either capture format, is not the one that plain.py reads
-there. `dump --schema packet6` and `--truncated` are drawn too if the program takes them. It is no part of the gate.
+there. `dump --schema packet6` and `--truncated` are drawn too if the program takes them. It is not part of the gate.
 """
 
 import concurrent.futures

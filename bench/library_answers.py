@@ -3,10 +3,10 @@
 
     bench/library_answers.py [CASES [FIRST]]
 
-Each capture under examples/ and CASES drawn ones (1,000 where it is not said), seeded from FIRST (1) on, go into a log of the
+Each capture under examples/ and CASES drawn ones (default 1,000), seeded from FIRST (1) on, go into a log of the
 Python package by one to four threads, one frame or several in a call. The final part of the report is made of the answers,
-whose names, rows and triggers the library tells, and must be what bench/plain_answers.py finds; so must be what `confluo run`
-prints, if CONFLUO names the program or it is built. CONFLUO_LIBRARY may name the shared object. It is no part of the gate;
+whose names, rows and triggers the library gives, and must be what bench/plain_answers.py finds; so must be what `confluo run`
+prints, if CONFLUO names the program or it is built. CONFLUO_LIBRARY may name the shared object. It is not part of the gate;
 `make check-bindings` runs a few cases.
 """
 

@@ -4,9 +4,9 @@
     bench/library_speed.py [--rounds N] [--threads 1,2,4]
 
 It builds bench/library_speed.c against bindings/out/libconfluo.a, bench/plain_twin.c, and, if there is a rustc, bench/plain_twin.rs, and runs them N
-times (9 where it is not said) in turn, so that other work on the machine meets all of them. The tables have medians in thousands a second,
+times (default 9) in turn, so that other work on the machine meets all of them. The tables have medians in thousands a second,
 in Markdown: 65,536 records appended as rows of 20 numbers with no and four indexes, and as frames under the usual setup, one or 256 in a call;
-and answers about them. It is no part of the gate.
+and answers about them. It is not part of the gate.
 """
 
 import argparse

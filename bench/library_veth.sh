@@ -3,15 +3,15 @@
 #
 #     bench/library_veth.sh [PACKETS]
 #
-# It sends a quiet second, then PACKETS (100,000 where it is not said) as fast as they go, then a second again. The frames that the monitor
+# It sends a quiet second, then PACKETS (default 60,000, which one log takes) as fast as they go, then a second again. The frames that the monitor
 # reads must be those that a tcpdump beside it captures, none dropped, and its last report what `confluo run` prints about tcpdump's file; CONFLUO
 # may name the program, and without one a plain walk takes its place. MONITOR may name another build of the monitor, MONITOR_WORDS its
-# words. It ends within 90 seconds, and leaves nothing. It is no part of the gate.
+# words. It ends within 90 seconds, and leaves nothing. It is not part of the gate.
 set -u
 here=$(cd "$(dirname "$0")/.." && pwd)
 monitor=${MONITOR:-$here/bindings/out/confluo-monitor}
 confluo=${CONFLUO:-$here/crates/confluo/out/confluo}
-packets=${1:-100000}
+packets=${1:-60000}
 host=confluo_a_$$ peer=confluo_b_$$
 work=$(mktemp -d)
 pids=
@@ -32,7 +32,7 @@ fail() {
 
 for need in ip tcpdump python3; do command -v $need > /dev/null || fail "$need is missing"; done
 [ -x "$monitor" ] || fail "there is no $monitor: make -C bindings daemon builds it"
-ip netns add "$host" && ip netns add "$peer" || fail "a network namespace cannot be made: are you root?"
+{ ip netns add "$host" && ip netns add "$peer"; } || fail "a network namespace cannot be made: are you root?"
 for end in "$host" "$peer"; do ip netns exec "$end" sysctl -qw net.ipv6.conf.default.disable_ipv6=1; done
 ip -n "$host" link add veth0 type veth peer name veth1 netns "$peer" || fail "there are no veth pairs"
 ip -n "$host" addr add 10.9.0.1/24 dev veth0
@@ -69,7 +69,7 @@ send(20, 53, 0.05)
 SEND
 
 # shellcheck disable=SC2086
-timeout -k 5 -s INT 90 ip netns exec "$peer" "$monitor" -s "$work/setup" -i veth1 -n 1 ${MONITOR_WORDS:--w 2} > "$work/reports" 2> "$work/said" &
+timeout -k 5 -s INT 90 ip netns exec "$peer" "$monitor" -s "$work/setup" -i veth1 -n 1 ${MONITOR_WORDS:-} > "$work/reports" 2> "$work/said" &
 first=$!
 # No user is changed, as the folder is root's own.
 timeout -k 5 -s INT 90 ip netns exec "$peer" tcpdump -Z root --immediate-mode --nano -n -i veth1 -s 256 -B 32768 -w "$work/beside.pcap" 2> "$work/tcpdump" &
@@ -92,9 +92,9 @@ captured=$(sed -n 's/ packets captured//p' "$work/tcpdump")
 dropped=$(sed -n 's/ packets dropped by kernel//p' "$work/tcpdump")
 read=$(sed -n 's/^frames \([0-9]*\) appended.*/\1/p' "$work/said")
 [ "$dropped" = 0 ] || fail "tcpdump dropped $dropped packets: nothing can be compared"
-grep -q "lost 0 dropped 0 " "$work/said" || fail "the monitor lost or dropped packets"
+grep -q "lost 0 dropped 0$" "$work/said" || fail "the monitor lost or dropped packets"
 [ "$captured" = "$read" ] || fail "the monitor read $read frames, and tcpdump captured $captured"
-awk '/^records / { text = "" } !/^now / { text = text $0 "\n" } END { printf "%s", text }' "$work/reports" > "$work/found"
+awk '/^records / { text = "" } !/^order/ { text = text $0 "\n" } END { printf "%s", text }' "$work/reports" > "$work/found"
 if [ -x "$confluo" ]; then
     "$confluo" run --setup "$work/setup" --writers 1 --segments 16 --nodes 16384 "$work/beside.pcap" | grep '^\(records\|ask\|alert\) ' > "$work/wanted"
 else
@@ -104,5 +104,4 @@ cmp -s "$work/wanted" "$work/found" || {
     diff "$work/wanted" "$work/found" | cut -c 1-200 | head
     fail "the last report differs"
 }
-grep '^now ' "$work/reports" | head -3
 echo "library_veth: the monitor read the $read frames that tcpdump captured, and its last report is the one about tcpdump's file"

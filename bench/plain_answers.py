@@ -4,7 +4,7 @@
     bench/plain_answers.py [--truncated] SETUP CAPTURE
 
 It prints the lines of `confluo run` but for `live`, `new` and `order`, and ends with status 3 at a capture that is refused.
-The capture and its packets are read by plain.py, the setup by confluo-report. Setups over packets alone.
+The capture and its packets are read by plain.py, the setup by confluo-report. Only setups over packets.
 """
 
 import pathlib

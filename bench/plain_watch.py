@@ -30,7 +30,7 @@ SECTION, INTERFACE, SIMPLE, ENHANCED = 0x0A0D0D0A, 1, 3, 6
 
 
 class Stop(Exception):
-    """The end before the end: a status and the line that tells it."""
+    """The end before the end: a status and its line."""
 
     def __init__(self, status, line):
         super().__init__(line)

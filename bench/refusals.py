@@ -10,7 +10,7 @@ It runs the program with a small library before the C library's, which refuses t
 a run over a record file and a `watch` of a capture that comes packet by packet it refuses allocation 1, 2, 3 .. until a run makes fewer.
 Each run has to end with status 8 and nothing written, of a `watch` with a front of what is due; or with what it writes when nothing
 is refused: a thread that could not be started, whose caller did its work, or a segment that was not opened before it was needed. The
-numbers of both are printed. CONFLUO may name another build of the program. It is no part of the gate.
+numbers of both are printed. CONFLUO may name another build of the program. It is not part of the gate.
 """
 
 import fcntl

@@ -10,14 +10,14 @@ It writes the generated capture to a temporary file, the same bytes that `conflu
  - `confluo run` and `confluo synth` by one, two and four writers, with setups of no, one, four and sixteen lanes;
  - a usual setup (one index, one aggregate, one trigger, four questions) by `confluo run`, and `tcpdump` and `tshark` on the same file
    where they are installed, with and without a filter that a fifth of the packets pass, the file read once by this script, and the
-   plain twin of the log's own steps (bench/plain_twin.c) where there is a C compiler;
+   plain twin of the log's own steps (bench/plain_twin.c) if there is a C compiler;
  - live questions beside two writers, each by the time of a run that asks it 1,024 times less that of the same run without;
  - final questions by one, two and four processors, each by the time of a run that asks it 32 times less that of one that asks it once.
 
-Each command runs N times (5 where it is not said), and the shortest time counts, as other work on the machine only lengthens a
+Each command runs N times (default 5), and the shortest time counts, as other work on the machine only lengthens a
 run. The peak of memory is the least of the runs'. Captures have 65,536 packets, and 1,048,576 over 16 segments unless --short is
 given. --table writes the tables in Markdown, --plot draws the first of them, which needs matplotlib (`apt-get install
-python3-matplotlib`). CONFLUO may name another build of the program. It is no part of the gate.
+python3-matplotlib`). CONFLUO may name another build of the program. It is not part of the gate.
 """
 
 import argparse

@@ -7,9 +7,9 @@ For each capture and for the schemas packet and packet6 the values are those of 
 program ($CONFLUO, or the built one) dumps must be plain.py's text and status to the byte, for packet6 only if it takes
 `--schema packet6`. Then the values are compared with the fields of `tshark -T fields`. Each that differs has one of the
 reasons below, or is listed. With --together the packets of all captures go to tshark in one file for each link type: that takes
-seconds and not minutes, and leaves out times. N differences are shown for each reason (0 where it is not said). It ends with
+seconds and not minutes, and leaves out times. N differences are shown for each reason (default 0). It ends with
 counts, and with status 1 if there is a difference without a reason. A capture that is refused is counted by its code; one that
-is cut off is read up to there. It is no part of the gate. Captures by the hundred come with the sources of tcpdump and
+is cut off is read up to there. It is not part of the gate. Captures by the hundred come with the sources of tcpdump and
 wireshark, which go into a folder elsewhere:
 
     apt-get source --download-only tcpdump wireshark        # needs deb-src in the list of sources
@@ -184,7 +184,7 @@ def is_length(it):
 
 
 def is_other_link(it):
-    """The frame is of another kind than its link type says, as Cisco's ISL; tshark tells so from its first bytes."""
+    """The frame is of another kind than its link type says, as Cisco's ISL; tshark sees it by its first bytes."""
     if it.link in RAW:
         return it.row["etype"] != RAW[it.link]
     return it.protocols.startswith("eth:eth:") or it.link in LINKED and LINKED[it.link] != it.layers.link

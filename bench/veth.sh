@@ -3,10 +3,10 @@
 #
 #     bench/veth.sh [PACKETS]
 #
-# It sends a quiet second, then a burst of 500 packets that must be told within a second, then PACKETS (20,000 where it is not
-# said) as fast as they go. The records that `watch` counts must be the packets that its tcpdump captured; a second tcpdump
-# beside it and what the kernel dropped are told. CONFLUO may name another build. It ends within 90 seconds, and leaves nothing.
-# It is no part of the gate.
+# It sends a quiet second, then a burst of 500 packets that must be reported within a second, then PACKETS (default 20,000)
+# as fast as they go. The records that `watch` counts must be the packets that its tcpdump captured; what a second
+# tcpdump captured and what the kernel dropped are printed. CONFLUO may name another build. It ends within 90 seconds, and leaves nothing.
+# It is not part of the gate.
 set -u
 here=$(cd "$(dirname "$0")/.." && pwd)
 confluo=${CONFLUO:-$here/crates/confluo/out/confluo}
@@ -39,7 +39,7 @@ await() {
 }
 
 for need in ip tcpdump python3; do command -v $need > /dev/null || fail "$need is missing"; done
-ip netns add "$host" && ip netns add "$peer" || fail "a network namespace cannot be made: are you root?"
+{ ip netns add "$host" && ip netns add "$peer"; } || fail "a network namespace cannot be made: are you root?"
 ip -n "$host" link add veth0 type veth peer name veth1 netns "$peer" || fail "there are no veth pairs"
 ip -n "$host" addr add 10.9.0.1/24 dev veth0
 ip -n "$peer" addr add 10.9.0.2/24 dev veth1

@@ -16,7 +16,7 @@ Run it from anywhere after `make run` has built the program; CONFLUO may name an
  - speed: packets a second from a file and from a pipe beside `confluo run` with one writer, on the usual setup of speed.py; each
    time is the shortest of N runs. A pipe may take 1.3 times the time of `run`.
 
-Without a PART all are tried. Ends with 1 if something is not so. It is no part of the gate.
+Without a PART all are tried. Ends with 1 if something is not so. It is not part of the gate.
 """
 
 import argparse

@@ -5,13 +5,13 @@ Run it from anywhere after `make run` has built the program:
 
     bench/wide.py [SECONDS]
 
-Each run has to end within SECONDS (180 where it is not said) with its status, and is timed once:
+Each run has to end within SECONDS (default 180) with its status, and is timed once:
 
 - 16 lanes, 16 triggers and 32 questions, all asked live 64 times beside each batch, by 15 writers;
 - a capture in which every packet has one key, by its index, its filter and its aggregate;
 - a capture in which every packet has a key of its own, with as many nodes as that takes, and with one node too few.
 
-CONFLUO may name another build of the program. It is no part of the gate.
+CONFLUO may name another build of the program. It is not part of the gate.
 """
 
 import os
@@ -39,7 +39,7 @@ def packet(num, source, destination_port, length):
 
 
 def capture(path, source_of):
-    """COUNT packets in the classic libpcap format, packet k from the source that source_of tells."""
+    """COUNT packets in the classic libpcap format, packet k from the source that source_of gives."""
     with open(path, "wb") as out:
         out.write(struct.pack("<IHHIIII", 0xA1B2C3D4, 2, 4, 0, 0, 262144, 1))
         for num in range(COUNT):
