@@ -164,7 +164,11 @@ class Output:
         """The last call, whatever came before."""
 
     def is_busy(self) -> bool:
-        """Whether `pause` is to be called soon."""
+        """Whether `pause` must be called soon."""
+        return False
+
+    def has_commands(self) -> bool:
+        """Whether commands run that the end waits for."""
         return False
 
     def stop_at(self, stopper: Stopper) -> None:
@@ -418,6 +422,9 @@ class Commands(Output):
     def is_busy(self) -> bool:
         return bool(self.running)
 
+    def has_commands(self) -> bool:
+        return bool(self.running)
+
     def close(self) -> None:
         """Begins no further command, and waits for those that run, each of which has its seconds."""
         if self.waiting or self.passed_over:
@@ -544,6 +551,9 @@ class Again(Output):
     def is_busy(self) -> bool:
         return bool(self.states) or any(it.is_busy() for it in self.outputs)
 
+    def has_commands(self) -> bool:
+        return any(it.has_commands() for it in self.outputs)
+
     def end(self, ending: Ending) -> None:
         for state in self.states.values():
             if state.count:
@@ -631,7 +641,7 @@ def _pump(fd: int, incoming: Incoming, outputs: Sequence[Output], stopper: Stopp
 
 def _drain(outputs: Sequence[Output], stopper: Stopper) -> None:
     """The commands of the alerts that wait are run too."""
-    while not stopper.is_stopped and any(it.is_busy() for it in outputs):
+    while not stopper.is_stopped and any(it.has_commands() for it in outputs):
         ready, _, _ = select.select([stopper.fd], [], [], GLANCE)
         if ready:
             stopper.drain()

@@ -140,7 +140,7 @@ class Merges(unittest.TestCase):
         )
         self.assertEqual(read["truncated"], [{"report": "a b (c)", "records": 4}])
         self.assertIn("ask,two,all,list,,0,1,", rows)
-        self.assertIn("alert,one,t,,,,1970-01-01 00:00:05,30", rows)
+        self.assertIn("alert,one,t,,,,1970-01-01 00:00:05Z,30", rows)
         out = tool("prometheus", stdin=cut).out
         self.assertIn('confluo_found_records{ask="all",report="one",kind="list"} 2\n', out)
         for text, why in (

@@ -458,6 +458,12 @@ class AsAProcess(Folder):
         self.assertEqual((process.returncode, err), (0, b""))
         self.assertIn('commands_total{result="done"} 1200\n', path.read_text())
 
+    def test_metrics_that_cannot_be_written_hold_nothing_up(self) -> None:
+        process = self.start("--quiet", "--prometheus", "/no/such/folder/m.prom")
+        _, err = process.communicate(ONE.encode(), 20)
+        self.assertEqual(process.returncode, 0)
+        self.assertIn(b"cannot be written", err)
+
     def test_too_many_alerts_for_their_commands(self) -> None:
         text = "".join(f"alert t {at} 60 @{at}\n" for at in range(1, 66000))
         words = ("--exec", "exec sleep 600", "--exec-limit", "1", "--exec-seconds", "600")
