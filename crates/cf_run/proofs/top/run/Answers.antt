@@ -27,6 +27,15 @@ returns-in-Some-Watch-clause-decided g c =
     (subst (λ (s : Status). IfSome (g.F.Shelf.files c.args.shelf.now) (λ files. IsDecided files (Some (watch (watch_by c.in-Some-Watch.command))) s))
     (sym c.unsealed-in-Some-Watch.ensures.status) c.watch.ensures.decided)
 
+pub returns-in-Some-Watch-clause-complete : goal.returns-in-Some-Watch-clause-complete
+returns-in-Some-Watch-clause-complete g c =
+    let is : (Some (watch (watch_by c.in-Some-Watch.command))) ≡ call_said (texts c.args.words.now) = search rules in
+    subst (λ (call : Option Call). IfSome (g.F.Shelf.files c.args.shelf.now) (λ files. IsLawful (Some files) call
+    → (c.unsealed-in-Some-Watch.result.status ≡ Done) ⊎ Yields c.unsealed-in-Some-Watch.result.status)) is
+    (subst (λ (s : Status). IfSome (g.F.Shelf.files c.args.shelf.now) (λ files. IsLawful (Some files) (Some (watch (watch_by c.in-Some-Watch.command)))
+    → (s ≡ Done) ⊎ Yields s))
+    (sym c.unsealed-in-Some-Watch.ensures.status) c.watch.ensures.complete)
+
 pub returns-in_default-clause-written : goal.returns-in_default-clause-written
 returns-in_default-clause-written g c =
     let is = c.in-Ok.ensures.call in
