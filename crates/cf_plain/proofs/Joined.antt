@@ -23,6 +23,7 @@ use Rattle.cf_plain.specs.declared.ask.Ask.{Ask}
 use Rattle.cf_plain.specs.declared.ask.Ask.TheVariants as asks
 use Rattle.cf_plain.proofs.Grouped.{Rise, pairs, rise_ascending, any_ascending, none_of_key}
 use Rattle.cf_plain.proofs.Rising.{rising_is_one}
+use Rattle.cf_plain.proofs.Merging.{Pair, quads_at, quads_append}
 
 -- a test of places that are counted on
 shift : (p q : ℕ → Bool) (m : ℕ) → ((i : ℕ) → q (m + i) ≡ p i) → (a n : ℕ)
@@ -95,17 +96,6 @@ total_append attr expr xs ys =
     let f : RowValue → ℕ = λ row. number_at row attr in
     ap quad_of (taken_append f (holds_of expr) xs ys) ∙ quad_append (map f (filter (holds_of expr) xs)) (map f (filter (holds_of expr) ys))
 
-abbrev Pair : Type 0
-Pair = ℕ × QuadValue
-
--- the quads of a key, in order
-abbrev quads_at : ℕ → List Pair → List QuadValue
-quads_at k gs = map (λ (g : Pair). g.1) (filter (λ (g : Pair). g.0 == k) gs)
-
-quads_append : (k : ℕ) (gs hs : List Pair) → quads_at k (gs ++ hs) ≡ quads_at k gs ++ quads_at k hs
-quads_append k gs hs = ap (map (λ (g : Pair). g.1)) (filter-append (λ (g : Pair). g.0 == k) gs hs)
-    ∙ map-append (λ (g : Pair). g.1) (filter (λ (g : Pair). g.0 == k) gs) (filter (λ (g : Pair). g.0 == k) hs)
-
 none_above : (f : ℕ → QuadValue) (k m : ℕ) (ks : List ℕ) → k ≤ m → AllByRecursion (λ n. m < n) ks → quads_at k (pairs f ks) ≡ []
 none_above f k m [] le above = refl
 none_above f k m (n ∷ ks) le above = rw (ne_eqb n k (λ e. omega (arith, e, le, above.0))) (none_above f k m ks le above.1)
@@ -130,7 +120,7 @@ map_agree f g same (x ∷ xs) = ap₂ (λ y ys. y ∷ ys) (same x) (map_agree f 
 of_two : {X Y : Type 0} (f : X → List Y) (x y : X) → flat_map f (x ∷ y ∷ []) ≡ f x ++ f y
 of_two f x y = flat_map-cons f x (y ∷ []) ∙ ap (λ zs. f x ++ zs) (flat_map-cons f y [] ∙ append-nil (f y))
 
-and_false : (b : Bool) → (b && false) ≡ false
+pub and_false : (b : Bool) → (b && false) ≡ false
 and_false true = refl
 and_false false = refl
 

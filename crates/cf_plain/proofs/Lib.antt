@@ -9,3 +9,5 @@ pub mod TopLaws
 pub mod Replays
 pub mod Joined
 pub mod Merging
+pub mod Ascending
+pub mod Beyond

@@ -4,7 +4,7 @@ ghost use Rattle.cf_shape.specs.Lanes.{ShapeValue};
 ghost use Rattle.cf_plain.specs.Groups.{pair_of};
 ghost use Rattle.cf_plain.specs.Segments.{body_of, body_of_groups as body_of_groups_as, finding_in, joined, merged, numbers_in, CanJoin};
 
-use crate::segments::{marks_of_groups, merge_groups, push_places};
+use crate::segments::{ascends, marks_of_groups, merge_ascending, merge_groups, push_places};
 use crate::{Ask, Body, Group, Groups, Marks, Places, top};
 use cf_fold::Quad;
 use cf_row::Memory;
@@ -62,7 +62,7 @@ impl Finding {
     {
         match self {
             Finding::Places(places) => match other {
-                Finding::Places(more) => Ok(Finding::Places(places_then(places, base, &more)?)),
+                Finding::Places(more) => Ok(Finding::Places(places_then(places, base, more)?)),
                 _ => Ok(Finding::Places(places)),
             },
             Finding::Total(quad) => match other {
@@ -70,7 +70,7 @@ impl Finding {
                 _ => Ok(Finding::Total(quad)),
             },
             Finding::Groups(groups) => match other {
-                Finding::Groups(more) => Ok(Finding::Groups(merge_both(alloc, groups, &more)?)),
+                Finding::Groups(more) => Ok(Finding::Groups(merge_both(alloc, groups, more)?)),
                 _ => Ok(Finding::Groups(groups)),
             },
         }
@@ -90,23 +90,36 @@ impl Finding {
 }
 
 // The places, and then the others, each counted on from that base.
-fn places_then(places: Places, base: u32, more: &Places) -> Result<Places, Memory>
-    requires low { All (λ place. base + place < 2 ^ 32) more.now }
-    ensures { IfOk result (λ both. both ≡ places ++ map (λ place. base + place) more.now) }
+fn places_then(places: Places, base: u32, more: Places) -> Result<Places, Memory>
+    requires low { All (λ place. base + place < 2 ^ 32) more }
+    ensures { IfOk result (λ both. both ≡ places ++ map (λ place. base + place) more) }
 {
+    if base == 0 && places.as_slice().is_empty() {
+        return Ok(more);
+    }
     let mut all = places.into_vec();
     push_places(&mut all, base, more.as_slice())?;
     Ok(Places::new(all))
 }
 
-// The groups of both, with those of one key merged.
-fn merge_both(alloc: Global, groups: Groups, more: &Groups) -> Result<Groups, Memory>
-    requires few { numbers_in (groups ++ more.now) ≤ 2 ^ 20 }
-    ensures { IfOk result (λ both. both ≡ merged (groups ++ more.now)) }
+// The groups of both, with those of one key merged: in one pass if both ascend by key, as the groups that a question finds do.
+fn merge_both(alloc: Global, groups: Groups, more: Groups) -> Result<Groups, Memory>
+    requires few { numbers_in (groups ++ more) ≤ 2 ^ 20 }
+    ensures { IfOk result (λ both. both ≡ merged (groups ++ more)) }
 {
-    let mut all = groups.into_vec();
-    all.extend_from_slice(more.as_slice())?;
-    Ok(Groups::new(merge_groups(alloc, &all)?))
+    let (left, right) = (groups.as_slice(), more.as_slice());
+    if !ascends(left) || !ascends(right) {
+        let mut all = groups.into_vec();
+        all.extend_from_slice(right)?;
+        return Ok(Groups::new(merge_groups(alloc, &all)?));
+    }
+    if left.is_empty() {
+        return Ok(more);
+    }
+    if right.is_empty() {
+        return Ok(groups);
+    }
+    Ok(Groups::new(merge_ascending(alloc, left, right)?))
 }
 
 // The marks or the heaviest of the groups, as the question wants.
