@@ -1,4 +1,4 @@
-//! What is new among the marks of a trigger.
+//! What is new among the marks of a trigger, and the whole buckets that are kept of an aggregate.
 #![tactic(auto)]
 
 ghost use Rattle.std.specs.Prelude.{◌≡◌, IfOk, ℕ, length, ◌==◌};
@@ -7,10 +7,23 @@ ghost use Rattle.std.specs.BTreeSet.{contains};
 ghost use Rattle.std.specs.Ordering.{nat_cmp};
 ghost use Rattle.cf_watch.specs.New.{newly as newly_of};
 
+mod bucket;
+mod kept;
+mod marks;
+#[cfg(test)]
+mod tests;
+
 use cf_plain::Fired;
 use cf_row::Memory;
+pub use kept::Kept;
 use std::alloc::Global;
 use std::collections::BTreeSet;
+
+/// How many buckets are kept of an aggregate.
+pub const MOST_KEPT: usize = 4096;
+
+/// How many triggers there may be.
+pub const MOST_TRIGGERS: usize = 16;
 
 /// The marks of `now` whose bucket no mark of `before` has, in the order of `now`.
 pub fn newly(alloc: Global, before: &[Fired], now: &[Fired]) -> Result<Vec<Fired>, Memory>
@@ -35,27 +48,4 @@ fn buckets_of(alloc: Global, marks: &[Fired]) -> Result<BTreeSet<u64>, Memory>
         buckets.insert(mark.bucket)?;
     }
     Ok(buckets)
-}
-
-#[cfg(test)]
-mod tests {
-    use super::*;
-    use std::test::Fail;
-
-    fn mark(bucket: u64, value: u64) -> Fired {
-        Fired { bucket, value }
-    }
-
-    #[test]
-    fn a_mark_is_new_in_a_new_bucket(rt: HostRuntime) -> Result<(), Fail> {
-        let alloc = rt.alloc();
-        let before = [mark(1, 5)];
-        let now = [mark(1, 6), mark(2, 3)];
-        assert_eq!(rt;
-            newly(alloc, &before, &now)?.as_slice(),
-            [mark(2, 3)].as_slice()
-        );
-        assert_eq!(rt; newly(alloc, &[], &now)?.as_slice(), now.as_slice());
-        Ok(())
-    }
 }
