@@ -1,13 +1,13 @@
 // What is kept of an aggregate.
-ghost use Rattle.std.specs.Prelude.{◌≡◌, ℕ, ◌<◌, ◌≤◌, ◌^◌, ◌&&◌, ◌↔◌, [], ◌∷◌, ◌++◌, length, false, slice_index_or, IsTrue, MatchOption, IfOk, OnOk, OnErr};
+ghost use Rattle.std.specs.Prelude.{◌≡◌, ℕ, ◌<◌, ◌≤◌, ◌^◌, ◌&&◌, ◌↔◌, [], ◌∷◌, ◌++◌, length, false, slice_index_or, All, IsTrue, MatchOption, IfOk, OnOk, OnErr};
 ghost use Rattle.std.specs.List.{remove};
 ghost use Rattle.cf_row.specs.Row.{Fits};
 ghost use Rattle.cf_shape.specs.Lanes.{key_of, selected_by};
-ghost use Rattle.cf_watch.specs.Kept.{begun, is_kept, most_kept, nothing_kept, with_one, with_record, with_room, with_row};
+ghost use Rattle.cf_watch.specs.Kept.{AreApart, begun, is_kept, most_kept, nothing_kept, taking, with_one, with_record, with_room, with_row};
 ghost use Rattle.cf_watch.specs.Marks.{forgets_untold as forgets_untold_of, fresh_on, marks_on, telling};
 
 use crate::bucket::Bucket;
-use crate::marks::{is_untold_for_any, marks_of, settled_count, tell_each, untold_marks_of};
+use crate::marks::{is_untold_for_any, marks_of, settled_count, tell_first, untold_marks_of};
 use crate::{MOST_KEPT, MOST_TRIGGERS};
 use cf_fold::Trigger;
 use cf_plain::Fired;
@@ -74,6 +74,22 @@ fn begin(buckets: &mut Vec<Bucket>, number: u64, value: u32) -> Result<(), Memor
     Ok(())
 }
 
+// The bucket of that number takes a record, or begins with it.
+fn take_into(buckets: &mut Vec<Bucket>, number: u64, value: u32) -> Result<(), Memory>
+    requires apart { AreApart buckets.old.items }
+    requires few { All (λ k. k.quad.count < 2 ^ 53) buckets.old.items }
+    ensures ok { OnOk result (buckets.new.items ≡ taking buckets.old.items number value) }
+    ensures err { OnErr result (buckets.new.items ≡ buckets.old.items) }
+{
+    match place_of(buckets, number) {
+        Some(place) => {
+            take_at(buckets, place, value);
+            Ok(())
+        }
+        None => begin(buckets, number, value),
+    }
+}
+
 impl Kept {
     /// Nothing is kept yet. It takes no memory.
     pub fn new(alloc: Global) -> Kept
@@ -122,10 +138,7 @@ impl Kept {
         ensures ok { OnOk result (self.new ≡ with_one self.old bucket value) }
         ensures err { OnErr result (self.new ≡ self.old) }
     {
-        match place_of(&self.buckets, bucket) {
-            Some(place) => take_at(&mut self.buckets, place, value),
-            None => begin(&mut self.buckets, bucket, value)?,
-        }
+        take_into(&mut self.buckets, bucket, value)?;
         self.count += 1;
         self.sum = self.sum.wrapping_add(u64::from(value));
         Ok(())
@@ -202,7 +215,7 @@ impl Kept {
     {
         let count = settled_count(trigger, false, self.buckets.len());
         let fresh = untold_marks_of(alloc, &self.buckets[..count], trigger, place)?;
-        tell_each(&mut self.buckets[..count], trigger, place);
+        tell_first(&mut self.buckets, count, trigger, place);
         Ok(fresh)
     }
 }

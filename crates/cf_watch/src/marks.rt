@@ -1,5 +1,5 @@
 // The marks of triggers on kept buckets.
-ghost use Rattle.std.specs.Prelude.{◌≡◌, ◌≤◌, List, length, filter, map, IfOk, OnOk};
+ghost use Rattle.std.specs.Prelude.{◌≡◌, ◌<◌, ◌≤◌, ◌++◌, length, take, drop, filter, map, IfOk, OnOk};
 ghost use Rattle.std.specs.BTreeMap.{insert_entry};
 ghost use Rattle.std.specs.List.{list_any, range_with_len};
 ghost use Rattle.std.specs.Ordering.{nat_cmp};
@@ -104,14 +104,25 @@ pub(crate) fn untold_marks_of(
     listed(alloc, &values)
 }
 
-/// Tells the buckets in which the trigger fires, which has that place in the setup.
-pub(crate) fn tell_each(buckets: &mut [Bucket], trigger: &Trigger, place: u8)
-    requires { place < MOST_TRIGGERS }
-    ensures { buckets.new ≡ map (with_told trigger.now place) buckets.old }
+/// Tells those of the first so many buckets in which the trigger fires, which has that place in the setup.
+pub(crate) fn tell_first(buckets: &mut [Bucket], count: usize, trigger: &Trigger, place: u8)
+    requires within { count ≤ length buckets.old }
+    requires exists { place < MOST_TRIGGERS }
+    ensures { buckets.new ≡ map (with_told trigger.now place) (take count buckets.old) ++ drop count buckets.old }
 {
-    for bucket in buckets.iter_mut() {
-        bucket.tell(trigger, place);
+    for at in 0..count {
+        buckets[at].tell(trigger, place);
     }
+}
+
+// Whether the trigger at a place is one of the lane, fires in the bucket, and was not told.
+fn is_untold_at(bucket: &Bucket, lane: u8, triggers: &[Trigger], place: usize) -> bool
+    requires exists { place < length triggers.now }
+    requires few { length triggers.now ≤ MOST_TRIGGERS }
+    ensures { result ≡ is_bucket_untold lane triggers.now bucket.now place }
+{
+    let trigger = &triggers[place];
+    trigger.agg == lane && bucket.is_untold(trigger, place as u8)
 }
 
 /// Whether some trigger of the lane fires in the bucket and was not told.
@@ -121,8 +132,7 @@ pub(crate) fn is_untold_for_any(bucket: &Bucket, lane: u8, triggers: &[Trigger])
 {
     let mut is_untold = false;
     for place in 0..triggers.len() {
-        let trigger = &triggers[place];
-        if trigger.agg == lane && bucket.is_untold(trigger, place as u8) {
+        if is_untold_at(bucket, lane, triggers, place) {
             is_untold = true;
         }
     }

@@ -1,0 +1,6 @@
+use Rattle.std.proofs.Common.{◌≡◌, filter, map, take}
+use Rattle.cf_watch.specs.Marks.{fired_of, marks_of, is_untold}
+use Rattle.cf_watch.proofs.marks.untold_marks_of.Given as goal
+
+abbrev pub invariant-loop-bucket : goal.invariant-loop-bucket
+invariant-loop-bucket l = map fired_of l.values.entries ≡ marks_of l.trigger (filter (is_untold l.trigger l.place) (take l.bucket-index l.buckets))
