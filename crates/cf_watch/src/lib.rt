@@ -1,4 +1,4 @@
-//! What is new among the marks of a trigger, and the whole buckets that are kept of an aggregate.
+//! Whole buckets of an aggregate, the marks of triggers, and which are new.
 #![tactic(auto)]
 
 ghost use Rattle.std.specs.Prelude.{◌≡◌, IfOk, ℕ, length, ◌==◌};
@@ -9,6 +9,7 @@ ghost use Rattle.cf_watch.specs.New.{newly as newly_of};
 
 mod bucket;
 mod kept;
+mod laws;
 mod marks;
 #[cfg(test)]
 mod tests;
@@ -16,6 +17,9 @@ mod tests;
 use cf_plain::Fired;
 use cf_row::Memory;
 pub use kept::Kept;
+pub use laws::{
+    buckets_are_told_once, few_are_kept, growing_marks_stay, quads_are_whole, rows_are_kept,
+};
 use std::alloc::Global;
 use std::collections::BTreeSet;
 

@@ -1,0 +1,28 @@
+// Laws of kept buckets.
+ghost use Rattle.cf_watch.specs.Laws.{GrowingStays, KeepsFew, QuadsAreWhole, RowsAreSteps, TellsOnce, TotalsAreOfAll};
+
+/// At most [`MOST_KEPT`](crate::MOST_KEPT) buckets are kept of an aggregate, each once.
+pub fn few_are_kept()
+    ensures { KeepsFew }
+{}
+
+/// What is kept of a bucket is the quad of all its records since it was last forgotten, or since the beginning.
+pub fn quads_are_whole()
+    ensures { QuadsAreWhole }
+{}
+
+/// A bucket is told at most once for a trigger while it is kept.
+pub fn buckets_are_told_once()
+    ensures { TellsOnce }
+{}
+
+/// More records can't undo the marks of a trigger that grows.
+pub fn growing_marks_stay()
+    ensures { GrowingStays }
+{}
+
+/// The totals are those of all records that the lane selects, and the buckets are those after them.
+pub fn rows_are_kept()
+    ensures totals { TotalsAreOfAll }
+    ensures buckets { RowsAreSteps }
+{}
