@@ -1,13 +1,15 @@
 -- What is so of kept buckets, whatever records come and whenever marks are told.
-use Rattle.std.specs.Prelude.{◌≡◌, ℕ, ◌<◌, ◌≤◌, ◌%◌, ◌^◌, true, false, ◌==◌, List, [], ◌∷◌, ◌++◌, length, take, map, filter, fold, sum, All, if◌then◌else◌}
+use Rattle.std.specs.Prelude.{◌≡◌, ℕ, ◌<◌, ◌≤◌, ◌%◌, ◌^◌, true, false, ◌==◌, List, [], ◌∷◌, ◌++◌, length, take, map, filter, fold, sum, min, ◌-◌, All, if◌then◌else◌}
 use Rattle.std.specs.List.{flat_map, list_any}
 use Rattle.cf_row.specs.Row.{RowValue}
 use Rattle.cf_fold.specs.Quads.{quad_of}
 use Rattle.cf_fold.specs.declared.trigger.Trigger.{Trigger}
 use Rattle.cf_shape.specs.Lanes.{ShapeValue, selected_by, key_of, measure_of}
+use Rattle.cf_plain.specs.Asks.{marks_over}
+use Rattle.cf_plain.specs.Groups.{keys_in}
 use Rattle.cf_plain.specs.declared.answer.Fired.{Fired}
 use Rattle.cf_watch.specs.Kept.{AreApart, BucketValue, is_kept, kept_after, most_kept, most_triggers, taking, with_record}
-use Rattle.cf_watch.specs.Marks.{fresh_on, grows, meets, telling}
+use Rattle.cf_watch.specs.Marks.{fresh_on, grows, marks_on, meets, telling}
 
 -- what happens to the kept buckets of an aggregate: a record of a bucket comes, of which so much is measured; or the marks of the
 -- trigger at a place are told
@@ -78,3 +80,14 @@ RowsAreSteps =
     (shape : ShapeValue) (lane : ℕ) (rows : List RowValue)
     → (kept_after shape lane rows).buckets
     ≡ after_steps (map (λ row. took (key_of shape lane row) (measure_of shape lane row)) (filter (selected_by shape lane) rows))
+
+-- a mark as a watch shows it: a value above 2^64 - 1 counts as that
+abbrev pub shown_mark : Fired → Fired
+shown_mark mark = record { bucket = mark.bucket; value = min mark.value (2 ^ 64 - 1) }
+
+-- If the records of an aggregate are in no more buckets than are kept, then its triggers' marks in the final part are what they mean
+-- on all of them.
+abbrev pub WholeStreams : Type 0
+WholeStreams =
+    (shape : ShapeValue) (trigger : Trigger) (rows : List RowValue) → length (keys_in shape trigger.agg rows) ≤ most_kept
+    → marks_on trigger true (kept_after shape trigger.agg rows).buckets ≡ map shown_mark (marks_over shape trigger rows)

@@ -1,5 +1,5 @@
 // Laws of kept buckets.
-ghost use Rattle.cf_watch.specs.Laws.{GrowingStays, KeepsFew, QuadsAreWhole, RowsAreSteps, TellsOnce, TotalsAreOfAll};
+ghost use Rattle.cf_watch.specs.Laws.{GrowingStays, KeepsFew, QuadsAreWhole, RowsAreSteps, TellsOnce, TotalsAreOfAll, WholeStreams};
 
 /// At most [`MOST_KEPT`](crate::MOST_KEPT) buckets are kept of an aggregate, each once.
 pub fn few_are_kept()
@@ -25,4 +25,10 @@ pub fn growing_marks_stay()
 pub fn rows_are_kept()
     ensures totals { TotalsAreOfAll }
     ensures buckets { RowsAreSteps }
+{}
+
+/// If the records of an aggregate are in at most [`MOST_KEPT`](crate::MOST_KEPT) buckets, then its triggers' marks in the final part
+/// are what they mean on all of them.
+pub fn whole_streams_are_seen()
+    ensures { WholeStreams }
 {}

@@ -19,6 +19,7 @@ use cf_row::Memory;
 pub use kept::Kept;
 pub use laws::{
     buckets_are_told_once, few_are_kept, growing_marks_stay, quads_are_whole, rows_are_kept,
+    whole_streams_are_seen,
 };
 use std::alloc::Global;
 use std::collections::BTreeSet;
