@@ -1,7 +1,8 @@
 use crate::{Kept, newly};
 use cf_fold::{Part, Trigger};
 use cf_plain::Fired;
-use cf_row::Op;
+use cf_row::{Atom, Attr, Conjunction, Expr, Kind, Name, Op, Row, Schema, Value, fits};
+use cf_shape::{Key, Lane, Shape, belongs};
 use std::alloc::Global;
 use std::process::Abort;
 use std::test::Fail;
@@ -198,8 +199,8 @@ fn a_bucket_that_comes_back_begins_anew(rt: HostRuntime) -> Result<(), Fail> {
     // its last record is no longer the first one's
     assert!(rt; told_after(&rt, alloc, &mut kept, &heavy, 7, 1)?.is_empty());
     // so bucket 100 is forgotten, and then 101
-    for (bucket, value) in [(100, 55), (101, 56)] {
-        assert!(rt; told_after(&rt, alloc, &mut kept, &heavy, bucket + 5000, 1)?.is_empty());
+    for (bucket, value, other) in [(100, 55, 5100), (101, 56, 5101)] {
+        assert!(rt; told_after(&rt, alloc, &mut kept, &heavy, other, 1)?.is_empty());
         let fresh = told_after(&rt, alloc, &mut kept, &heavy, bucket, value)?;
         assert_eq!(rt;
             fresh.as_slice(),
@@ -363,5 +364,59 @@ fn drawn_records_are_kept_as_by_plain_lists(rt: HostRuntime) -> Result<(), Fail>
             run_drawn(&rt, alloc, &trigger(part, op, 5), 60, 9)?;
         }
     }
+    Ok(())
+}
+
+// One lane, which takes the rows with a length of 10 and more; None for a fault of this fixture.
+fn shape_of(alloc: Global) -> Result<Option<Shape>, Fail> {
+    let mut attrs = Vec::new(alloc);
+    for (name, kind) in [("ts", Kind::U64), ("len", Kind::U32)] {
+        attrs.push(Attr {
+            name: Name::new(alloc, name)?,
+            kind,
+        })?;
+    }
+    let long = Atom {
+        attr: 1,
+        op: Op::Ge,
+        low: Value::Num(10),
+        high: Value::Num(10),
+    };
+    let mut conjunctions = Vec::new(alloc);
+    conjunctions.push(Conjunction::new([long].to_vec(alloc)?))?;
+    let mut lanes = Vec::new(alloc);
+    lanes.push(Lane {
+        select: Expr::new(conjunctions),
+        key: Key::Bucket,
+        measure: Some(1),
+    })?;
+    let schema = Schema::new(attrs)?;
+    if !belongs(&schema, &lanes) {
+        return Ok(None);
+    }
+    Ok(Some(Shape::new(schema, lanes, 8, 1, 32, 10)?))
+}
+
+#[test]
+fn rows_that_the_filter_selects_are_taken(rt: HostRuntime) -> Result<(), Fail> {
+    let alloc = rt.alloc();
+    let shape = shape_of(alloc)?.expect(&rt, "lawful");
+    let some = trigger(Part::Count, Op::Ge, 1);
+    let mut kept = Kept::new(alloc);
+    assert!(rt; kept.is_empty());
+    for (ts, len) in [(5, 40), (12, 9), (17, 30), (19, 20)] {
+        let row = Row::new(0, [Value::Num(ts), Value::Num(len)].to_vec(alloc)?);
+        assert!(rt; fits(shape.schema(), &row));
+        assert!(rt; !shape.lanes().is_empty());
+        assert!(rt; kept.count() < 1 << 53);
+        assert!(rt; !kept.row_forgets_untold(&shape, 0, &[some], &row));
+        kept.take_row(&shape, 0, &row)?;
+    }
+    assert_eq!(rt; kept.count(), 3);
+    assert_eq!(rt; kept.sum(), 90);
+    assert_eq!(rt;
+        kept.marks(alloc, &some, true)?.as_slice(),
+        [mark(0, 1), mark(1, 2)].as_slice()
+    );
     Ok(())
 }
