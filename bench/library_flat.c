@@ -90,19 +90,19 @@ int main(int count, char **words) {
     const confluo_sizes sizes = {RECORDS, 1, 256, 0};
     long early = 0;
     while (calls < all) {
-        confluo_log log = CONFLUO_LOG_INIT;
-        confluo_writer writer = CONFLUO_WRITER_INIT;
-        confluo_reader reader = CONFLUO_READER_INIT;
+        confluo_log *log = NULL;
+        confluo_writer *writer = NULL;
+        confluo_reader *reader = NULL;
         confluo_fault fault;
         uint32_t number;
-        must(confluo_open(&log, (const uint8_t *)setup, strlen(setup), &sizes, &fault));
-        must(confluo_take_writer(&log, &writer, &number));
-        must(confluo_take_reader(&log, &reader));
-        append_all(&writer);
-        ask_all(&reader);
-        confluo_free_writer(&writer);
-        confluo_free_reader(&reader);
-        confluo_free_log(&log);
+        must(confluo_open(&log, setup, strlen(setup), &sizes, &fault));
+        must(confluo_take_writer(log, &writer, &number));
+        must(confluo_take_reader(log, &reader));
+        append_all(writer);
+        ask_all(reader);
+        confluo_free_writer(writer);
+        confluo_free_reader(reader);
+        confluo_free_log(log);
         if (early == 0 && calls >= all / 10) {
             early = resident();
         }

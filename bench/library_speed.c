@@ -78,8 +78,8 @@ static void draw(void) {
 }
 
 typedef struct {
-    confluo_writer writer;
-    confluo_reader reader;
+    confluo_writer *writer;
+    confluo_reader *reader;
     uint32_t number;
     double began, ended;
     int wrong;
@@ -93,7 +93,7 @@ static int append_batch(job *it, const uint32_t *mine, uint32_t count) {
     for (uint32_t k = 0; k < count; k++) {
         many[k] = (confluo_frame){.capture = captures[mine[k]], .from = (uint64_t)mine[k] * FRAME, .count = FRAME};
     }
-    return confluo_append_many(&it->writer, many, count, *frames, sizeof frames, offsets, RECORDS, &done) != CONFLUO_OK;
+    return confluo_append_many(it->writer, many, count, *frames, sizeof frames, offsets, RECORDS, &done) != CONFLUO_OK;
 }
 
 static int append_part(job *it, const uint32_t *mine, uint32_t count) {
@@ -103,8 +103,8 @@ static int append_part(job *it, const uint32_t *mine, uint32_t count) {
     }
     for (uint32_t k = 0; k < count; k++) {
         const uint32_t n = mine[k];
-        const uint32_t code = with_frames ? confluo_append(&it->writer, &captures[n], frames[n], FRAME, &offset)
-                                          : confluo_append_values(&it->writer, n, rows[n], WIDTH, &offset);
+        const uint32_t code = with_frames ? confluo_append(it->writer, &captures[n], frames[n], FRAME, &offset)
+                                          : confluo_append_values(it->writer, n, rows[n], WIDTH, &offset);
         if (code != CONFLUO_OK) {
             return 1;
         }
@@ -135,8 +135,8 @@ static void *ask(void *given) {
     pthread_barrier_wait(&start);
     it->began = seconds();
     for (uint32_t k = 0; k < questions[question].asked && !it->wrong; k++) {
-        it->wrong = confluo_ask(&it->reader, question, &head) != CONFLUO_OK ||
-                    confluo_words(&it->reader, 0, words, RECORDS) != head.count || head.tail != RECORDS ||
+        it->wrong = confluo_ask(it->reader, question, &head) != CONFLUO_OK ||
+                    confluo_words(it->reader, 0, words, RECORDS) != head.count || head.tail != RECORDS ||
                     head.count == 0;
     }
     it->ended = seconds();
@@ -163,7 +163,7 @@ static int timed(const char *name, uint32_t calls, job *jobs, void *(*work)(void
     return wrong;
 }
 
-static uint32_t open_log(confluo_log *log, uint32_t lanes) {
+static uint32_t open_log(confluo_log **log, uint32_t lanes) {
     const confluo_sizes sizes = {.capacity = RECORDS, .writers = threads, .nodes = 4096};
     char setup[1024] = "schema records ts:u64";
     confluo_fault fault;
@@ -175,7 +175,7 @@ static uint32_t open_log(confluo_log *log, uint32_t lanes) {
         sprintf(setup + strlen(setup), "index i%u a%u\n", i, i);
     }
     const char *text = with_frames ? usual : setup;
-    return confluo_open(log, (const uint8_t *)text, strlen(text), &sizes, &fault);
+    return confluo_open(log, text, strlen(text), &sizes, &fault);
 }
 
 int main(int count, char **words) {
@@ -187,23 +187,23 @@ int main(int count, char **words) {
         fputs("usage: library_speed rows|frames LANES THREADS [BATCH]\n", stderr);
         return 2;
     }
-    confluo_log log = CONFLUO_LOG_INIT;
+    confluo_log *log = NULL;
     static job jobs[MOST];
     draw();
     int wrong = open_log(&log, lanes) != CONFLUO_OK;
     for (uint32_t t = 0; t < threads && !wrong; t++) {
-        wrong = confluo_take_writer(&log, &jobs[t].writer, &jobs[t].number) != CONFLUO_OK ||
-                confluo_take_reader(&log, &jobs[t].reader) != CONFLUO_OK;
+        wrong = confluo_take_writer(log, &jobs[t].writer, &jobs[t].number) != CONFLUO_OK ||
+                confluo_take_reader(log, &jobs[t].reader) != CONFLUO_OK;
     }
     wrong = wrong || timed("append", RECORDS, jobs, append);
     for (question = 0; question < 4 && with_frames && !wrong; question++) {
         wrong = timed(questions[question].name, questions[question].asked, jobs, ask);
     }
     for (uint32_t t = 0; t < threads; t++) {
-        confluo_free_writer(&jobs[t].writer);
-        confluo_free_reader(&jobs[t].reader);
+        confluo_free_writer(jobs[t].writer);
+        confluo_free_reader(jobs[t].reader);
     }
-    confluo_free_log(&log);
+    confluo_free_log(log);
     if (wrong) {
         fputs("library_speed: the log is not whole\n", stderr);
     }

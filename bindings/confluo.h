@@ -20,51 +20,61 @@
 **
 **   const char *setup = "schema packet\nindex sources src\nask from_one find sources 10.0.0.1 10.0.0.1\n";
 **   const confluo_sizes sizes = {.capacity = 65536, .writers = 1, .nodes = 4096};
-**   confluo_log log = CONFLUO_LOG_INIT;
-**   confluo_writer writer = CONFLUO_WRITER_INIT;
-**   confluo_reader reader = CONFLUO_READER_INIT;
+**   confluo_log *log = NULL;
+**   confluo_writer *writer = NULL;
+**   confluo_reader *reader = NULL;
 **   uint32_t offset;
 **   if (confluo_open_str(&log, setup, &sizes, NULL)) return 1;
-**   if (confluo_take_writer(&log, &writer, NULL) || confluo_take_reader(&log, &reader)) return 1;
+**   if (confluo_take_writer(log, &writer, NULL) || confluo_take_reader(log, &reader)) return 1;
 **
 **   confluo_capture capture = {.ns = now, .number = 0, .length = sizeof frame, .link = 1};
-**   uint32_t code = confluo_append(&writer, &capture, frame, sizeof frame, &offset);    // in the writer's thread
+**   uint32_t code = confluo_append(writer, &capture, frame, sizeof frame, &offset);    // in the writer's thread
 **
 **   confluo_head head;
 **   uint64_t places[100];
-**   if (confluo_ask(&reader, 0, &head) == CONFLUO_OK)                                   // in the reader's thread
-**       for (size_t k = 0, n = confluo_words(&reader, 0, places, 100); k < n; k++) printf("record %u\n", (unsigned)places[k]);
+**   if (confluo_ask(reader, 0, &head) == CONFLUO_OK)                                   // in the reader's thread
+**       for (size_t k = 0, n = confluo_words(reader, 0, places, 100); k < n; k++) printf("record %u\n", (unsigned)places[k]);
 **
-**   confluo_free_writer(&writer), confluo_free_reader(&reader), confluo_free_log(&log); // in any order
+**   confluo_free_writer(writer), confluo_free_reader(reader), confluo_free_log(log);   // in any order
 **
 **   bindings/example.c is a whole program with three threads. Link libconfluo.a or libconfluo.so, and nothing else.
+**
+** HANDLES
+**
+**   A log, a writer and a reader are pointers that a call gives and another one frees. NULL is a handle that leads to nothing: each call
+**   answers CONFLUO_NOTHING to it, and freeing it does nothing.
+**   In C and C++ all calls by handles are inline functions of this header around the library's own calls, which "THE LIBRARY'S OWN CALLS"
+**   below lists for other languages. What that costs: one malloc of 32 bytes for a log or a writer and of 48 for a reader, a copy of the
+**   setup's text for each log, and a load and a store in each call (see THREADS), about 5 nanoseconds.
 **
 ** THREADS
 **
 **   A handle is in one call at a time. Different handles may be in calls at the same time, also those of one log.
-**   A handle may go from one thread to another by starting or joining a thread, by a lock, or by a sequentially consistent atomic. By
-**   anything else (a ring or queue with acquire and release alone, a semaphore, a pipe) it goes with a baton: see confluo_hand_over.
+**   A handle may go from one thread to another by any means that shows the second thread what the first one wrote before, as starting or
+**   joining a thread, a lock, a queue, a ring, a pipe and a semaphore all do: each call begins with a sequentially consistent load of a
+**   word of its handle, and ends with such a store.
 **   No call is made from a signal handler, nor in the forked child of a process that had threads. Do not cancel a thread
 **   (pthread_cancel) in a call, and do not jump out of one (longjmp): a record that is half appended holds the tail back for good.
 **   The deepest call takes less than 64 KiB of stack.
 **
 ** DUTIES
 **
-**   What calls do is proved (docs/PROVED.md); that the caller keeps these duties is not checked.
+**   What the library's own calls do is proved (docs/PROVED.md); the inline functions are tested, and that the caller keeps these duties is
+**   not checked.
 **
-**   - A handle is {0} at first (CONFLUO_LOG_INIT and so on), and after that as the last call left it. It is not copied and used twice: that
-**     is a double free, as with a pointer. Its fields are the library's.
-**   - A pointer is to memory of its type, and a length counts what is there. NULL may stand for bytes, frames, values, words or a text whose
-**     length is 0, for `fault`, `number` and `offset` if you do not want to know them, and for the handle to free; nowhere else. A compiler
-**     that knows `nonnull` warns. (For these the header has inline functions around the calls; see "INLINE" below.)
-**   - Memory that one call writes overlaps nothing else that the call is given. In particular no handle is given twice.
+**   - A handle is NULL, or a call gave it and it has not been freed since. Its fields, whose names end with _private, are the library's.
+**   - A pointer is to memory of its type, and a length counts what is there. NULL may stand for a handle, for bytes, frames, values, words
+**     or a text whose length is 0, and for `fault`, `number`, `offset` and `offsets` if you do not want to know them; nowhere else. A
+**     compiler that knows `nonnull` warns.
+**   - Memory that one call writes overlaps nothing else that the call is given.
 **   - malloc, realloc and free are one allocator, and align to 16 bytes. Arrays of uint64_t are aligned to 8.
 **   - No other function of the program begins with confluo_.
 **
 ** ERRORS
 **
 **   A call answers CONFLUO_OK, which is 0, or the code of the first reason, in the order of the list at the call, why it did nothing. Then
-**   what it would have written is as it was, unless said otherwise. confluo_message gives a code's text. errno means nothing.
+**   what it would have written is as it was, also a pointer to a handle, unless said otherwise. confluo_error_name gives a code's text.
+**   errno means nothing. All calls by a handle answer CONFLUO_NOTHING first if it leads to nothing: if it is NULL, or a log that is closed.
 **   CONFLUO_MEMORY may come whenever a call that lists it needs memory; the same call may be made again. A question that is refused so may
 **   have looked at the tail, on which confluo_ask_seen asks.
 */
@@ -73,34 +83,28 @@
 #include <stdbool.h>
 #include <stddef.h>
 #include <stdint.h>
+#include <stdlib.h>
 #include <string.h>
 
-#ifdef __cplusplus
-extern "C" {
-#endif
-
-#if defined(__GNUC__)
+/* (gcc, clang, and what has their names of symbols and their atomic functions) */
 #define CONFLUO_CHECKED __attribute__((warn_unused_result))
 #define CONFLUO_NEEDS(...) __attribute__((nonnull(__VA_ARGS__)))
-#else
-#define CONFLUO_CHECKED
-#define CONFLUO_NEEDS(...)
-#endif
+#define CONFLUO_CALL(name) __asm__("confluo_" #name ".inline")
 
-/* The version of these calls, apart from that of the program: 1,000,000 for the major number, 1,000 for the minor one, 1 for the patch.
-** A greater minor number adds calls or codes, and a patch mends what was not as this text says. All else that a program was built with
-** stays while the soname (libconfluo.so.0) is the same; if it changes, also below 1.0, the soname's number is raised. abi.txt, beside this
-** file in the sources, lists what C sees, and a test compares. The library is for Linux on x86-64. */
+/* The version of the library's own calls: 1,000,000 for the major number, 1,000 for the minor one, 1 for the patch. A greater minor number
+** adds calls or codes, and a patch mends what was not as this text says. All else that a program was built with stays while the soname
+** (libconfluo.so.0) is the same; if it changes, also below 1.0, the soname's number is raised. abi.txt, beside this file in the sources,
+** lists what C sees, and a test compares. The library is for Linux on x86-64. */
 #define CONFLUO_VERSION 4000
 
-/* A log, a writer or a reader; or nothing, if all bytes are 0. The fields are the library's. */
-typedef struct confluo_log { bool full; void *at; } confluo_log;
-typedef struct confluo_writer { bool full; void *at; } confluo_writer;
-typedef struct confluo_reader { bool full; void *at; } confluo_reader;
+/* The version of this text, counted in the same way: that of the release it comes with. A later one may ask for changes in the source of a
+** program, and CHANGELOG.md names them; what was built with an earlier one goes on while the soname is the same. */
+#define CONFLUO_HEADER_VERSION 17000
 
-#define CONFLUO_LOG_INIT {false, NULL}
-#define CONFLUO_WRITER_INIT {false, NULL}
-#define CONFLUO_READER_INIT {false, NULL}
+/* A log, a writer and a reader. */
+typedef struct confluo_log confluo_log;
+typedef struct confluo_writer confluo_writer;
+typedef struct confluo_reader confluo_reader;
 
 /* What calls answer. The calls' type is uint32_t, as a later library may answer another one: switch ((confluo_code)code) has the compiler
 ** look for cases that are missing. */
@@ -109,7 +113,7 @@ typedef enum confluo_code {
     CONFLUO_MEMORY = 1,       /* out of memory */
     CONFLUO_SIZES = 2,        /* a size is out of range, a reserved field is not 0, or an array is too short */
     CONFLUO_SETUP = 3,        /* the setup is faulty; confluo_fault says where */
-    CONFLUO_NOTHING = 4,      /* the handle leads to nothing */
+    CONFLUO_NOTHING = 4,      /* the handle is NULL, or a log that is closed */
     CONFLUO_NO_WRITER = 5,    /* all writers of the log are taken */
     CONFLUO_FULL = 6,         /* the log is full: it has taken as many records as it can */
     CONFLUO_NODES = 7,        /* the writer has too few nodes for this row, and none left now; a row that needs no new one still fits */
@@ -216,10 +220,7 @@ typedef struct confluo_about {
     uint32_t reserved;
 } confluo_about;
 
-/* The version of the library, as CONFLUO_VERSION is that of the header. Any thread, at any time. */
-uint32_t confluo_version(void);
-
-/* The text of a code, as confluo_message copies it. Any thread, at any time. */
+/* The text of a code. Any thread, at any time. */
 static inline const char *confluo_error_name(uint32_t code) {
     static const char *const texts[] = {"done",
                                         "out of memory",
@@ -260,9 +261,8 @@ static inline const char *confluo_fault_rule(uint32_t code) {
     return code < sizeof rules / sizeof *rules ? rules[code] : "no fault of confluo";
 }
 
-/* Copies the text of a code to `out`, from byte `from` on, as far as there is room; it is ASCII and at most 64 bytes, without a byte 0 at
-** its end. Answers how many bytes. Any thread, at any time. */
-size_t confluo_message(uint32_t code, size_t from, uint8_t *out, size_t out_len);
+/* The version of the library, as CONFLUO_VERSION is that of the header. Any thread, at any time. */
+static inline uint32_t confluo_version(void) CONFLUO_CALL(version);
 
 /* Says whether confluo_open would take this setup and these sizes, and how many bytes the words of the log would take. Nothing is opened.
 ** Any thread, at any time.
@@ -270,38 +270,47 @@ size_t confluo_message(uint32_t code, size_t from, uint8_t *out, size_t out_len)
 **   CONFLUO_SETUP    the text is no setup; `fault` says where
 **   CONFLUO_SIZES    the text is a setup, and a size is out of range
 **   CONFLUO_MEMORY */
-CONFLUO_CHECKED uint32_t confluo_check(const uint8_t *setup, size_t setup_len, const confluo_sizes *sizes, uint64_t *bytes,
-                                       confluo_fault *fault);
+static inline CONFLUO_CHECKED CONFLUO_NEEDS(3, 4) uint32_t
+confluo_check(const char *setup, size_t setup_len, const confluo_sizes *sizes, uint64_t *bytes, confluo_fault *fault) CONFLUO_CALL(check);
 
-/* Opens a log. What `log` led to is freed; if the call is refused, `log` leads to what it led to. The thread that has `log`.
+/* Opens a log, and puts it at `log`. Any thread, at any time.
 **
 **   CONFLUO_SETUP, CONFLUO_SIZES, CONFLUO_MEMORY    as for confluo_check */
-CONFLUO_CHECKED uint32_t confluo_open(confluo_log *log, const uint8_t *setup, size_t setup_len, const confluo_sizes *sizes,
-                                      confluo_fault *fault);
+static inline CONFLUO_CHECKED CONFLUO_NEEDS(1, 4) uint32_t
+confluo_open(confluo_log **log, const char *setup, size_t setup_len, const confluo_sizes *sizes, confluo_fault *fault) CONFLUO_CALL(open);
 
-/* Takes a writer of the log that is not taken to `writer`, and says its number: the greatest that is free, from writers - 1 down to 0. What
-** `writer` led to is freed after that. A writer that was freed, in whatever thread, can be taken again: it goes on with the nodes that it
-** had used. The thread that has `log`.
+/* Takes a writer of the log that is not taken, puts it at `writer`, and says its number: the greatest that is free, from writers - 1 down
+** to 0. A writer that was freed, in whatever thread, can be taken again: it goes on with the nodes that it had used. The thread that has
+** `log`.
 **
 **   CONFLUO_NOTHING    `log` leads to nothing
 **   CONFLUO_NO_WRITER  all are taken
 **   CONFLUO_MEMORY */
-CONFLUO_CHECKED uint32_t confluo_take_writer(confluo_log *log, confluo_writer *writer, uint32_t *number);
+static inline CONFLUO_CHECKED CONFLUO_NEEDS(2) uint32_t
+confluo_take_writer(confluo_log *log, confluo_writer **writer, uint32_t *number) CONFLUO_CALL(take_writer);
 
-/* Takes a reader of the log to `reader`. What `reader` led to is freed. The thread that has `log`.
+/* Takes a reader of the log, and puts it at `reader`. The thread that has `log`.
 **
 **   CONFLUO_NOTHING    `log` leads to nothing
 **   CONFLUO_MEMORY */
-CONFLUO_CHECKED uint32_t confluo_take_reader(confluo_log *log, confluo_reader *reader);
+static inline CONFLUO_CHECKED CONFLUO_NEEDS(2) uint32_t
+confluo_take_reader(confluo_log *log, confluo_reader **reader) CONFLUO_CALL(take_reader);
 
-/* Closes the log, once all its writers are freed: no record comes to it any more. `log` leads to nothing then, and `reader` to a reader that
-** has seen every record of the log. confluo_ask_seen asks it for the final answers, and confluo_report gives them with the history of the
-** log. What `reader` led to is freed. Other readers may stay; they see the whole log when they ask next. The thread that has `log`.
+/* Closes the log, once all its writers are freed: no record comes to it any more. `log` leads to nothing then, and is to be freed as ever.
+** At `reader` is a reader that has seen every record of the log. confluo_ask_seen asks it for the final answers, and confluo_report gives
+** them with the history of the log. Other readers may stay; they see the whole log when they ask next. The thread that has `log`.
 **
 **   CONFLUO_NOTHING    `log` leads to nothing
 **   CONFLUO_BUSY       a writer is taken; the log stays open
 **   CONFLUO_MEMORY     the log stays open */
-CONFLUO_CHECKED uint32_t confluo_close(confluo_log *log, confluo_reader *reader);
+static inline CONFLUO_CHECKED CONFLUO_NEEDS(2) uint32_t
+confluo_close(confluo_log *log, confluo_reader **reader) CONFLUO_CALL(close);
+
+/* Frees a handle, or does nothing with NULL. Handles of one log are freed in any order: its memory goes with the last of them. A writer that
+** is freed can be taken again, by confluo_take_writer. The thread that has the handle. */
+static inline void confluo_free_log(confluo_log *log) CONFLUO_CALL(free_log);
+static inline void confluo_free_writer(confluo_writer *writer) CONFLUO_CALL(free_writer);
+static inline void confluo_free_reader(confluo_reader *reader) CONFLUO_CALL(free_reader);
 
 /* Appends the record of a captured frame, and says its offset. `bytes` are the captured bytes of the frame; they are read within the call,
 ** and not kept. A frame whose headers cannot be read is a record all the same, with 0 in those fields. The schema `packet` reads the links
@@ -316,8 +325,18 @@ CONFLUO_CHECKED uint32_t confluo_close(confluo_log *log, confluo_reader *reader)
 **                      appends the rows that need no new node, since it or another writer has met their keys
 **   CONFLUO_FULL       the log is full, now and for good. A writer that was told so is told so of each row that fits. One that was not may
 **                      be told CONFLUO_NODES by a full log: the tail of a full log is its capacity, once each record is finished */
-CONFLUO_CHECKED uint32_t confluo_append(confluo_writer *writer, const confluo_capture *capture, const uint8_t *bytes, size_t bytes_len,
-                                        uint32_t *offset);
+static inline CONFLUO_CHECKED CONFLUO_NEEDS(2) uint32_t
+confluo_append(confluo_writer *writer, const confluo_capture *capture, const uint8_t *bytes, size_t bytes_len,
+               uint32_t *offset) CONFLUO_CALL(append);
+
+/* Says whether confluo_append takes the frames of a link, by a log of one record with the same setup, which it opens and frees. The thread
+** that has `log`.
+**
+**   CONFLUO_NOTHING    `log` leads to nothing
+**   CONFLUO_UNFIT      the schema of the log is not that of packets
+**   CONFLUO_FRAME      the schema does not read the link
+**   CONFLUO_MEMORY */
+static inline CONFLUO_CHECKED uint32_t confluo_reads_link(confluo_log *log, uint32_t link);
 
 /* Appends a record of numbers, one for each attribute of the schema in its order, and says its offset. `number` is yours. The thread that
 ** has `writer`.
@@ -326,23 +345,25 @@ CONFLUO_CHECKED uint32_t confluo_append(confluo_writer *writer, const confluo_ca
 **   CONFLUO_UNFIT      there are too few or too many numbers, one is too large for its attribute, or an attribute takes bytes
 **   CONFLUO_MEMORY
 **   CONFLUO_NODES, CONFLUO_FULL    as for confluo_append */
-CONFLUO_CHECKED uint32_t confluo_append_values(confluo_writer *writer, uint32_t number, const uint64_t *values, size_t values_len,
-                                               uint32_t *offset);
+static inline CONFLUO_CHECKED uint32_t
+confluo_append_values(confluo_writer *writer, uint32_t number, const uint64_t *values, size_t values_len,
+                      uint32_t *offset) CONFLUO_CALL(append_values);
 
 /* Appends the records of many frames, each as confluo_append does, until one is refused. `bytes` is the buffer in which the frames' bytes
 ** stand; frames may share bytes. `done` is how many were appended, whatever the answer is, and 0 if none was; the first so many of
-** `offsets` are their offsets, and the others are as they were. The answer is CONFLUO_OK if all were appended, and else why the next one
-** was not: you may go on with that one. One copy of the longest frame is kept while the call runs; under `packet` no other memory is taken.
-** A writer that appends in such calls finds its way faster, the more so where a frame's keys are near those of the frame before.
-** The thread that has `writer`.
+** `offsets` are their offsets, and the others are as they were; `offsets` may be NULL. The answer is CONFLUO_OK if all were appended, and
+** else why the next one was not: you may go on with that one. One copy of the longest frame is kept while the call runs; under `packet` no
+** other memory is taken. A writer that appends in such calls finds its way faster, the more so where a frame's keys are near those of the
+** frame before. The thread that has `writer`.
 **
 **   CONFLUO_NOTHING    `writer` leads to nothing
-**   CONFLUO_SIZES      offsets_len is less than frames_len
+**   CONFLUO_SIZES      `offsets` is not NULL, and offsets_len is less than frames_len
 **   CONFLUO_UNFIT      as for confluo_append
 **   CONFLUO_FRAME      as for confluo_append, or the frame's bytes do not all stand in the buffer
 **   CONFLUO_MEMORY, CONFLUO_NODES, CONFLUO_FULL    as for confluo_append */
-CONFLUO_CHECKED uint32_t confluo_append_many(confluo_writer *writer, const confluo_frame *frames, size_t frames_len, const uint8_t *bytes,
-                                             size_t bytes_len, uint32_t *offsets, size_t offsets_len, size_t *done);
+static inline CONFLUO_CHECKED CONFLUO_NEEDS(8) uint32_t
+confluo_append_many(confluo_writer *writer, const confluo_frame *frames, size_t frames_len, const uint8_t *bytes, size_t bytes_len,
+                    uint32_t *offsets, size_t offsets_len, size_t *done) CONFLUO_CALL(append_many);
 
 /* Appends a record of values, one for each attribute of the schema in its order, and says its offset. `number` is yours. The thread that has
 ** `writer`.
@@ -352,13 +373,14 @@ CONFLUO_CHECKED uint32_t confluo_append_many(confluo_writer *writer, const confl
 **   CONFLUO_UNFIT      there are too few or too many values, one is not of its attribute's kind, a number is too large, a string has another
 **                      length than its attribute's, or a byte behind it is not 0
 **   CONFLUO_NODES, CONFLUO_FULL    as for confluo_append */
-CONFLUO_CHECKED uint32_t confluo_append_row(confluo_writer *writer, uint32_t number, const confluo_value *values, size_t values_len,
-                                            uint32_t *offset);
+static inline CONFLUO_CHECKED uint32_t
+confluo_append_row(confluo_writer *writer, uint32_t number, const confluo_value *values, size_t values_len,
+                   uint32_t *offset) CONFLUO_CALL(append_row);
 
 /* Says what the log of a writer has room for, and the writer. The thread that has `writer`.
 **
 **   CONFLUO_NOTHING    `writer` leads to nothing */
-uint32_t confluo_room_of(confluo_writer *writer, confluo_room *room);
+static inline CONFLUO_NEEDS(2) uint32_t confluo_room_of(confluo_writer *writer, confluo_room *room) CONFLUO_CALL(room_of);
 
 /* Asks a question of the setup. The reader keeps the words of the answer until its next answer; if the call is refused, those that it has.
 ** The thread that has `reader`.
@@ -366,7 +388,8 @@ uint32_t confluo_room_of(confluo_writer *writer, confluo_room *room);
 **   CONFLUO_NOTHING      `reader` leads to nothing
 **   CONFLUO_NO_QUESTION  the setup has no question of that number
 **   CONFLUO_MEMORY */
-CONFLUO_CHECKED uint32_t confluo_ask(confluo_reader *reader, uint32_t question, confluo_head *head);
+static inline CONFLUO_CHECKED CONFLUO_NEEDS(3) uint32_t
+confluo_ask(confluo_reader *reader, uint32_t question, confluo_head *head) CONFLUO_CALL(ask);
 
 /* Asks the question that a line of the setup's language says, such as "ask late find sources 10.0.0.1 10.0.0.1", without an end of line.
 ** It is read behind the text of the log's setup, whose names it may use, and its own name must be new; so a setup that has 32 questions
@@ -378,13 +401,14 @@ CONFLUO_CHECKED uint32_t confluo_ask(confluo_reader *reader, uint32_t question, 
 **   CONFLUO_SETUP        the line is faulty; `fault` says what is wrong with it: of line 1, which is this one, or of line 0 if there is no
 **                        room behind the setup's text, of 65,536 bytes in all
 **   CONFLUO_MEMORY */
-CONFLUO_CHECKED uint32_t confluo_ask_text(confluo_reader *reader, const uint8_t *line, size_t line_len, confluo_head *head,
-                                          confluo_fault *fault);
+static inline CONFLUO_CHECKED CONFLUO_NEEDS(4) uint32_t
+confluo_ask_text(confluo_reader *reader, const char *line, size_t line_len, confluo_head *head, confluo_fault *fault) CONFLUO_CALL(ask_text);
 
 /* Asks a question of the setup on the records that the reader has seen: those below the tail that its last confluo_ask, confluo_ask_text
 ** or confluo_tail found, which is 0 at first. The tail is not looked at again, so that all questions of a report have one tail: call
 ** confluo_tail once, and then this for each question. All else is as for confluo_ask, with the same codes. */
-CONFLUO_CHECKED uint32_t confluo_ask_seen(confluo_reader *reader, uint32_t question, confluo_head *head);
+static inline CONFLUO_CHECKED CONFLUO_NEEDS(3) uint32_t
+confluo_ask_seen(confluo_reader *reader, uint32_t question, confluo_head *head) CONFLUO_CALL(ask_seen);
 
 /* Tells the groups of an aggregate or a tally on the records that the reader has seen, as for confluo_ask_seen: for each bucket of the
 ** aggregate, or each key of the tally, that a record has which it selects, what it measures. These are the words of an answer of kind
@@ -393,7 +417,8 @@ CONFLUO_CHECKED uint32_t confluo_ask_seen(confluo_reader *reader, uint32_t quest
 **   CONFLUO_NOTHING    `reader` leads to nothing
 **   CONFLUO_NO_LANE    the setup has no lane of that number, or it is an index or a filter
 **   CONFLUO_MEMORY */
-CONFLUO_CHECKED uint32_t confluo_groups(confluo_reader *reader, uint32_t lane, confluo_head *head);
+static inline CONFLUO_CHECKED CONFLUO_NEEDS(3) uint32_t
+confluo_groups(confluo_reader *reader, uint32_t lane, confluo_head *head) CONFLUO_CALL(groups);
 
 /* Merges two lists of groups, as confluo_groups and this call tell them: those of one key become one, and they ascend by key, in whatever
 ** order they stood. The merged list goes to `out`, in as many words as `count` says; one_len + other_len words are always room enough. Of
@@ -405,284 +430,502 @@ CONFLUO_CHECKED uint32_t confluo_groups(confluo_reader *reader, uint32_t lane, c
 **                      all counts) together: the records of 16 full logs
 **   CONFLUO_MEMORY
 **   CONFLUO_SIZES      the merged list has more words than `out` */
-CONFLUO_CHECKED uint32_t confluo_merge(const uint64_t *one, size_t one_len, const uint64_t *other, size_t other_len, uint64_t *out,
-                                       size_t out_len, size_t *count);
+static inline CONFLUO_CHECKED CONFLUO_NEEDS(7) uint32_t
+confluo_merge(const uint64_t *one, size_t one_len, const uint64_t *other, size_t other_len, uint64_t *out, size_t out_len,
+              size_t *count) CONFLUO_CALL(merge);
 
 /* Reads back the record at an offset that the reader has seen: the number that it was appended with, and its values, of which as many are
-** copied to `values` as there is room for. `count` is how many values a record has. The thread that has `reader`.
+** copied to `values` as there is room for. `count` is how many values a record has, at most 24. The thread that has `reader`.
 **
 **   CONFLUO_NOTHING    `reader` leads to nothing
 **   CONFLUO_NO_ROW     the offset is not below the tail that the reader saw last; confluo_tail looks again
 **   CONFLUO_MEMORY */
-CONFLUO_CHECKED uint32_t confluo_row(confluo_reader *reader, uint32_t offset, uint32_t *number, confluo_value *values, size_t values_len,
-                                     size_t *count);
+static inline CONFLUO_CHECKED CONFLUO_NEEDS(6) uint32_t
+confluo_row(confluo_reader *reader, uint32_t offset, uint32_t *number, confluo_value *values, size_t values_len,
+            size_t *count) CONFLUO_CALL(row);
 
 /* Copies words of the reader's last answer to `out`, from word `from` on, as far as there is room. Answers how many: none if there was no
-** answer yet, if `from` is past the last word, and if `reader` leads to nothing. The thread that has `reader`. */
-size_t confluo_words(confluo_reader *reader, size_t from, uint64_t *out, size_t out_len);
+** answer yet, if `from` is past the last word, and if `reader` is NULL. The thread that has `reader`. */
+static inline size_t confluo_words(confluo_reader *reader, size_t from, uint64_t *out, size_t out_len) CONFLUO_CALL(words);
 
-/* Copies the report of the records that the reader has seen to `text`, as far as there is room, and says in `count` how many bytes it has.
-** It is the text that `confluo run` prints of these records: how many they are, what each question and trigger of the setup means on them
-** (records are shown by the numbers that they were appended with), and the order in which the writers appended them. The answers and that
-** order are one legal history of a list that one thread appends to and asks. The tail is not looked at again: call this with no room, and
-** then with as much as `count` says. The thread that has `reader`.
+/* Copies the report of the records that the reader has seen to `text`, as far as there is room, with a byte 0 behind it if there is room
+** for that too, and says in `count` how many bytes it has. It is the text that `confluo run` prints of these records: how many they are,
+** what each question and trigger of the setup means on them (records are shown by the numbers that they were appended with), and the
+** order in which the writers appended them. The answers and that order are one legal history of a list that one thread appends to and
+** asks. The tail is not looked at again: call this with no room, and then with as much as `count` says. Each call makes the whole text.
+** The thread that has `reader`.
 **
 **   CONFLUO_NOTHING    `reader` leads to nothing
 **   CONFLUO_MEMORY */
-CONFLUO_CHECKED uint32_t confluo_report(confluo_reader *reader, uint8_t *text, size_t text_len, size_t *count);
+static inline CONFLUO_CHECKED CONFLUO_NEEDS(4) uint32_t
+confluo_report(confluo_reader *reader, char *text, size_t text_len, size_t *count) CONFLUO_CALL(report);
 
 /* Says how many records are below the tail now. The thread that has `reader`.
 **
 **   CONFLUO_NOTHING    `reader` leads to nothing */
-uint32_t confluo_tail(confluo_reader *reader, uint32_t *tail);
+static inline CONFLUO_NEEDS(2) uint32_t confluo_tail(confluo_reader *reader, uint32_t *tail) CONFLUO_CALL(tail);
 
-/* Copies the name of what the setup of the log has of that sort at that number (CONFLUO_ATTRIBUTES and so on), as far as there is room, and
-** says in `count` how many bytes the name has: at most 32, all ASCII, without a byte 0 at the end. The thread that has `log`.
+/* Copies the name of what the setup of the log has of that sort at that number (CONFLUO_ATTRIBUTES and so on), as far as there is room, with
+** a byte 0 behind it if there is room for that too, and says in `count` how many bytes the name has: at most 32, all ASCII. The thread
+** that has `log`.
 **
 **   CONFLUO_NOTHING    `log` leads to nothing
 **   CONFLUO_NO_NAME    there is no such sort, or the setup has nothing of it at that number: count up from 0 until this comes */
-CONFLUO_CHECKED uint32_t confluo_name(confluo_log *log, uint32_t sort, uint32_t number, uint8_t *name, size_t name_len, size_t *count);
+static inline CONFLUO_CHECKED CONFLUO_NEEDS(6) uint32_t
+confluo_name(confluo_log *log, uint32_t sort, uint32_t number, char *name, size_t name_len, size_t *count) CONFLUO_CALL(name);
 
 /* Says what the setup of the log says of that. The thread that has `log`; codes as for confluo_name. */
-CONFLUO_CHECKED uint32_t confluo_tell(confluo_log *log, uint32_t sort, uint32_t number, confluo_about *about);
+static inline CONFLUO_CHECKED CONFLUO_NEEDS(4) uint32_t
+confluo_tell(confluo_log *log, uint32_t sort, uint32_t number, confluo_about *about) CONFLUO_CALL(tell);
 
 /* Says the number of the question of that name. The thread that has `log`.
 **
 **   CONFLUO_NOTHING      `log` leads to nothing
 **   CONFLUO_NO_QUESTION  the setup has no question of that name */
-CONFLUO_CHECKED uint32_t confluo_question(confluo_log *log, const uint8_t *name, size_t name_len, uint32_t *number);
+static inline CONFLUO_CHECKED CONFLUO_NEEDS(4) uint32_t
+confluo_question(confluo_log *log, const char *name, size_t name_len, uint32_t *number) CONFLUO_CALL(question);
 
 /* Says how wide a bucket is, in nanoseconds. The thread that has `log`.
 **
 **   CONFLUO_NOTHING    `log` leads to nothing */
-uint32_t confluo_width(confluo_log *log, uint64_t *width);
+static inline CONFLUO_NEEDS(2) uint32_t confluo_width(confluo_log *log, uint64_t *width) CONFLUO_CALL(width);
 
-/* Frees what the handle leads to, which may be nothing, and leaves nothing there. Handles of one log are freed in any order: its memory goes
-** with the last of them. A writer that is freed can be taken again, by confluo_take_writer. The thread that has the handle. */
-void confluo_free_log(confluo_log *log);
-void confluo_free_writer(confluo_writer *writer);
-void confluo_free_reader(confluo_reader *reader);
+/* The same for the thread that has a reader, also when the log is closed or freed. The first such call of a reader reads the setup's text
+** again.
+**
+**   CONFLUO_NOTHING, CONFLUO_NO_NAME    as for confluo_name
+**   CONFLUO_MEMORY */
+static inline CONFLUO_CHECKED CONFLUO_NEEDS(6) uint32_t
+confluo_reader_name(confluo_reader *reader, uint32_t sort, uint32_t number, char *name, size_t name_len, size_t *count);
+static inline CONFLUO_CHECKED CONFLUO_NEEDS(4) uint32_t
+confluo_reader_tell(confluo_reader *reader, uint32_t sort, uint32_t number, confluo_about *about);
+static inline CONFLUO_CHECKED CONFLUO_NEEDS(2) uint32_t confluo_reader_width(confluo_reader *reader, uint64_t *width);
 
-/* A baton makes any way lawful by which a handle goes to another thread. The two are of one memory, such as an item of a queue. The thread
-** that has the handle calls confluo_hand_over once its last call is done, and lets the item go; the other takes the item and calls
-** confluo_take_over before its first call. The way itself must only let the second thread see what the first one wrote, as each queue does.
-** It costs a store and a load, both sequentially consistent. Begin with {0}. A baton goes with one handle, or with handles that stay
-** together, as often as they go. */
-typedef struct confluo_baton { uint32_t passed; } confluo_baton;
+/* Says the number of what has that name, which ends with a byte 0, among those of a sort: of a question for confluo_ask, of a lane for
+** confluo_groups, of an attribute for its place among the values of confluo_row. The thread that has `reader`; codes as for
+** confluo_reader_name. */
+static inline CONFLUO_CHECKED CONFLUO_NEEDS(3, 4) uint32_t
+confluo_reader_number(confluo_reader *reader, uint32_t sort, const char *name, uint32_t *number);
 
-#if defined(__GNUC__)
-static inline CONFLUO_NEEDS(1) void confluo_hand_over(confluo_baton *baton) { __atomic_store_n(&baton->passed, 1, __ATOMIC_SEQ_CST); }
-static inline CONFLUO_NEEDS(1) void confluo_take_over(confluo_baton *baton) { (void)__atomic_load_n(&baton->passed, __ATOMIC_SEQ_CST); }
+/* The text of the setup, with a byte 0 behind it, and its length, which may be NULL. It stays as long as a log or a reader of it; NULL if the
+** handle is. The thread that has the handle. */
+static inline const char *confluo_log_setup(const confluo_log *log, size_t *length);
+static inline const char *confluo_reader_setup(const confluo_reader *reader, size_t *length);
+
+/* The calls that take a text, with one that ends with a byte 0. */
+static inline CONFLUO_CHECKED CONFLUO_NEEDS(1, 2, 3) uint32_t
+confluo_check_str(const char *setup, const confluo_sizes *sizes, uint64_t *bytes, confluo_fault *fault);
+static inline CONFLUO_CHECKED CONFLUO_NEEDS(1, 2, 3) uint32_t
+confluo_open_str(confluo_log **log, const char *setup, const confluo_sizes *sizes, confluo_fault *fault);
+static inline CONFLUO_CHECKED CONFLUO_NEEDS(2, 3) uint32_t
+confluo_ask_str(confluo_reader *reader, const char *line, confluo_head *head, confluo_fault *fault);
+static inline CONFLUO_CHECKED CONFLUO_NEEDS(2, 3) uint32_t
+confluo_question_str(confluo_log *log, const char *name, uint32_t *number);
+
+/* THE LIBRARY'S OWN CALLS
+**
+** What follows is not for programs in C and C++.
+**
+** These are the symbols that the library exports, which the packages for Rust and Python call. A handle is 16 bytes of the caller's there:
+** all 0 at first, and then as the last call left it; if two copies of it are used, that is a double free. What a handle led to is freed
+** by the call that puts another thing there. A call owes memory for each pointer, NULL is allowed nowhere, and a batch needs room for all
+** offsets. The line of confluo_ask_text counts behind those of the setup. A handle goes to another thread by starting or joining a thread,
+** by a lock, or by a sequentially consistent atomic. All else is as above. confluo_message copies the text of a code to `out`, from byte
+** `from` on, as far as there is room: it is ASCII and at most 64 bytes. */
+typedef struct confluo_raw_log { bool full_private; void *at_private; } confluo_raw_log;
+typedef struct confluo_raw_writer { bool full_private; void *at_private; } confluo_raw_writer;
+typedef struct confluo_raw_reader { bool full_private; void *at_private; } confluo_raw_reader;
+
+#ifdef __cplusplus
+extern "C" {
+#endif
+uint32_t confluo_raw_version(void) __asm__("confluo_version");
+size_t confluo_raw_message(uint32_t code, size_t from, uint8_t *out, size_t out_len) __asm__("confluo_message");
+uint32_t confluo_raw_check(const uint8_t *setup, size_t setup_len, const confluo_sizes *sizes, uint64_t *bytes,
+                           confluo_fault *fault) __asm__("confluo_check");
+uint32_t confluo_raw_open(confluo_raw_log *log, const uint8_t *setup, size_t setup_len, const confluo_sizes *sizes,
+                          confluo_fault *fault) __asm__("confluo_open");
+uint32_t confluo_raw_take_writer(confluo_raw_log *log, confluo_raw_writer *writer, uint32_t *number) __asm__("confluo_take_writer");
+uint32_t confluo_raw_take_reader(confluo_raw_log *log, confluo_raw_reader *reader) __asm__("confluo_take_reader");
+uint32_t confluo_raw_close(confluo_raw_log *log, confluo_raw_reader *reader) __asm__("confluo_close");
+uint32_t confluo_raw_append(confluo_raw_writer *writer, const confluo_capture *capture, const uint8_t *bytes, size_t bytes_len,
+                            uint32_t *offset) __asm__("confluo_append");
+uint32_t confluo_raw_append_values(confluo_raw_writer *writer, uint32_t number, const uint64_t *values, size_t values_len,
+                                   uint32_t *offset) __asm__("confluo_append_values");
+uint32_t confluo_raw_append_many(confluo_raw_writer *writer, const confluo_frame *frames, size_t frames_len, const uint8_t *bytes,
+                                 size_t bytes_len, uint32_t *offsets, size_t offsets_len, size_t *done) __asm__("confluo_append_many");
+uint32_t confluo_raw_append_row(confluo_raw_writer *writer, uint32_t number, const confluo_value *values, size_t values_len,
+                                uint32_t *offset) __asm__("confluo_append_row");
+uint32_t confluo_raw_room_of(confluo_raw_writer *writer, confluo_room *room) __asm__("confluo_room_of");
+uint32_t confluo_raw_ask(confluo_raw_reader *reader, uint32_t question, confluo_head *head) __asm__("confluo_ask");
+uint32_t confluo_raw_ask_text(confluo_raw_reader *reader, const uint8_t *line, size_t line_len, confluo_head *head,
+                              confluo_fault *fault) __asm__("confluo_ask_text");
+uint32_t confluo_raw_ask_seen(confluo_raw_reader *reader, uint32_t question, confluo_head *head) __asm__("confluo_ask_seen");
+uint32_t confluo_raw_groups(confluo_raw_reader *reader, uint32_t lane, confluo_head *head) __asm__("confluo_groups");
+uint32_t confluo_raw_merge(const uint64_t *one, size_t one_len, const uint64_t *other, size_t other_len, uint64_t *out, size_t out_len,
+                           size_t *count) __asm__("confluo_merge");
+uint32_t confluo_raw_row(confluo_raw_reader *reader, uint32_t offset, uint32_t *number, confluo_value *values, size_t values_len,
+                         size_t *count) __asm__("confluo_row");
+size_t confluo_raw_words(confluo_raw_reader *reader, size_t from, uint64_t *out, size_t out_len) __asm__("confluo_words");
+uint32_t confluo_raw_report(confluo_raw_reader *reader, uint8_t *text, size_t text_len, size_t *count) __asm__("confluo_report");
+uint32_t confluo_raw_tail(confluo_raw_reader *reader, uint32_t *tail) __asm__("confluo_tail");
+uint32_t confluo_raw_name(confluo_raw_log *log, uint32_t sort, uint32_t number, uint8_t *name, size_t name_len,
+                          size_t *count) __asm__("confluo_name");
+uint32_t confluo_raw_tell(confluo_raw_log *log, uint32_t sort, uint32_t number, confluo_about *about) __asm__("confluo_tell");
+uint32_t confluo_raw_question(confluo_raw_log *log, const uint8_t *name, size_t name_len, uint32_t *number) __asm__("confluo_question");
+uint32_t confluo_raw_width(confluo_raw_log *log, uint64_t *width) __asm__("confluo_width");
+void confluo_raw_free_log(confluo_raw_log *log) __asm__("confluo_free_log");
+void confluo_raw_free_writer(confluo_raw_writer *writer) __asm__("confluo_free_writer");
+void confluo_raw_free_reader(confluo_raw_reader *reader) __asm__("confluo_free_reader");
+#ifdef __cplusplus
+}
 #endif
 
-/* INLINE
-**
-** In C and C++ a call by its name is one of these inline functions. They put memory of their own in the place of what may be NULL, which
-** costs a comparison, and none where the compiler sees what is given; confluo_ask_text_at counts its line from 1. A call from another
-** language, or by dlsym, owes memory for each pointer, and counts that line behind the setup's. CONFLUO_PLAIN leaves them out. */
-#ifndef CONFLUO_PLAIN
-static inline CONFLUO_CHECKED CONFLUO_NEEDS(3, 4) uint32_t confluo_check_at(const uint8_t *setup, size_t setup_len,
-                                                                            const confluo_sizes *sizes, uint64_t *bytes,
-                                                                            confluo_fault *fault) {
-    static uint8_t no_setup;
+/* INLINE: what the calls for C and C++ do around those. */
+
+/* The text of a setup, which stands behind this; the log and its readers own it. */
+typedef struct confluo_text_private { size_t length_private, owners_private; } confluo_text_private;
+
+struct confluo_log { confluo_raw_log raw_private; confluo_text_private *text_private; uint32_t passed_private; };
+struct confluo_writer { confluo_raw_writer raw_private; uint32_t passed_private; };
+struct confluo_reader {
+    confluo_raw_reader raw_private;
+    confluo_raw_log names_private; /* a log of one record, once names are wanted */
+    confluo_text_private *text_private;
+    uint32_t passed_private;
+};
+
+/* A handle that was in another thread is seen as that one's last call left it. */
+static inline void confluo_begin_private(const uint32_t *passed) { (void)__atomic_load_n(passed, __ATOMIC_SEQ_CST); }
+static inline void confluo_end_private(uint32_t *passed) { __atomic_store_n(passed, 1, __ATOMIC_SEQ_CST); }
+
+/* Answers what a call by a handle answers, and `nothing` if it is NULL. */
+#define CONFLUO_BY(handle, type, nothing, call)       \
+    type answer = nothing;                            \
+    if (handle == NULL) return answer;                \
+    confluo_begin_private(&(handle)->passed_private); \
+    answer = call;                                    \
+    confluo_end_private(&(handle)->passed_private);   \
+    return answer
+
+/* Memory of zeros. */
+static inline void *confluo_made_private(size_t size) {
+    void *made = malloc(size);
+    return made != NULL ? memset(made, 0, size) : NULL;
+}
+
+/* What is given, or memory in the place of nothing. */
+static inline const uint8_t *confluo_bytes_private(const void *bytes, size_t length) {
+    static const uint8_t none = 0;
+    return length != 0 ? (const uint8_t *)bytes : &none;
+}
+static inline const uint64_t *confluo_numbers_private(const uint64_t *numbers, size_t length) {
+    static const uint64_t none = 0;
+    return length != 0 ? numbers : &none;
+}
+static inline const confluo_value *confluo_values_private(const confluo_value *values, size_t length) {
+    static const confluo_value none = {0, 0, 0, {0}};
+    return length != 0 ? values : &none;
+}
+static inline const uint8_t *confluo_text_of_private(const confluo_text_private *text) { return (const uint8_t *)(text + 1); }
+static inline void confluo_release_private(confluo_text_private *text) {
+    if (__atomic_sub_fetch(&text->owners_private, 1, __ATOMIC_ACQ_REL) == 0) free(text);
+}
+
+static inline uint32_t confluo_version(void) { return confluo_raw_version(); }
+static inline uint32_t confluo_check(const char *setup, size_t setup_len, const confluo_sizes *sizes, uint64_t *bytes,
+                                     confluo_fault *fault) {
     confluo_fault no_fault;
-    return confluo_check(setup_len != 0 ? setup : &no_setup, setup_len, sizes, bytes, fault != NULL ? fault : &no_fault);
+    return confluo_raw_check(confluo_bytes_private(setup, setup_len), setup_len, sizes, bytes, fault != NULL ? fault : &no_fault);
 }
-static inline CONFLUO_CHECKED CONFLUO_NEEDS(1, 4) uint32_t confluo_open_at(confluo_log *log, const uint8_t *setup, size_t setup_len,
-                                                                           const confluo_sizes *sizes, confluo_fault *fault) {
-    static uint8_t no_setup;
+static inline uint32_t confluo_open(confluo_log **log, const char *setup, size_t setup_len, const confluo_sizes *sizes,
+                                    confluo_fault *fault) {
     confluo_fault no_fault;
-    return confluo_open(log, setup_len != 0 ? setup : &no_setup, setup_len, sizes, fault != NULL ? fault : &no_fault);
-}
-static inline CONFLUO_CHECKED CONFLUO_NEEDS(1, 2) uint32_t confluo_take_writer_at(confluo_log *log, confluo_writer *writer,
-                                                                                  uint32_t *number) {
-    uint32_t no_number;
-    return confluo_take_writer(log, writer, number != NULL ? number : &no_number);
-}
-static inline CONFLUO_CHECKED CONFLUO_NEEDS(1, 2) uint32_t confluo_append_at(confluo_writer *writer, const confluo_capture *capture,
-                                                                             const uint8_t *bytes, size_t bytes_len, uint32_t *offset) {
-    static uint8_t no_bytes;
-    uint32_t no_offset;
-    return confluo_append(writer, capture, bytes_len != 0 ? bytes : &no_bytes, bytes_len, offset != NULL ? offset : &no_offset);
-}
-static inline CONFLUO_CHECKED CONFLUO_NEEDS(1) uint32_t confluo_append_values_at(confluo_writer *writer, uint32_t number,
-                                                                                 const uint64_t *values, size_t values_len,
-                                                                                 uint32_t *offset) {
-    static uint64_t no_values;
-    uint32_t no_offset;
-    return confluo_append_values(writer, number, values_len != 0 ? values : &no_values, values_len, offset != NULL ? offset : &no_offset);
-}
-static inline CONFLUO_CHECKED CONFLUO_NEEDS(1, 8) uint32_t confluo_append_many_at(confluo_writer *writer, const confluo_frame *frames,
-                                                                                  size_t frames_len, const uint8_t *bytes,
-                                                                                  size_t bytes_len, uint32_t *offsets, size_t offsets_len,
-                                                                                  size_t *done) {
-    static confluo_frame no_frames;
-    static uint8_t no_bytes;
-    uint32_t no_offsets;
-    return confluo_append_many(writer, frames_len != 0 ? frames : &no_frames, frames_len, bytes_len != 0 ? bytes : &no_bytes, bytes_len,
-                               offsets_len != 0 ? offsets : &no_offsets, offsets_len, done);
-}
-static inline CONFLUO_CHECKED CONFLUO_NEEDS(1) uint32_t confluo_append_row_at(confluo_writer *writer, uint32_t number,
-                                                                              const confluo_value *values, size_t values_len,
-                                                                              uint32_t *offset) {
-    static confluo_value no_values;
-    uint32_t no_offset;
-    return confluo_append_row(writer, number, values_len != 0 ? values : &no_values, values_len, offset != NULL ? offset : &no_offset);
-}
-static inline CONFLUO_CHECKED CONFLUO_NEEDS(1, 4) uint32_t confluo_ask_text_at(confluo_reader *reader, const uint8_t *line,
-                                                                               size_t line_len, confluo_head *head,
-                                                                               confluo_fault *fault) {
-    static uint8_t no_line;
-    confluo_fault no_fault;
+    confluo_log *made = (confluo_log *)confluo_made_private(sizeof *made);
     uint32_t code;
-    if (fault == NULL) fault = &no_fault;
-    code = confluo_ask_text(reader, line_len != 0 ? line : &no_line, line_len, head, fault);
-    if (code == CONFLUO_SETUP && fault->line != 0) fault->line = 1; /* it was counted behind the setup's text */
+    if (made == NULL) return CONFLUO_MEMORY;
+    code = confluo_raw_open(&made->raw_private, confluo_bytes_private(setup, setup_len), setup_len, sizes, fault != NULL ? fault : &no_fault);
+    if (code == CONFLUO_OK) {
+        made->text_private = (confluo_text_private *)malloc(sizeof *made->text_private + setup_len + 1);
+        if (made->text_private == NULL) code = (confluo_raw_free_log(&made->raw_private), CONFLUO_MEMORY);
+    }
+    if (code != CONFLUO_OK) {
+        free(made);
+        return code;
+    }
+    made->text_private->length_private = setup_len;
+    made->text_private->owners_private = 1;
+    memcpy(made->text_private + 1, confluo_bytes_private(setup, setup_len), setup_len);
+    ((char *)(made->text_private + 1))[setup_len] = 0;
+    confluo_end_private(&made->passed_private);
+    *log = made;
     return code;
 }
-static inline CONFLUO_CHECKED CONFLUO_NEEDS(7) uint32_t confluo_merge_at(const uint64_t *one, size_t one_len, const uint64_t *other,
-                                                                         size_t other_len, uint64_t *out, size_t out_len, size_t *count) {
-    static uint64_t no_one;
-    static uint64_t no_other;
-    uint64_t no_out;
-    return confluo_merge(one_len != 0 ? one : &no_one, one_len, other_len != 0 ? other : &no_other, other_len,
-                         out_len != 0 ? out : &no_out, out_len, count);
+static inline uint32_t confluo_take_writer(confluo_log *log, confluo_writer **writer, uint32_t *number) {
+    uint32_t no_number, code;
+    confluo_writer *made;
+    if (log == NULL) return CONFLUO_NOTHING;
+    made = (confluo_writer *)confluo_made_private(sizeof *made);
+    if (made == NULL) return CONFLUO_MEMORY;
+    confluo_begin_private(&log->passed_private);
+    code = confluo_raw_take_writer(&log->raw_private, &made->raw_private, number != NULL ? number : &no_number);
+    confluo_end_private(&log->passed_private);
+    confluo_end_private(&made->passed_private);
+    if (code == CONFLUO_OK)
+        *writer = made;
+    else
+        free(made);
+    return code;
 }
-static inline CONFLUO_CHECKED CONFLUO_NEEDS(1, 6) uint32_t confluo_row_at(confluo_reader *reader, uint32_t offset, uint32_t *number,
-                                                                          confluo_value *values, size_t values_len, size_t *count) {
-    confluo_value no_values;
-    uint32_t no_number;
-    return confluo_row(reader, offset, number != NULL ? number : &no_number, values_len != 0 ? values : &no_values, values_len, count);
+/* A reader of the log, by closing it or not. */
+static inline uint32_t confluo_read_private(confluo_log *log, confluo_reader **reader, bool closes) {
+    uint32_t code;
+    confluo_reader *made;
+    if (log == NULL) return CONFLUO_NOTHING;
+    made = (confluo_reader *)confluo_made_private(sizeof *made);
+    if (made == NULL) return CONFLUO_MEMORY;
+    confluo_begin_private(&log->passed_private);
+    code = closes ? confluo_raw_close(&log->raw_private, &made->raw_private) : confluo_raw_take_reader(&log->raw_private, &made->raw_private);
+    confluo_end_private(&log->passed_private);
+    confluo_end_private(&made->passed_private);
+    if (code != CONFLUO_OK) {
+        free(made);
+        return code;
+    }
+    made->text_private = log->text_private;
+    (void)__atomic_add_fetch(&made->text_private->owners_private, 1, __ATOMIC_RELAXED);
+    *reader = made;
+    return code;
 }
-static inline CONFLUO_NEEDS(1) size_t confluo_words_at(confluo_reader *reader, size_t from, uint64_t *out, size_t out_len) {
-    uint64_t no_out;
-    return confluo_words(reader, from, out_len != 0 ? out : &no_out, out_len);
+static inline uint32_t confluo_take_reader(confluo_log *log, confluo_reader **reader) { return confluo_read_private(log, reader, false); }
+static inline uint32_t confluo_close(confluo_log *log, confluo_reader **reader) { return confluo_read_private(log, reader, true); }
+static inline void confluo_free_log(confluo_log *log) {
+    if (log == NULL) return;
+    confluo_begin_private(&log->passed_private);
+    confluo_raw_free_log(&log->raw_private);
+    confluo_release_private(log->text_private);
+    free(log);
 }
-static inline CONFLUO_CHECKED CONFLUO_NEEDS(1, 4) uint32_t confluo_report_at(confluo_reader *reader, uint8_t *text, size_t text_len,
-                                                                             size_t *count) {
-    uint8_t no_text;
-    return confluo_report(reader, text_len != 0 ? text : &no_text, text_len, count);
+static inline void confluo_free_writer(confluo_writer *writer) {
+    if (writer == NULL) return;
+    confluo_begin_private(&writer->passed_private);
+    confluo_raw_free_writer(&writer->raw_private);
+    free(writer);
 }
-static inline size_t confluo_message_at(uint32_t code, size_t from, uint8_t *out, size_t out_len) {
-    uint8_t no_out;
-    return confluo_message(code, from, out_len != 0 ? out : &no_out, out_len);
-}
-static inline CONFLUO_CHECKED CONFLUO_NEEDS(1, 6) uint32_t confluo_name_at(confluo_log *log, uint32_t sort, uint32_t number,
-                                                                           uint8_t *name, size_t name_len, size_t *count) {
-    uint8_t no_name;
-    return confluo_name(log, sort, number, name_len != 0 ? name : &no_name, name_len, count);
-}
-static inline CONFLUO_CHECKED CONFLUO_NEEDS(1, 4) uint32_t confluo_question_at(confluo_log *log, const uint8_t *name, size_t name_len,
-                                                                               uint32_t *number) {
-    static uint8_t no_name;
-    return confluo_question(log, name_len != 0 ? name : &no_name, name_len, number);
-}
-static inline CONFLUO_CHECKED CONFLUO_NEEDS(1, 2) uint32_t confluo_take_reader_at(confluo_log *log, confluo_reader *reader) {
-    return confluo_take_reader(log, reader);
-}
-static inline CONFLUO_CHECKED CONFLUO_NEEDS(1, 2) uint32_t confluo_close_at(confluo_log *log, confluo_reader *reader) {
-    return confluo_close(log, reader);
-}
-static inline CONFLUO_NEEDS(1, 2) uint32_t confluo_room_of_at(confluo_writer *writer, confluo_room *room) {
-    return confluo_room_of(writer, room);
-}
-static inline CONFLUO_CHECKED CONFLUO_NEEDS(1, 3) uint32_t confluo_ask_at(confluo_reader *reader, uint32_t question, confluo_head *head) {
-    return confluo_ask(reader, question, head);
-}
-static inline CONFLUO_CHECKED CONFLUO_NEEDS(1, 3) uint32_t confluo_ask_seen_at(confluo_reader *reader, uint32_t question,
-                                                                               confluo_head *head) {
-    return confluo_ask_seen(reader, question, head);
-}
-static inline CONFLUO_CHECKED CONFLUO_NEEDS(1, 3) uint32_t confluo_groups_at(confluo_reader *reader, uint32_t lane, confluo_head *head) {
-    return confluo_groups(reader, lane, head);
-}
-static inline CONFLUO_NEEDS(1, 2) uint32_t confluo_tail_at(confluo_reader *reader, uint32_t *tail) {
-    return confluo_tail(reader, tail);
-}
-static inline CONFLUO_CHECKED CONFLUO_NEEDS(1, 4) uint32_t confluo_tell_at(confluo_log *log, uint32_t sort, uint32_t number,
-                                                                           confluo_about *about) {
-    return confluo_tell(log, sort, number, about);
-}
-static inline CONFLUO_NEEDS(1, 2) uint32_t confluo_width_at(confluo_log *log, uint64_t *width) {
-    return confluo_width(log, width);
-}
-static inline void confluo_free_log_at(confluo_log *log) {
-    if (log != NULL) confluo_free_log(log);
-}
-static inline void confluo_free_writer_at(confluo_writer *writer) {
-    if (writer != NULL) confluo_free_writer(writer);
-}
-static inline void confluo_free_reader_at(confluo_reader *reader) {
-    if (reader != NULL) confluo_free_reader(reader);
-}
-#define confluo_append confluo_append_at
-#define confluo_append_many confluo_append_many_at
-#define confluo_append_row confluo_append_row_at
-#define confluo_append_values confluo_append_values_at
-#define confluo_ask confluo_ask_at
-#define confluo_ask_seen confluo_ask_seen_at
-#define confluo_ask_text confluo_ask_text_at
-#define confluo_check confluo_check_at
-#define confluo_close confluo_close_at
-#define confluo_free_log confluo_free_log_at
-#define confluo_free_reader confluo_free_reader_at
-#define confluo_free_writer confluo_free_writer_at
-#define confluo_groups confluo_groups_at
-#define confluo_merge confluo_merge_at
-#define confluo_message confluo_message_at
-#define confluo_name confluo_name_at
-#define confluo_open confluo_open_at
-#define confluo_question confluo_question_at
-#define confluo_report confluo_report_at
-#define confluo_room_of confluo_room_of_at
-#define confluo_row confluo_row_at
-#define confluo_tail confluo_tail_at
-#define confluo_take_reader confluo_take_reader_at
-#define confluo_take_writer confluo_take_writer_at
-#define confluo_tell confluo_tell_at
-#define confluo_width confluo_width_at
-#define confluo_words confluo_words_at
-#endif
-
-/* Whether a handle leads to nothing. The thread that has it. */
-static inline CONFLUO_NEEDS(1) bool confluo_log_is_nothing(const confluo_log *log) { return !log->full; }
-static inline CONFLUO_NEEDS(1) bool confluo_writer_is_nothing(const confluo_writer *writer) { return !writer->full; }
-static inline CONFLUO_NEEDS(1) bool confluo_reader_is_nothing(const confluo_reader *reader) { return !reader->full; }
-
-#ifndef CONFLUO_PLAIN
-/* The calls that take a text, with one that ends with a byte 0. */
-static inline CONFLUO_CHECKED CONFLUO_NEEDS(1, 2, 3) uint32_t confluo_check_str(const char *setup, const confluo_sizes *sizes,
-                                                                                uint64_t *bytes, confluo_fault *fault) {
-    return confluo_check((const uint8_t *)setup, strlen(setup), sizes, bytes, fault);
-}
-static inline CONFLUO_CHECKED CONFLUO_NEEDS(1, 2, 3) uint32_t confluo_open_str(confluo_log *log, const char *setup,
-                                                                               const confluo_sizes *sizes, confluo_fault *fault) {
-    return confluo_open(log, (const uint8_t *)setup, strlen(setup), sizes, fault);
-}
-static inline CONFLUO_CHECKED CONFLUO_NEEDS(1, 2, 3) uint32_t confluo_ask_str(confluo_reader *reader, const char *line,
-                                                                              confluo_head *head, confluo_fault *fault) {
-    return confluo_ask_text(reader, (const uint8_t *)line, strlen(line), head, fault);
-}
-static inline CONFLUO_CHECKED CONFLUO_NEEDS(1, 2, 3) uint32_t confluo_question_str(confluo_log *log, const char *name,
-                                                                                   uint32_t *number) {
-    return confluo_question(log, (const uint8_t *)name, strlen(name), number);
+static inline void confluo_free_reader(confluo_reader *reader) {
+    if (reader == NULL) return;
+    confluo_begin_private(&reader->passed_private);
+    confluo_raw_free_reader(&reader->raw_private);
+    confluo_raw_free_log(&reader->names_private);
+    confluo_release_private(reader->text_private);
+    free(reader);
 }
 
-/* confluo_append_many for those who do not want to know the offsets, in parts of 64 frames. */
-static inline CONFLUO_CHECKED CONFLUO_NEEDS(1, 6) uint32_t confluo_append_all(confluo_writer *writer, const confluo_frame *frames,
-                                                                              size_t frames_len, const uint8_t *bytes,
-                                                                              size_t bytes_len, size_t *done) {
-    uint32_t offsets[64], code;
-    size_t count = 0, part;
+static inline uint32_t confluo_append(confluo_writer *writer, const confluo_capture *capture, const uint8_t *bytes, size_t bytes_len,
+                                      uint32_t *offset) {
+    uint32_t no_offset;
+    CONFLUO_BY(writer, uint32_t, CONFLUO_NOTHING,
+               confluo_raw_append(&writer->raw_private, capture, confluo_bytes_private(bytes, bytes_len), bytes_len,
+                                  offset != NULL ? offset : &no_offset));
+}
+static inline uint32_t confluo_append_values(confluo_writer *writer, uint32_t number, const uint64_t *values, size_t values_len,
+                                             uint32_t *offset) {
+    uint32_t no_offset;
+    CONFLUO_BY(writer, uint32_t, CONFLUO_NOTHING,
+               confluo_raw_append_values(&writer->raw_private, number, confluo_numbers_private(values, values_len), values_len,
+                                         offset != NULL ? offset : &no_offset));
+}
+static inline uint32_t confluo_append_row(confluo_writer *writer, uint32_t number, const confluo_value *values, size_t values_len,
+                                          uint32_t *offset) {
+    uint32_t no_offset;
+    CONFLUO_BY(writer, uint32_t, CONFLUO_NOTHING,
+               confluo_raw_append_row(&writer->raw_private, number, confluo_values_private(values, values_len), values_len,
+                                      offset != NULL ? offset : &no_offset));
+}
+/* Frames whose offsets nobody wants, in parts of 256. */
+static inline uint32_t confluo_append_all_private(confluo_raw_writer *writer, const confluo_frame *frames, size_t frames_len,
+                                                  const uint8_t *bytes, size_t bytes_len, size_t *done) {
+    uint32_t offsets[256], code;
+    size_t count, part;
     *done = 0;
     do {
-        part = frames_len - *done < 64 ? frames_len - *done : 64;
-        code = confluo_append_many(writer, part != 0 ? frames + *done : frames, part, bytes, bytes_len, offsets, 64, &count);
+        count = 0, part = frames_len - *done < 256 ? frames_len - *done : 256;
+        code = confluo_raw_append_many(writer, frames + *done, part, bytes, bytes_len, offsets, 256, &count);
         *done += count;
     } while (code == CONFLUO_OK && *done < frames_len);
     return code;
 }
-#endif
+static inline uint32_t confluo_append_many(confluo_writer *writer, const confluo_frame *frames, size_t frames_len, const uint8_t *bytes,
+                                           size_t bytes_len, uint32_t *offsets, size_t offsets_len, size_t *done) {
+    static const confluo_frame no_frame = {{0, 0, 0, 0, 0}, 0, 0};
+    uint32_t no_offset;
+    *done = 0;
+    if (frames_len == 0) frames = &no_frame;
+    bytes = confluo_bytes_private(bytes, bytes_len);
+    CONFLUO_BY(writer, uint32_t, CONFLUO_NOTHING,
+               frames_len != 0 && offsets == NULL
+                   ? confluo_append_all_private(&writer->raw_private, frames, frames_len, bytes, bytes_len, done)
+                   : confluo_raw_append_many(&writer->raw_private, frames, frames_len, bytes, bytes_len,
+                                             offsets_len != 0 && offsets != NULL ? offsets : &no_offset, offsets != NULL ? offsets_len : 0, done));
+}
+static inline uint32_t confluo_room_of(confluo_writer *writer, confluo_room *room) {
+    CONFLUO_BY(writer, uint32_t, CONFLUO_NOTHING, confluo_raw_room_of(&writer->raw_private, room));
+}
+/* An empty frame of the link goes to a log of its own. */
+static inline uint32_t confluo_try_private(const confluo_text_private *text, uint32_t link) {
+    const confluo_sizes sizes = {1, 1, 0, 0};
+    const confluo_capture capture = {0, 0, 0, link, 0};
+    confluo_raw_log log = {false, NULL};
+    confluo_raw_writer writer = {false, NULL};
+    confluo_fault fault;
+    uint32_t out;
+    uint32_t code = confluo_raw_open(&log, confluo_text_of_private(text), text->length_private, &sizes, &fault);
+    if (code == CONFLUO_OK) code = confluo_raw_take_writer(&log, &writer, &out);
+    if (code == CONFLUO_OK) code = confluo_raw_append(&writer, &capture, confluo_bytes_private(NULL, 0), 0, &out);
+    confluo_raw_free_writer(&writer);
+    confluo_raw_free_log(&log);
+    return code == CONFLUO_NODES ? (uint32_t)CONFLUO_OK : code;
+}
+static inline uint32_t confluo_reads_link(confluo_log *log, uint32_t link) {
+    CONFLUO_BY(log, uint32_t, CONFLUO_NOTHING, log->raw_private.full_private ? confluo_try_private(log->text_private, link) : answer);
+}
+
+static inline uint32_t confluo_ask(confluo_reader *reader, uint32_t question, confluo_head *head) {
+    CONFLUO_BY(reader, uint32_t, CONFLUO_NOTHING, confluo_raw_ask(&reader->raw_private, question, head));
+}
+static inline uint32_t confluo_ask_seen(confluo_reader *reader, uint32_t question, confluo_head *head) {
+    CONFLUO_BY(reader, uint32_t, CONFLUO_NOTHING, confluo_raw_ask_seen(&reader->raw_private, question, head));
+}
+static inline uint32_t confluo_line_private(confluo_raw_reader *reader, const char *line, size_t line_len, confluo_head *head,
+                                            confluo_fault *fault) {
+    const uint32_t code = confluo_raw_ask_text(reader, confluo_bytes_private(line, line_len), line_len, head, fault);
+    if (code == CONFLUO_SETUP && fault->line != 0) fault->line = 1; /* it was counted behind the setup's text */
+    return code;
+}
+static inline uint32_t confluo_ask_text(confluo_reader *reader, const char *line, size_t line_len, confluo_head *head,
+                                        confluo_fault *fault) {
+    confluo_fault no_fault;
+    CONFLUO_BY(reader, uint32_t, CONFLUO_NOTHING,
+               confluo_line_private(&reader->raw_private, line, line_len, head, fault != NULL ? fault : &no_fault));
+}
+static inline uint32_t confluo_groups(confluo_reader *reader, uint32_t lane, confluo_head *head) {
+    CONFLUO_BY(reader, uint32_t, CONFLUO_NOTHING, confluo_raw_groups(&reader->raw_private, lane, head));
+}
+static inline uint32_t confluo_merge(const uint64_t *one, size_t one_len, const uint64_t *other, size_t other_len, uint64_t *out,
+                                     size_t out_len, size_t *count) {
+    uint64_t no_out;
+    return confluo_raw_merge(confluo_numbers_private(one, one_len), one_len, confluo_numbers_private(other, other_len), other_len,
+                             out_len != 0 ? out : &no_out, out_len, count);
+}
+static inline uint32_t confluo_row(confluo_reader *reader, uint32_t offset, uint32_t *number, confluo_value *values, size_t values_len,
+                                   size_t *count) {
+    confluo_value no_value;
+    uint32_t no_number;
+    CONFLUO_BY(reader, uint32_t, CONFLUO_NOTHING,
+               confluo_raw_row(&reader->raw_private, offset, number != NULL ? number : &no_number, values_len != 0 ? values : &no_value,
+                               values_len, count));
+}
+static inline size_t confluo_words(confluo_reader *reader, size_t from, uint64_t *out, size_t out_len) {
+    uint64_t no_out;
+    CONFLUO_BY(reader, size_t, 0, confluo_raw_words(&reader->raw_private, from, out_len != 0 ? out : &no_out, out_len));
+}
+static inline uint32_t confluo_ended_private(uint32_t code, char *text, size_t room, const size_t *count) {
+    if (code == CONFLUO_OK && *count < room) text[*count] = 0;
+    return code;
+}
+static inline uint32_t confluo_report(confluo_reader *reader, char *text, size_t text_len, size_t *count) {
+    uint8_t no_text;
+    CONFLUO_BY(reader, uint32_t, CONFLUO_NOTHING,
+               confluo_ended_private(
+                   confluo_raw_report(&reader->raw_private, text_len != 0 ? (uint8_t *)text : &no_text, text_len, count), text, text_len, count));
+}
+static inline uint32_t confluo_tail(confluo_reader *reader, uint32_t *tail) {
+    CONFLUO_BY(reader, uint32_t, CONFLUO_NOTHING, confluo_raw_tail(&reader->raw_private, tail));
+}
+
+static inline uint32_t confluo_named_private(confluo_raw_log *log, uint32_t sort, uint32_t number, char *name, size_t name_len,
+                                             size_t *count) {
+    uint8_t no_name;
+    return confluo_ended_private(confluo_raw_name(log, sort, number, name_len != 0 ? (uint8_t *)name : &no_name, name_len, count), name,
+                                 name_len, count);
+}
+static inline uint32_t confluo_name(confluo_log *log, uint32_t sort, uint32_t number, char *name, size_t name_len, size_t *count) {
+    CONFLUO_BY(log, uint32_t, CONFLUO_NOTHING, confluo_named_private(&log->raw_private, sort, number, name, name_len, count));
+}
+static inline uint32_t confluo_tell(confluo_log *log, uint32_t sort, uint32_t number, confluo_about *about) {
+    CONFLUO_BY(log, uint32_t, CONFLUO_NOTHING, confluo_raw_tell(&log->raw_private, sort, number, about));
+}
+static inline uint32_t confluo_question(confluo_log *log, const char *name, size_t name_len, uint32_t *number) {
+    CONFLUO_BY(log, uint32_t, CONFLUO_NOTHING,
+               confluo_raw_question(&log->raw_private, confluo_bytes_private(name, name_len), name_len, number));
+}
+static inline uint32_t confluo_width(confluo_log *log, uint64_t *width) {
+    CONFLUO_BY(log, uint32_t, CONFLUO_NOTHING, confluo_raw_width(&log->raw_private, width));
+}
+
+/* Opens the log of one record, in which a reader looks for names, if it is not open. */
+static inline uint32_t confluo_names_private(confluo_reader *reader) {
+    const confluo_sizes sizes = {1, 1, 0, 0};
+    const confluo_text_private *text = reader->text_private;
+    confluo_fault fault;
+    if (reader->names_private.full_private) return CONFLUO_OK;
+    return confluo_raw_open(&reader->names_private, confluo_text_of_private(text), text->length_private, &sizes, &fault);
+}
+static inline uint32_t confluo_reader_name(confluo_reader *reader, uint32_t sort, uint32_t number, char *name, size_t name_len,
+                                           size_t *count) {
+    CONFLUO_BY(reader, uint32_t, CONFLUO_NOTHING,
+               confluo_names_private(reader) != CONFLUO_OK
+                   ? (uint32_t)CONFLUO_MEMORY
+                   : confluo_named_private(&reader->names_private, sort, number, name, name_len, count));
+}
+static inline uint32_t confluo_reader_tell(confluo_reader *reader, uint32_t sort, uint32_t number, confluo_about *about) {
+    CONFLUO_BY(reader, uint32_t, CONFLUO_NOTHING,
+               confluo_names_private(reader) != CONFLUO_OK ? (uint32_t)CONFLUO_MEMORY
+                                                           : confluo_raw_tell(&reader->names_private, sort, number, about));
+}
+static inline uint32_t confluo_reader_width(confluo_reader *reader, uint64_t *width) {
+    CONFLUO_BY(reader, uint32_t, CONFLUO_NOTHING,
+               confluo_names_private(reader) != CONFLUO_OK ? (uint32_t)CONFLUO_MEMORY
+                                                           : confluo_raw_width(&reader->names_private, width));
+}
+static inline uint32_t confluo_reader_number(confluo_reader *reader, uint32_t sort, const char *name, uint32_t *number) {
+    uint32_t k, code = CONFLUO_OK;
+    size_t count;
+    char found[33];
+    for (k = 0; code == CONFLUO_OK; k++) {
+        code = confluo_reader_name(reader, sort, k, found, sizeof found, &count);
+        if (code != CONFLUO_OK || strcmp(found, name) != 0) continue;
+        *number = k;
+        break;
+    }
+    return code;
+}
+
+static inline const char *confluo_setup_private(const confluo_text_private *text, size_t *length) {
+    if (length != NULL) *length = text->length_private;
+    return (const char *)(text + 1);
+}
+static inline const char *confluo_log_setup(const confluo_log *log, size_t *length) {
+    return log != NULL ? confluo_setup_private(log->text_private, length) : NULL;
+}
+static inline const char *confluo_reader_setup(const confluo_reader *reader, size_t *length) {
+    return reader != NULL ? confluo_setup_private(reader->text_private, length) : NULL;
+}
+
+static inline uint32_t confluo_check_str(const char *setup, const confluo_sizes *sizes, uint64_t *bytes, confluo_fault *fault) {
+    return confluo_check(setup, strlen(setup), sizes, bytes, fault);
+}
+static inline uint32_t confluo_open_str(confluo_log **log, const char *setup, const confluo_sizes *sizes, confluo_fault *fault) {
+    return confluo_open(log, setup, strlen(setup), sizes, fault);
+}
+static inline uint32_t confluo_ask_str(confluo_reader *reader, const char *line, confluo_head *head, confluo_fault *fault) {
+    return confluo_ask_text(reader, line, strlen(line), head, fault);
+}
+static inline uint32_t confluo_question_str(confluo_log *log, const char *name, uint32_t *number) {
+    return confluo_question(log, name, strlen(name), number);
+}
+#undef CONFLUO_BY
+#undef CONFLUO_CALL
 
 /* What the library was built with. A compiler that lays these out in another way cannot use it. */
 #if defined(__cplusplus) ? __cplusplus >= 201103L : defined(__STDC_VERSION__) && __STDC_VERSION__ >= 201112L
@@ -692,15 +935,12 @@ static inline CONFLUO_CHECKED CONFLUO_NEEDS(1, 6) uint32_t confluo_append_all(co
 #define CONFLUO_IS(holds) _Static_assert(holds, #holds)
 #endif
 CONFLUO_IS(sizeof(bool) == 1 && sizeof(void *) == 8 && sizeof(size_t) == 8);
-CONFLUO_IS(sizeof(confluo_log) == 16 && sizeof(confluo_writer) == 16 && sizeof(confluo_reader) == 16);
-CONFLUO_IS(offsetof(confluo_log, at) == 8 && offsetof(confluo_writer, at) == 8 && offsetof(confluo_reader, at) == 8);
+CONFLUO_IS(sizeof(confluo_raw_log) == 16 && sizeof(confluo_raw_writer) == 16 && sizeof(confluo_raw_reader) == 16);
+CONFLUO_IS(offsetof(confluo_raw_log, at_private) == 8 && offsetof(confluo_raw_writer, at_private) == 8);
+CONFLUO_IS(offsetof(confluo_raw_reader, at_private) == 8);
 CONFLUO_IS(sizeof(confluo_sizes) == 16 && sizeof(confluo_fault) == 8 && sizeof(confluo_capture) == 24);
 CONFLUO_IS(sizeof(confluo_frame) == 40 && sizeof(confluo_value) == 32 && sizeof(confluo_about) == 40);
 CONFLUO_IS(sizeof(confluo_room) == 16 && sizeof(confluo_head) == 16 && offsetof(confluo_head, count) == 8);
 #undef CONFLUO_IS
-#endif
-
-#ifdef __cplusplus
-}
 #endif
 #endif

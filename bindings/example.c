@@ -36,27 +36,27 @@ static void *ask(void *given) {
 
 int main(void) {
     const confluo_sizes sizes = {.capacity = 4096, .writers = 2, .nodes = 64};
-    confluo_log log = CONFLUO_LOG_INIT;
-    confluo_writer writers[2] = {CONFLUO_WRITER_INIT, CONFLUO_WRITER_INIT};
-    confluo_reader reader = CONFLUO_READER_INIT;
+    confluo_log *log = NULL;
+    confluo_writer *writers[2] = {NULL};
+    confluo_reader *reader = NULL;
     confluo_fault fault = {0, 0};
     uint32_t number;
-    if (refused(confluo_open(&log, (const uint8_t *)setup, strlen(setup), &sizes, &fault), "open")) return 1;
-    if (refused(confluo_take_reader(&log, &reader), "reader")) return 1;
+    if (refused(confluo_open(&log, setup, strlen(setup), &sizes, &fault), "open")) return 1;
+    if (refused(confluo_take_reader(log, &reader), "reader")) return 1;
     for (int w = 0; w < 2; w++)
-        if (refused(confluo_take_writer(&log, &writers[w], &number), "writer")) return 1;
-    confluo_free_log(&log);
+        if (refused(confluo_take_writer(log, &writers[w], &number), "writer")) return 1;
+    confluo_free_log(log);
 
     pthread_t threads[3];
-    for (int w = 0; w < 2; w++) pthread_create(&threads[w], NULL, append, &writers[w]);
-    pthread_create(&threads[2], NULL, ask, &reader);
+    for (int w = 0; w < 2; w++) pthread_create(&threads[w], NULL, append, writers[w]);
+    pthread_create(&threads[2], NULL, ask, reader);
     for (int t = 0; t < 3; t++) pthread_join(threads[t], NULL);
 
     confluo_head head;
     uint64_t quad[4];
-    if (refused(confluo_ask(&reader, 0, &head), "ask")) return 1;
-    confluo_words(&reader, 0, quad, 4);
+    if (refused(confluo_ask(reader, 0, &head), "ask")) return 1;
+    confluo_words(reader, 0, quad, 4);
     printf("%u records, %llu bytes\n", head.tail, (unsigned long long)quad[1]);
-    confluo_free_reader(&reader);
+    confluo_free_reader(reader);
     return 0;
 }

@@ -23,7 +23,7 @@
 static const char *setup_name, *device, *file;
 static confluo_sizes sizes = {.capacity = 65536, .writers = 1, .nodes = 16384};
 static uint32_t seconds;
-static uint8_t setup[65537];
+static char setup[65537];
 static size_t setup_length;
 static pcap_t *source;
 static uint32_t link_type;
@@ -36,36 +36,24 @@ static const char *failure; /* pcap's words, if the capture ended by an error */
 static pthread_mutex_t lock = PTHREAD_MUTEX_INITIALIZER;
 static pthread_cond_t changed = PTHREAD_COND_INITIALIZER;
 static enum { RUNNING, LEFT, ENDED } state;
-static confluo_writer writer = CONFLUO_WRITER_INIT;
+static confluo_writer *writer;
 
 static void must(uint32_t code, const char *call) {
     if (code != CONFLUO_OK) errx(2, "%s: %s", call, confluo_error_name(code));
 }
 
-static void open_log(confluo_log *log, confluo_reader *reader) {
+static void open_log(confluo_log **log, confluo_reader **reader) {
     confluo_fault fault;
     const uint32_t code = confluo_open(log, setup, setup_length, &sizes, &fault);
     if (code == CONFLUO_SETUP) errx(2, "%s, line %u: %s", setup_name, fault.line, confluo_fault_rule(fault.code));
     must(code, "open");
-    must(confluo_take_writer(log, &writer, NULL), "writer");
-    must(confluo_take_reader(log, reader), "reader");
-}
-
-/* An empty frame of the capture's link goes to a log of its own, which is then forgotten. */
-static void try_link(void) {
-    const confluo_capture capture = {.link = link_type};
-    confluo_log log = CONFLUO_LOG_INIT;
-    confluo_reader reader = CONFLUO_READER_INIT;
-    open_log(&log, &reader);
-    const uint32_t code = confluo_append(&writer, &capture, NULL, 0, NULL);
-    if (code == CONFLUO_FRAME) errx(2, "the schema of %s does not read link %u of the capture", setup_name, link_type);
-    if (code != CONFLUO_NODES) must(code, setup_name);
-    confluo_free_writer(&writer), confluo_free_reader(&reader), confluo_free_log(&log);
+    must(confluo_take_writer(*log, &writer, NULL), "writer");
+    must(confluo_take_reader(*log, reader), "reader");
 }
 
 /* Lets the writer go, and wakes the main thread. Unless the capture has ended, waits for another writer. */
 static void leave_log(int next) {
-    confluo_free_writer(&writer);
+    confluo_free_writer(writer);
     pthread_mutex_lock(&lock);
     state = next;
     pthread_kill(main_thread, SIGUSR1);
@@ -81,10 +69,10 @@ static void *capture_frames(void *given) {
         if (found == 0) continue; /* nothing came for a while */
         const uint64_t ns = (uint64_t)header->ts.tv_sec * 1000000000 + (uint64_t)header->ts.tv_usec;
         const confluo_capture capture = {.ns = ns, .number = (uint32_t)frames++, .length = header->len, .link = link_type};
-        uint32_t code = confluo_append(&writer, &capture, bytes, header->caplen, NULL);
+        uint32_t code = confluo_append(writer, &capture, bytes, header->caplen, NULL);
         if (code == CONFLUO_FULL || code == CONFLUO_NODES) {
             leave_log(LEFT);
-            code = confluo_append(&writer, &capture, bytes, header->caplen, NULL);
+            code = confluo_append(writer, &capture, bytes, header->caplen, NULL);
         }
         code == CONFLUO_OK ? appended++ : lost++;
     }
@@ -94,7 +82,7 @@ static void *capture_frames(void *given) {
 }
 
 static void report(confluo_reader *reader) {
-    static uint8_t *text;
+    static char *text;
     static size_t room;
     size_t count = 0;
     must(confluo_report(reader, text, room, &count), "report");
@@ -116,11 +104,14 @@ static void rest(const sigset_t *signals) {
 
 static void ask(const sigset_t *signals) {
     pthread_t capturer;
-    confluo_log log = CONFLUO_LOG_INIT;
-    confluo_reader reader = CONFLUO_READER_INIT;
+    confluo_log *log = NULL;
+    confluo_reader *reader = NULL;
     pthread_mutex_lock(&lock);
     open_log(&log, &reader);
     pthread_mutex_unlock(&lock);
+    const uint32_t code = confluo_reads_link(log, link_type);
+    if (code == CONFLUO_FRAME) errx(2, "the schema of %s does not read link %u of the capture", setup_name, link_type);
+    must(code, setup_name);
     pthread_create(&capturer, NULL, capture_frames, NULL);
     for (time_t due = time(NULL) + seconds;;) {
         uint32_t tail;
@@ -129,8 +120,10 @@ static void ask(const sigset_t *signals) {
         pthread_mutex_lock(&lock);
         const bool has_ended = state == ENDED;
         if (state != RUNNING) {
-            must(confluo_close(&log, &reader), "close");
-            report(&reader);
+            confluo_free_reader(reader), reader = NULL;
+            must(confluo_close(log, &reader), "close");
+            report(reader);
+            confluo_free_reader(reader), confluo_free_log(log), reader = NULL, log = NULL;
             if (!has_ended) open_log(&log, &reader), state = RUNNING;
             pthread_cond_signal(&changed);
         }
@@ -138,11 +131,10 @@ static void ask(const sigset_t *signals) {
         if (has_ended) break;
         if (!seconds || time(NULL) < due) continue;
         due += seconds;
-        must(confluo_tail(&reader, &tail), "tail");
-        report(&reader);
+        must(confluo_tail(reader, &tail), "tail");
+        report(reader);
     }
     pthread_join(capturer, NULL);
-    confluo_free_reader(&reader);
 }
 
 static void open_source(const char *filter) {
@@ -209,7 +201,6 @@ int main(int count, char **words) {
     sigset_t signals;
     read_words(count, words, filter, sizeof filter);
     open_source(filter);
-    try_link();
     main_thread = pthread_self();
     sigemptyset(&signals), sigaddset(&signals, SIGINT), sigaddset(&signals, SIGTERM), sigaddset(&signals, SIGUSR1);
     pthread_sigmask(SIG_BLOCK, &signals, NULL);

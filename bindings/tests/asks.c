@@ -9,41 +9,41 @@ static const char setup[] =
 static void append(parts *it, uint64_t ns, uint64_t key, uint64_t len) {
     const confluo_value row[] = {{.number = ns}, {.number = key}, {.number = len}, {.kind = CONFLUO_BYTES, .length = 6}};
     uint32_t offset = 7;
-    is(confluo_append_row(&it->writer, 5, row, 4, &offset), CONFLUO_OK, "append");
+    is(confluo_append_row(it->writer, 5, row, 4, &offset), CONFLUO_OK, "append");
 }
 
 static void one_tail(void) {
     parts it = parts_of(setup, 4, 64);
     confluo_head head = {7, 7, 7};
-    confluo_reader none = CONFLUO_READER_INIT;
+    confluo_reader *none = NULL;
     uint64_t words[4] = {7, 7, 7, 7};
     uint32_t tail = 7;
     append(&it, 500, 7, 10);
-    is(confluo_ask_seen(&it.reader, 6, &head), CONFLUO_OK, "seen nothing");
+    is(confluo_ask_seen(it.reader, 6, &head), CONFLUO_OK, "seen nothing");
     is(head.tail == 0 && head.count == 4, 1, "of no record");
-    is(confluo_words(&it.reader, 0, words, 4), 4, "its words");
+    is(confluo_words(it.reader, 0, words, 4), 4, "its words");
     is(words[0] + words[1] + words[2] + words[3], 0, "four times 0");
-    is(confluo_tail(&it.reader, &tail), CONFLUO_OK, "tail");
+    is(confluo_tail(it.reader, &tail), CONFLUO_OK, "tail");
     append(&it, 600, 8, 30);
     for (uint32_t q = 0; q < 7; q++) {
-        is(confluo_ask_seen(&it.reader, q, &head), CONFLUO_OK, "ask of what is seen");
+        is(confluo_ask_seen(it.reader, q, &head), CONFLUO_OK, "ask of what is seen");
         is(head.tail, 1, "one tail");
     }
-    is(confluo_ask_seen(&it.reader, 7, &head), CONFLUO_NO_QUESTION, "no question");
-    is(confluo_words(&it.reader, 0, words, 4), 4, "the words that it keeps");
+    is(confluo_ask_seen(it.reader, 7, &head), CONFLUO_NO_QUESTION, "no question");
+    is(confluo_words(it.reader, 0, words, 4), 4, "the words that it keeps");
     is(words[0] == 1 && words[1] == 10, 1, "the last answer");
-    is(confluo_ask(&it.reader, 0, &head), CONFLUO_OK, "ask");
+    is(confluo_ask(it.reader, 0, &head), CONFLUO_OK, "ask");
     is(head.tail, 2, "a new tail");
-    is(confluo_ask_seen(&it.reader, 0, &head), CONFLUO_OK, "ask of what is seen");
+    is(confluo_ask_seen(it.reader, 0, &head), CONFLUO_OK, "ask of what is seen");
     is(head.tail, 2, "which is seen then");
-    is(confluo_ask_seen(&none, 0, &head), CONFLUO_NOTHING, "ask of nothing");
+    is(confluo_ask_seen(none, 0, &head), CONFLUO_NOTHING, "ask of nothing");
     free_parts(&it);
 }
 
 static void groups(void) {
     parts it = parts_of(setup, 4, 64);
     confluo_head head = {7, 7, 7};
-    confluo_reader none = CONFLUO_READER_INIT;
+    confluo_reader *none = NULL;
     uint64_t words[16];
     uint32_t tail = 7;
     append(&it, 500, 7, 10);
@@ -58,16 +58,16 @@ static void groups(void) {
         {0, CONFLUO_NO_LANE, 10, {7, 1, 10, 10, 10, 8, 1, 30, 30, 30}}, {1, CONFLUO_NO_LANE, 10, {7, 1, 10, 10, 10, 8, 1, 30, 30, 30}},
         {4, CONFLUO_NO_LANE, 10, {7, 1, 10, 10, 10, 8, 1, 30, 30, 30}},
     };
-    is(confluo_groups(&it.reader, 2, &head), CONFLUO_OK, "groups of what is seen");
+    is(confluo_groups(it.reader, 2, &head), CONFLUO_OK, "groups of what is seen");
     is(head.tail == 0 && head.kind == CONFLUO_GROUPS && head.count == 0, 1, "none");
-    is(confluo_tail(&it.reader, &tail), CONFLUO_OK, "tail");
+    is(confluo_tail(it.reader, &tail), CONFLUO_OK, "tail");
     for (size_t k = 0; k < sizeof cases / sizeof *cases; k++) {
-        is(confluo_groups(&it.reader, cases[k].lane, &head), cases[k].code, "groups");
+        is(confluo_groups(it.reader, cases[k].lane, &head), cases[k].code, "groups");
         is(head.tail == 3 && head.kind == CONFLUO_GROUPS && head.count == 10, 1, "their head");
-        is(confluo_words(&it.reader, 0, words, 16), cases[k].count, "their words");
+        is(confluo_words(it.reader, 0, words, 16), cases[k].count, "their words");
         is(memcmp(words, cases[k].words, cases[k].count * sizeof *words), 0, "what they are");
     }
-    is(confluo_groups(&none, 2, &head), CONFLUO_NOTHING, "groups of nothing");
+    is(confluo_groups(none, 2, &head), CONFLUO_NOTHING, "groups of nothing");
     free_parts(&it);
 }
 
@@ -104,26 +104,26 @@ static void lines(void) {
     parts it = parts_of(setup, 8, 64);
     uint64_t words[4];
     uint32_t offset;
-    for (uint32_t k = 0; k < 3; k++) is(confluo_append_values(&it.writer, k, rows[k], 3, &offset), CONFLUO_OK, "append");
+    for (uint32_t k = 0; k < 3; k++) is(confluo_append_values(it.writer, k, rows[k], 3, &offset), CONFLUO_OK, "append");
     for (int twice = 0; twice < 2; twice++)
         for (size_t k = 0; k < sizeof cases / sizeof *cases; k++) {
             confluo_head head = {9, 9, 9};
             confluo_fault fault = {7, 7};
-            size_t kept = confluo_words(&it.reader, 0, words, 4);
-            is(confluo_ask_text(&it.reader, text_of(cases[k].line), strlen(cases[k].line), &head, &fault), cases[k].code, cases[k].line);
+            size_t kept = confluo_words(it.reader, 0, words, 4);
+            is(confluo_ask_text(it.reader, cases[k].line, strlen(cases[k].line), &head, &fault), cases[k].code, cases[k].line);
             is(fault.code, cases[k].fault, cases[k].line);
             is(fault.line, fault.code == 7 ? 7 : 1, "the line is one");
             if (cases[k].code == CONFLUO_OK) {
                 is(head.tail == 3 && head.kind == cases[k].kind && head.count == cases[k].count, 1, cases[k].line);
-                is(confluo_words(&it.reader, 0, words, 4), cases[k].count, cases[k].line);
+                is(confluo_words(it.reader, 0, words, 4), cases[k].count, cases[k].line);
                 is(memcmp(words, cases[k].words, cases[k].count * sizeof *words), 0, cases[k].line);
             } else {
                 is(head.tail == 9 && head.count == 9, 1, "what a refused line leaves");
-                is(confluo_words(&it.reader, 0, words, 4), kept, "the words that it keeps");
+                is(confluo_words(it.reader, 0, words, 4), kept, "the words that it keeps");
             }
         }
     confluo_head head;
-    is(confluo_ask(&it.reader, 1, &head), CONFLUO_NO_QUESTION, "the setup has no more questions than before");
+    is(confluo_ask(it.reader, 1, &head), CONFLUO_NO_QUESTION, "the setup has no more questions than before");
     free_parts(&it);
 }
 

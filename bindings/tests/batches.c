@@ -33,18 +33,18 @@ static void batches(void) {
     };
     for (size_t k = 0; k < sizeof cases / sizeof *cases; k++) {
         memset(offsets, 77, sizeof offsets);
-        const uint32_t code = confluo_append_many(&it.writer, cases[k].frames, cases[k].frames_len, bytes, sizeof bytes, offsets,
-                                                  cases[k].offsets_len, &done);
+        const uint32_t code =
+            confluo_append_many(it.writer, cases[k].frames, cases[k].frames_len, bytes, sizeof bytes, offsets, cases[k].offsets_len, &done);
         is(code, cases[k].code, "code of a batch");
         is(done, cases[k].done, "how many were appended");
         for (size_t o = 0; o + 1 < done; o++) is(offsets[o + 1], offsets[o] + 1, "offsets of one writer");
         for (size_t o = done; o < 4; o++) is(offsets[o], 0x4d4d4d4d, "offsets of none");
     }
-    is(confluo_tail(&it.reader, &number), CONFLUO_OK, "tail");
+    is(confluo_tail(it.reader, &number), CONFLUO_OK, "tail");
     is(number, 6, "six records");
     const uint32_t numbers[] = {1, 2, 3, 1, 1, 2};
     for (uint32_t k = 0; k < 6; k++) {
-        is(confluo_row(&it.reader, k, &number, values, 24, &count), CONFLUO_OK, "row");
+        is(confluo_row(it.reader, k, &number, values, 24, &count), CONFLUO_OK, "row");
         is(number, numbers[k], "its number");
         is(count, 20, "values of a packet");
         is(values[0].number, 1000 * numbers[k], "time");
@@ -54,12 +54,12 @@ static void batches(void) {
     free_parts(&it);
 
     it = parts_of(packets, 6, 3);
-    is(confluo_append_many(&it.writer, good, 3, bytes, sizeof bytes, offsets, 4, &done), CONFLUO_NODES, "too few nodes");
+    is(confluo_append_many(it.writer, good, 3, bytes, sizeof bytes, offsets, 4, &done), CONFLUO_NODES, "too few nodes");
     is(done, 0, "none was appended");
     free_parts(&it);
 
     it = parts_of(records, 6, 3);
-    is(confluo_append_many(&it.writer, good, 3, bytes, sizeof bytes, offsets, 4, &done), CONFLUO_UNFIT, "frames among records");
+    is(confluo_append_many(it.writer, good, 3, bytes, sizeof bytes, offsets, 4, &done), CONFLUO_UNFIT, "frames among records");
     is(done, 0, "none was appended");
     free_parts(&it);
 }
@@ -99,37 +99,37 @@ static void rows(void) {
     };
     for (size_t k = 0; k < sizeof cases / sizeof *cases; k++) {
         const uint32_t before = offset;
-        is(confluo_append_row(&it.writer, (uint32_t)k, cases[k].values, cases[k].values_len, &offset), cases[k].code, "append of a row");
+        is(confluo_append_row(it.writer, (uint32_t)k, cases[k].values, cases[k].values_len, &offset), cases[k].code, "append of a row");
         if (cases[k].code != CONFLUO_OK) is(offset, before, "the offset that a refused call leaves");
     }
     is(offset, 2, "the last offset");
-    is(confluo_row(&it.reader, 0, &number, back, 3, &count), CONFLUO_NO_ROW, "a row that the reader has not seen");
+    is(confluo_row(it.reader, 0, &number, back, 3, &count), CONFLUO_NO_ROW, "a row that the reader has not seen");
     is(number == 7 && count == 9 && back[0].number == 9, 1, "what that leaves");
-    is(confluo_tail(&it.reader, &number), CONFLUO_OK, "tail");
-    is(confluo_row(&it.reader, 3, &number, back, 3, &count), CONFLUO_NO_ROW, "a row past the tail");
-    is(confluo_row(&it.reader, UINT32_MAX, &number, back, 3, &count), CONFLUO_NO_ROW, "a row far past it");
-    is(confluo_row(&it.reader, 0, &number, back, 2, &count), CONFLUO_OK, "a row");
+    is(confluo_tail(it.reader, &number), CONFLUO_OK, "tail");
+    is(confluo_row(it.reader, 3, &number, back, 3, &count), CONFLUO_NO_ROW, "a row past the tail");
+    is(confluo_row(it.reader, UINT32_MAX, &number, back, 3, &count), CONFLUO_NO_ROW, "a row far past it");
+    is(confluo_row(it.reader, 0, &number, back, 2, &count), CONFLUO_OK, "a row");
     is(number, 9, "its number");
     is(count, 3, "its values");
     is(back[0].number == 1000 && back[0].kind == CONFLUO_NUMBER && back[1].number == 7 && back[2].number == 9, 1, "two of them");
-    is(confluo_row(&it.reader, 0, &number, back, 0, &count), CONFLUO_OK, "its number alone");
-    is(confluo_row(&it.reader, 1, &number, back, 3, &count), CONFLUO_OK, "another row");
+    is(confluo_row(it.reader, 0, &number, back, 0, &count), CONFLUO_OK, "its number alone");
+    is(confluo_row(it.reader, 1, &number, back, 3, &count), CONFLUO_OK, "another row");
     is(memcmp(&back[2], &mac, sizeof mac), 0, "its bytes");
     free_parts(&it);
 }
 
 static void nothing(void) {
-    confluo_writer writer = CONFLUO_WRITER_INIT;
-    confluo_reader reader = CONFLUO_READER_INIT;
+    confluo_writer *writer = NULL;
+    confluo_reader *reader = NULL;
     const confluo_frame frame = frame_of(1, 1, 0, 0);
     confluo_value value = number_of(9);
     uint8_t byte = 0;
     uint32_t out = 7;
     size_t done = 9;
-    is(confluo_append_many(&writer, &frame, 1, &byte, 0, &out, 0, &done), CONFLUO_NOTHING, "a batch by nothing");
+    is(confluo_append_many(writer, &frame, 1, &byte, 0, &out, 0, &done), CONFLUO_NOTHING, "a batch by nothing");
     is(done, 0, "none of it");
-    is(confluo_append_row(&writer, 1, &value, 0, &out), CONFLUO_NOTHING, "a row by nothing");
-    is(confluo_row(&reader, 0, &out, &value, 1, &done), CONFLUO_NOTHING, "a row of nothing");
+    is(confluo_append_row(writer, 1, &value, 0, &out), CONFLUO_NOTHING, "a row by nothing");
+    is(confluo_row(reader, 0, &out, &value, 1, &done), CONFLUO_NOTHING, "a row of nothing");
     is(out == 7 && value.number == 9, 1, "what that leaves");
 }
 

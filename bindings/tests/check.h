@@ -17,34 +17,32 @@ static inline void is_at(const char *file, int line, uint64_t found, uint64_t wa
     failed = 1;
 }
 
-static inline const uint8_t *text_of(const char *text) { return (const uint8_t *)text; }
-
-static inline uint32_t opened(confluo_log *log, const char *text, uint32_t capacity, uint32_t writers, uint32_t nodes) {
+static inline uint32_t opened(confluo_log **log, const char *text, uint32_t capacity, uint32_t writers, uint32_t nodes) {
     const confluo_sizes sizes = {capacity, writers, nodes, 0};
     confluo_fault fault = {7, 7};
-    return confluo_open(log, text_of(text), strlen(text), &sizes, &fault);
+    return confluo_open(log, text, strlen(text), &sizes, &fault);
 }
 
 /* A log with a writer and a reader, all of which must be there. */
 typedef struct parts {
-    confluo_log log;
-    confluo_writer writer;
-    confluo_reader reader;
+    confluo_log *log;
+    confluo_writer *writer;
+    confluo_reader *reader;
 } parts;
 
 static inline parts parts_of(const char *text, uint32_t capacity, uint32_t nodes) {
-    parts it = {CONFLUO_LOG_INIT, CONFLUO_WRITER_INIT, CONFLUO_READER_INIT};
+    parts it = {NULL, NULL, NULL};
     uint32_t number = 7;
     is(opened(&it.log, text, capacity, 1, nodes), CONFLUO_OK, "open");
-    is(confluo_take_writer(&it.log, &it.writer, &number), CONFLUO_OK, "writer");
-    is(confluo_take_reader(&it.log, &it.reader), CONFLUO_OK, "reader");
+    is(confluo_take_writer(it.log, &it.writer, &number), CONFLUO_OK, "writer");
+    is(confluo_take_reader(it.log, &it.reader), CONFLUO_OK, "reader");
     return it;
 }
 
 static inline void free_parts(parts *it) {
-    confluo_free_log(&it->log);
-    confluo_free_reader(&it->reader);
-    confluo_free_writer(&it->writer);
+    confluo_free_log(it->log);
+    confluo_free_reader(it->reader);
+    confluo_free_writer(it->writer);
 }
 
 /* Runs the tests in a thread with as much stack as the header says that a call may take. A sanitizer takes more. */

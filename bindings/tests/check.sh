@@ -43,12 +43,23 @@ for flags in -O2 -fsanitize=address,undefined -fsanitize=thread; do
     example_prints
     build header "$flags" "$folder/header.c"
     [ "$("$folder/header")" = "record 0" ] || { echo "check-c: the example of confluo.h prints something else"; exit 1; }
+    # A program written from the header alone, in C and in C++.
+    for language in c:c99 c++:c++20; do
+        if ! echo 'int main() { return 0; }' | "$cc" -x "${language%:*}" "-std=${language#*:}" -fsyntax-only - 2> /dev/null; then
+            echo "check-c: $language skipped, the compiler does not have it"
+            continue
+        fi
+        "$cc" -x "${language%:*}" "-std=${language#*:}" -g -Wall -Wextra -Wpedantic -Werror -I"$here/.." "$flags" -c "$here/program.c" -o "$folder/program.o"
+        "$cc" "$flags" "$folder/program.o" "$out/libconfluo.a" -pthread -o "$folder/program"
+        "$folder/program" > "$folder/report"
+        cmp -s "$folder/report" "$here/program.report" || { echo "check-c: the program prints another report in $language"; exit 1; }
+    done
     build page "$flags" "$folder/page.c"
     [ "$("$folder/page")" = "2000 records, 120000 bytes" ] || { echo "check-c: the example of docs/LIBRARY.md prints something else"; exit 1; }
-    for name in calls asks names batches closes inline threads; do
+    for name in calls asks names batches closes inline raw threads; do
         build $name "$flags" "$here/$name.c"
         "$folder/$name"
     done
 done
 build refusals -fsanitize=address -Wl,--wrap=malloc,--wrap=realloc "$here/refusals.c" && "$folder/refusals"
-echo "check-c: the library is clean in C"
+echo "check-c: the library is clean in C by $cc"

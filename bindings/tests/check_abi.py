@@ -29,7 +29,7 @@ def run(*words: str) -> str:
 def structures(text: str) -> list[tuple[str, list[str]]]:
     """The structures of the header, each with the names of its fields."""
     found = []
-    for name, body in re.findall(r"typedef struct (\w+) \{([^}]*)\}", text):
+    for name, body in re.findall(r"struct (\w+) \{([^}]*)\}", text):
         fields = [
             re.search(r"(\w+)(\[\d+\])?$", it.strip()).group(1)
             for line in body.split(";")

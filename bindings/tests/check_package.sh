@@ -10,7 +10,7 @@ folder=$(mktemp -d)
 trap 'rm -rf "$folder"' EXIT
 exported=$(nm -D --defined-only "$OUT/libconfluo.so.0" | awk '$2 != "A" { print $3 }' | grep -v '^confluo_' || true)
 [ -z "$exported" ] || { echo "check-package: the shared object exports $exported"; exit 1; }
-missing=$(sed -n '/^static/d; s/^[a-zA-Z].*\(confluo_[a-z_]*\)(.*/\1/p' confluo.h | sort -u | while read -r name; do
+missing=$(sed -n 's/.*__asm__("\(confluo_[a-z_]*\)").*/\1/p' confluo.h | sort -u | while read -r name; do
     nm -D --defined-only "$OUT/libconfluo.so.0" | grep -q " $name\(@\|\$\)" || echo "$name"
 done)
 [ -z "$missing" ] || { echo "check-package: the shared object lacks $missing"; exit 1; }

@@ -21,18 +21,18 @@ static const char setup[] =
     "schema packet\nindex source src\ntally sources src len *\nask host find source 0.0.0.0 255.255.255.255\nask all list *\n";
 
 typedef struct parts {
-    confluo_log log;
-    confluo_writer writer;
-    confluo_reader reader, last;
-    uint32_t number, offsets[4];
+    confluo_log *log;
+    confluo_writer *writer;
+    confluo_reader *reader, *last;
+    uint32_t number, named, offsets[4];
     size_t done; /* of a batch */
     confluo_head head;
     confluo_value row[20];
-    uint8_t text[200];
+    char text[200];
     size_t long_is;
 } parts;
 
-enum { STEPS = 16 };
+enum { STEPS = 18 };
 
 /* Frames 2 and 3 of the log, but for what is appended of them. */
 static uint32_t append_batch(parts *at) {
@@ -40,8 +40,7 @@ static uint32_t append_batch(parts *at) {
     const confluo_capture capture = {1000, 5, 60, 1, 0};
     const confluo_frame frames[] = {{capture, 0, 60}, {capture, 0, 60}};
     size_t done = 0;
-    const uint32_t code =
-        confluo_append_many(&at->writer, frames + at->done, 2 - at->done, frame, 60, at->offsets + 1 + at->done, 2, &done);
+    const uint32_t code = confluo_append_many(at->writer, frames + at->done, 2 - at->done, frame, 60, at->offsets + 1 + at->done, 2, &done);
     at->done += done;
     return code;
 }
@@ -63,22 +62,24 @@ static uint32_t call(parts *at, int step) {
     uint64_t bytes;
     uint32_t number;
     switch (step) {
-    case 0: return confluo_check((const uint8_t *)setup, strlen(setup), &sizes, &bytes, &fault);
-    case 1: return confluo_open(&at->log, (const uint8_t *)setup, strlen(setup), &sizes, &fault);
-    case 2: return confluo_take_writer(&at->log, &at->writer, &number);
-    case 3: return confluo_take_reader(&at->log, &at->reader);
-    case 4: return confluo_append(&at->writer, &capture, frame, sizeof frame, &at->offsets[0]);
+    case 0: return confluo_check(setup, strlen(setup), &sizes, &bytes, &fault);
+    case 1: return confluo_open(&at->log, setup, strlen(setup), &sizes, &fault);
+    case 2: return confluo_take_writer(at->log, &at->writer, &number);
+    case 3: return confluo_take_reader(at->log, &at->reader);
+    case 4: return confluo_append(at->writer, &capture, frame, sizeof frame, &at->offsets[0]);
     case 5: return append_batch(at);
-    case 6: return confluo_tail(&at->reader, &number);
-    case 7: return confluo_row(&at->reader, 2, &at->number, at->row, 20, &count);
-    case 8: return confluo_append_row(&at->writer, 6, at->row, 20, &at->offsets[3]);
-    case 9: return confluo_ask(&at->reader, 0, &at->head);
-    case 10: return confluo_groups(&at->reader, 1, &at->head);
+    case 6: return confluo_tail(at->reader, &number);
+    case 7: return confluo_row(at->reader, 2, &at->number, at->row, 20, &count);
+    case 8: return confluo_append_row(at->writer, 6, at->row, 20, &at->offsets[3]);
+    case 9: return confluo_ask(at->reader, 0, &at->head);
+    case 10: return confluo_groups(at->reader, 1, &at->head);
     case 11: return merged();
-    case 12: return confluo_ask_text(&at->reader, (const uint8_t *)"ask new list *", 14, &at->head, &fault);
-    case 13: return confluo_ask_seen(&at->reader, 1, &at->head);
-    case 14: return confluo_free_writer(&at->writer), confluo_close(&at->log, &at->last);
-    default: return confluo_report(&at->last, at->text, sizeof at->text, &at->long_is);
+    case 12: return confluo_ask_text(at->reader, "ask new list *", 14, &at->head, &fault);
+    case 13: return confluo_ask_seen(at->reader, 1, &at->head);
+    case 14: return confluo_reads_link(at->log, 1);
+    case 15: confluo_free_writer(at->writer), at->writer = NULL; return confluo_close(at->log, &at->last);
+    case 16: return confluo_reader_number(at->last, CONFLUO_QUESTIONS, "all", &at->named);
+    default: return confluo_report(at->last, at->text, sizeof at->text, &at->long_is);
     }
 }
 
@@ -95,7 +96,7 @@ static int run(parts *at, int step) {
 int main(void) {
     long tries = 0, refused[STEPS] = {0};
     for (int over = 0; !over; tries++) {
-        parts at = {.number = 99};
+        parts at = {.number = 99, .named = 99};
         uint64_t words[5] = {7, 7, 7, 7, 7};
         left = tries;
         int step = run(&at, 0);
@@ -105,18 +106,18 @@ int main(void) {
             refused[step]++;
             step = run(&at, step);
         }
-        const size_t count = confluo_words(&at.reader, 0, words, 5);
-        int wrong = step != STEPS || at.head.tail != 4 || count != 4 || at.number != 5 || words[3] != 3;
+        const size_t count = confluo_words(at.reader, 0, words, 5);
+        int wrong = step != STEPS || at.head.tail != 4 || count != 4 || at.number != 5 || at.named != 1 || words[3] != 3;
         wrong |= at.long_is < 9 || memcmp(at.text, "records 4", 9) != 0;
         for (uint32_t k = 0; k < 4; k++) wrong |= at.offsets[k] != k || words[k] != k;
         if (wrong) {
             fprintf(stderr, "refusals: allocation %ld, step %d\n", tries, step);
             return 1;
         }
-        confluo_free_writer(&at.writer);
-        confluo_free_log(&at.log);
-        confluo_free_reader(&at.reader);
-        confluo_free_reader(&at.last);
+        confluo_free_writer(at.writer);
+        confluo_free_log(at.log);
+        confluo_free_reader(at.reader);
+        confluo_free_reader(at.last);
     }
     printf("refusals: %ld allocations, each refused once; by call", tries);
     for (int k = 0; k < STEPS; k++) printf(" %ld", refused[k]);

@@ -2,7 +2,6 @@
  * the records of numbers, or frames as rows without values, and knows the questions `list *` and `total`. It finds one fault in a setup,
  * a line without a space (code 3). It has one lock, never lacks memory, and is no measure of anything. CONFLUO_STAND_IN_VERSION gives it
  * another version. */
-#define CONFLUO_PLAIN
 #include "confluo.h"
 #include <pthread.h>
 #include <stdio.h>
@@ -38,7 +37,7 @@ typedef struct {
 
 static pthread_mutex_t lock = PTHREAD_MUTEX_INITIALIZER;
 
-uint32_t confluo_version(void) { return CONFLUO_STAND_IN_VERSION; }
+uint32_t confluo_raw_version(void) { return CONFLUO_STAND_IN_VERSION; }
 
 static size_t copied(const char *text, size_t from, uint8_t *out, size_t room) {
     const size_t length = strlen(text), left = from < length ? length - from : 0, count = left < room ? left : room;
@@ -46,7 +45,7 @@ static size_t copied(const char *text, size_t from, uint8_t *out, size_t room) {
     return count;
 }
 
-size_t confluo_message(uint32_t code, size_t from, uint8_t *out, size_t out_len) {
+size_t confluo_raw_message(uint32_t code, size_t from, uint8_t *out, size_t out_len) {
     return copied(confluo_error_name(code), from, out, out_len);
 }
 
@@ -89,7 +88,7 @@ static uint32_t refused(shared *log, const uint8_t *setup, size_t length, const 
     return fits && sizes->nodes <= 65536 && !sizes->reserved ? CONFLUO_OK : CONFLUO_SIZES;
 }
 
-uint32_t confluo_check(const uint8_t *setup, size_t setup_len, const confluo_sizes *sizes, uint64_t *bytes, confluo_fault *fault) {
+uint32_t confluo_raw_check(const uint8_t *setup, size_t setup_len, const confluo_sizes *sizes, uint64_t *bytes, confluo_fault *fault) {
     shared log = {0};
     const uint32_t code = refused(&log, setup, setup_len, sizes, fault);
     if (!code) *bytes = sizes->capacity * sizeof(record);
@@ -106,14 +105,14 @@ static void release(bool *full, void **at) {
     if (last) free(it->log->records), free(it->log);
     free(it->words), free(it);
 }
-void confluo_free_log(confluo_log *log) { release(&log->full, &log->at); }
-void confluo_free_reader(confluo_reader *reader) { release(&reader->full, &reader->at); }
-void confluo_free_writer(confluo_writer *writer) {
-    part *it = writer->at;
+void confluo_raw_free_log(confluo_raw_log *log) { release(&log->full_private, &log->at_private); }
+void confluo_raw_free_reader(confluo_raw_reader *reader) { release(&reader->full_private, &reader->at_private); }
+void confluo_raw_free_writer(confluo_raw_writer *writer) {
+    part *it = writer->at_private;
     pthread_mutex_lock(&lock);
-    if (writer->full) it->log->taken &= ~(1U << it->number);
+    if (writer->full_private) it->log->taken &= ~(1U << it->number);
     pthread_mutex_unlock(&lock);
-    release(&writer->full, &writer->at);
+    release(&writer->full_private, &writer->at_private);
 }
 
 static part *part_of(shared *log) {
@@ -124,23 +123,23 @@ static part *part_of(shared *log) {
     pthread_mutex_unlock(&lock);
     return it;
 }
-uint32_t confluo_open(confluo_log *log, const uint8_t *setup, size_t setup_len, const confluo_sizes *sizes, confluo_fault *fault) {
+uint32_t confluo_raw_open(confluo_raw_log *log, const uint8_t *setup, size_t setup_len, const confluo_sizes *sizes, confluo_fault *fault) {
     shared *made = calloc(1, sizeof *made);
     const uint32_t code = refused(made, setup, setup_len, sizes, fault);
     if (code) {
         free(made);
         return code;
     }
-    confluo_free_log(log);
+    confluo_raw_free_log(log);
     made->capacity = sizes->capacity, made->writers = sizes->writers;
     made->records = calloc(sizes->capacity, sizeof *made->records);
-    *log = (confluo_log){true, part_of(made)};
+    *log = (confluo_raw_log){true, part_of(made)};
     return CONFLUO_OK;
 }
 
-#define LOG(handle) ((handle)->full ? ((part *)(handle)->at)->log : NULL)
+#define LOG(handle) ((handle)->full_private ? ((part *)(handle)->at_private)->log : NULL)
 
-uint32_t confluo_take_writer(confluo_log *log, confluo_writer *writer, uint32_t *number) {
+uint32_t confluo_raw_take_writer(confluo_raw_log *log, confluo_raw_writer *writer, uint32_t *number) {
     shared *it = LOG(log);
     if (!it) return CONFLUO_NOTHING;
     uint32_t free_one = it->writers;
@@ -149,23 +148,23 @@ uint32_t confluo_take_writer(confluo_log *log, confluo_writer *writer, uint32_t 
     if (free_one) it->taken |= 1U << (free_one - 1);
     pthread_mutex_unlock(&lock);
     if (!free_one) return CONFLUO_NO_WRITER;
-    confluo_free_writer(writer);
-    *writer = (confluo_writer){true, part_of(it)};
-    *number = ((part *)writer->at)->number = free_one - 1;
+    confluo_raw_free_writer(writer);
+    *writer = (confluo_raw_writer){true, part_of(it)};
+    *number = ((part *)writer->at_private)->number = free_one - 1;
     return CONFLUO_OK;
 }
-uint32_t confluo_take_reader(confluo_log *log, confluo_reader *reader) {
-    if (!log->full) return CONFLUO_NOTHING;
-    confluo_free_reader(reader);
-    *reader = (confluo_reader){true, part_of(LOG(log))};
+uint32_t confluo_raw_take_reader(confluo_raw_log *log, confluo_raw_reader *reader) {
+    if (!log->full_private) return CONFLUO_NOTHING;
+    confluo_raw_free_reader(reader);
+    *reader = (confluo_raw_reader){true, part_of(LOG(log))};
     return CONFLUO_OK;
 }
-uint32_t confluo_close(confluo_log *log, confluo_reader *reader) {
-    if (!log->full) return CONFLUO_NOTHING;
+uint32_t confluo_raw_close(confluo_raw_log *log, confluo_raw_reader *reader) {
+    if (!log->full_private) return CONFLUO_NOTHING;
     if (LOG(log)->taken) return CONFLUO_BUSY;
-    const uint32_t code = confluo_take_reader(log, reader);
-    ((part *)reader->at)->seen = LOG(log)->count;
-    confluo_free_log(log);
+    const uint32_t code = confluo_raw_take_reader(log, reader);
+    ((part *)reader->at_private)->seen = LOG(log)->count;
+    confluo_raw_free_log(log);
     return code;
 }
 
@@ -184,41 +183,44 @@ static uint32_t add(part *it, uint32_t number, const uint64_t *values, size_t co
     pthread_mutex_unlock(&lock);
     return is_full ? CONFLUO_FULL : CONFLUO_OK;
 }
-uint32_t confluo_append(confluo_writer *writer, const confluo_capture *capture, const uint8_t *bytes, size_t bytes_len, uint32_t *offset) {
+uint32_t confluo_raw_append(confluo_raw_writer *writer, const confluo_capture *capture, const uint8_t *bytes, size_t bytes_len,
+                            uint32_t *offset) {
     static uint64_t none;
     (void)bytes;
-    if (!writer->full) return CONFLUO_NOTHING;
+    if (!writer->full_private) return CONFLUO_NOTHING;
     if (!LOG(writer)->is_packets) return CONFLUO_UNFIT;
     if (bytes_len >> 32 || capture->link != 1 || capture->reserved) return CONFLUO_FRAME;
-    return add(writer->at, capture->number, &none, 0, offset);
+    return add(writer->at_private, capture->number, &none, 0, offset);
 }
-uint32_t confluo_append_values(confluo_writer *writer, uint32_t number, const uint64_t *values, size_t values_len, uint32_t *offset) {
-    if (!writer->full) return CONFLUO_NOTHING;
+uint32_t confluo_raw_append_values(confluo_raw_writer *writer, uint32_t number, const uint64_t *values, size_t values_len,
+                                   uint32_t *offset) {
+    if (!writer->full_private) return CONFLUO_NOTHING;
     if (values_len != LOG(writer)->attributes) return CONFLUO_UNFIT;
-    return add(writer->at, number, values, values_len, offset);
+    return add(writer->at_private, number, values, values_len, offset);
 }
-uint32_t confluo_append_row(confluo_writer *writer, uint32_t number, const confluo_value *values, size_t values_len, uint32_t *offset) {
+uint32_t confluo_raw_append_row(confluo_raw_writer *writer, uint32_t number, const confluo_value *values, size_t values_len,
+                                uint32_t *offset) {
     uint64_t numbers[MOST];
     for (size_t k = 0; k < values_len && k < MOST; k++)
         if (values[k].kind)
             return CONFLUO_UNFIT;
         else
             numbers[k] = values[k].number;
-    return confluo_append_values(writer, number, numbers, values_len, offset);
+    return confluo_raw_append_values(writer, number, numbers, values_len, offset);
 }
-uint32_t confluo_append_many(confluo_writer *writer, const confluo_frame *frames, size_t frames_len, const uint8_t *bytes, size_t bytes_len,
-                             uint32_t *offsets, size_t offsets_len, size_t *done) {
-    uint32_t code = writer->full ? CONFLUO_OK : CONFLUO_NOTHING;
+uint32_t confluo_raw_append_many(confluo_raw_writer *writer, const confluo_frame *frames, size_t frames_len, const uint8_t *bytes,
+                                 size_t bytes_len, uint32_t *offsets, size_t offsets_len, size_t *done) {
+    uint32_t code = writer->full_private ? CONFLUO_OK : CONFLUO_NOTHING;
     if (!code && offsets_len < frames_len) code = CONFLUO_SIZES;
     for (*done = 0; !code && *done < frames_len; *done += !code) {
         const confluo_frame *it = &frames[*done];
         const bool is_in = it->from <= bytes_len && it->count <= bytes_len - it->from;
-        code = is_in ? confluo_append(writer, &it->capture, bytes + it->from, it->count, &offsets[*done]) : CONFLUO_FRAME;
+        code = is_in ? confluo_raw_append(writer, &it->capture, bytes + it->from, it->count, &offsets[*done]) : CONFLUO_FRAME;
     }
     return code;
 }
-uint32_t confluo_room_of(confluo_writer *writer, confluo_room *room) {
-    if (!writer->full) return CONFLUO_NOTHING;
+uint32_t confluo_raw_room_of(confluo_raw_writer *writer, confluo_room *room) {
+    if (!writer->full_private) return CONFLUO_NOTHING;
     *room = (confluo_room){LOG(writer)->capacity, LOG(writer)->count, 0, 0};
     return CONFLUO_OK;
 }
@@ -240,38 +242,38 @@ static uint32_t answer(part *it, const thing *question, confluo_head *head) {
     *head = (confluo_head){it->seen, is_total ? CONFLUO_QUAD : CONFLUO_PLACES, it->count};
     return CONFLUO_OK;
 }
-uint32_t confluo_tail(confluo_reader *reader, uint32_t *tail) {
-    if (!reader->full) return CONFLUO_NOTHING;
+uint32_t confluo_raw_tail(confluo_raw_reader *reader, uint32_t *tail) {
+    if (!reader->full_private) return CONFLUO_NOTHING;
     pthread_mutex_lock(&lock);
-    *tail = ((part *)reader->at)->seen = LOG(reader)->count;
+    *tail = ((part *)reader->at_private)->seen = LOG(reader)->count;
     pthread_mutex_unlock(&lock);
     return CONFLUO_OK;
 }
-uint32_t confluo_ask_seen(confluo_reader *reader, uint32_t question, confluo_head *head) {
-    if (!reader->full) return CONFLUO_NOTHING;
+uint32_t confluo_raw_ask_seen(confluo_raw_reader *reader, uint32_t question, confluo_head *head) {
+    if (!reader->full_private) return CONFLUO_NOTHING;
     if (question >= LOG(reader)->questions) return CONFLUO_NO_QUESTION;
-    return answer(reader->at, &LOG(reader)->question[question], head);
+    return answer(reader->at_private, &LOG(reader)->question[question], head);
 }
-uint32_t confluo_ask(confluo_reader *reader, uint32_t question, confluo_head *head) {
-    uint32_t tail, code = confluo_tail(reader, &tail);
-    return code ? code : confluo_ask_seen(reader, question, head);
+uint32_t confluo_raw_ask(confluo_raw_reader *reader, uint32_t question, confluo_head *head) {
+    uint32_t tail, code = confluo_raw_tail(reader, &tail);
+    return code ? code : confluo_raw_ask_seen(reader, question, head);
 }
-uint32_t confluo_ask_text(confluo_reader *reader, const uint8_t *line, size_t line_len, confluo_head *head, confluo_fault *fault) {
-    uint32_t tail, code = confluo_tail(reader, &tail);
+uint32_t confluo_raw_ask_text(confluo_raw_reader *reader, const uint8_t *line, size_t line_len, confluo_head *head, confluo_fault *fault) {
+    uint32_t tail, code = confluo_raw_tail(reader, &tail);
     if (code) return code;
     if (line_len == 0 || memchr(line, '\n', line_len)) return CONFLUO_NO_QUESTION;
     if (!memchr(line, ' ', line_len)) {
         *fault = (confluo_fault){9, 3}; /* as if it stood behind eight lines */
         return CONFLUO_SETUP;
     }
-    return answer(reader->at, &(thing){.kind = 0}, head);
+    return answer(reader->at_private, &(thing){.kind = 0}, head);
 }
-uint32_t confluo_groups(confluo_reader *reader, uint32_t lane, confluo_head *head) {
+uint32_t confluo_raw_groups(confluo_raw_reader *reader, uint32_t lane, confluo_head *head) {
     (void)lane, (void)head;
-    return reader->full ? CONFLUO_NO_LANE : CONFLUO_NOTHING;
+    return reader->full_private ? CONFLUO_NO_LANE : CONFLUO_NOTHING;
 }
-uint32_t confluo_merge(const uint64_t *one, size_t one_len, const uint64_t *other, size_t other_len, uint64_t *out, size_t out_len,
-                       size_t *count) {
+uint32_t confluo_raw_merge(const uint64_t *one, size_t one_len, const uint64_t *other, size_t other_len, uint64_t *out, size_t out_len,
+                           size_t *count) {
     if (one_len % 5 || other_len % 5) return CONFLUO_NO_GROUPS;
     if (one_len + other_len > out_len) return CONFLUO_SIZES;
     memcpy(out, one, one_len * sizeof *out);
@@ -279,24 +281,25 @@ uint32_t confluo_merge(const uint64_t *one, size_t one_len, const uint64_t *othe
     *count = one_len + other_len;
     return CONFLUO_OK;
 }
-uint32_t confluo_row(confluo_reader *reader, uint32_t offset, uint32_t *number, confluo_value *values, size_t values_len, size_t *count) {
-    if (!reader->full) return CONFLUO_NOTHING;
-    if (offset >= ((part *)reader->at)->seen) return CONFLUO_NO_ROW;
+uint32_t confluo_raw_row(confluo_raw_reader *reader, uint32_t offset, uint32_t *number, confluo_value *values, size_t values_len,
+                         size_t *count) {
+    if (!reader->full_private) return CONFLUO_NOTHING;
+    if (offset >= ((part *)reader->at_private)->seen) return CONFLUO_NO_ROW;
     const record *it = &LOG(reader)->records[offset];
     *number = it->number, *count = LOG(reader)->attributes;
     for (size_t k = 0; k < *count && k < values_len; k++) values[k] = (confluo_value){.number = it->values[k]};
     return CONFLUO_OK;
 }
-size_t confluo_words(confluo_reader *reader, size_t from, uint64_t *out, size_t out_len) {
-    const part *it = reader->full ? reader->at : NULL;
+size_t confluo_raw_words(confluo_raw_reader *reader, size_t from, uint64_t *out, size_t out_len) {
+    const part *it = reader->full_private ? reader->at_private : NULL;
     const size_t left = it && from < it->count ? it->count - from : 0, count = left < out_len ? left : out_len;
     if (count) memcpy(out, it->words + from, count * sizeof *out);
     return count;
 }
-uint32_t confluo_report(confluo_reader *reader, uint8_t *text, size_t text_len, size_t *count) {
+uint32_t confluo_raw_report(confluo_raw_reader *reader, uint8_t *text, size_t text_len, size_t *count) {
     char said[40];
-    if (!reader->full) return CONFLUO_NOTHING;
-    snprintf(said, sizeof said, "records %u\n", ((part *)reader->at)->seen);
+    if (!reader->full_private) return CONFLUO_NOTHING;
+    snprintf(said, sizeof said, "records %u\n", ((part *)reader->at_private)->seen);
     *count = strlen(said);
     copied(said, 0, text, text_len);
     return CONFLUO_OK;
@@ -306,23 +309,23 @@ static thing *named(shared *log, uint32_t sort, uint32_t number) {
     if (sort == CONFLUO_ATTRIBUTES && number < log->attributes) return &log->attribute[number];
     return sort == CONFLUO_QUESTIONS && number < log->questions ? &log->question[number] : NULL;
 }
-uint32_t confluo_name(confluo_log *log, uint32_t sort, uint32_t number, uint8_t *name, size_t name_len, size_t *count) {
-    if (!log->full) return CONFLUO_NOTHING;
+uint32_t confluo_raw_name(confluo_raw_log *log, uint32_t sort, uint32_t number, uint8_t *name, size_t name_len, size_t *count) {
+    if (!log->full_private) return CONFLUO_NOTHING;
     const thing *it = named(LOG(log), sort, number);
     if (!it) return CONFLUO_NO_NAME;
     *count = strlen(it->name);
     copied(it->name, 0, name, name_len);
     return CONFLUO_OK;
 }
-uint32_t confluo_tell(confluo_log *log, uint32_t sort, uint32_t number, confluo_about *about) {
-    if (!log->full) return CONFLUO_NOTHING;
+uint32_t confluo_raw_tell(confluo_raw_log *log, uint32_t sort, uint32_t number, confluo_about *about) {
+    if (!log->full_private) return CONFLUO_NOTHING;
     const thing *it = named(LOG(log), sort, number);
     if (!it) return CONFLUO_NO_NAME;
     *about = (confluo_about){.kind = it->kind, .of = it->of};
     return CONFLUO_OK;
 }
-uint32_t confluo_question(confluo_log *log, const uint8_t *name, size_t name_len, uint32_t *number) {
-    if (!log->full) return CONFLUO_NOTHING;
+uint32_t confluo_raw_question(confluo_raw_log *log, const uint8_t *name, size_t name_len, uint32_t *number) {
+    if (!log->full_private) return CONFLUO_NOTHING;
     for (uint32_t k = 0; k < LOG(log)->questions; k++) {
         const char *had = LOG(log)->question[k].name;
         if (strlen(had) == name_len && !memcmp(had, name, name_len)) {
@@ -332,8 +335,8 @@ uint32_t confluo_question(confluo_log *log, const uint8_t *name, size_t name_len
     }
     return CONFLUO_NO_QUESTION;
 }
-uint32_t confluo_width(confluo_log *log, uint64_t *width) {
-    if (!log->full) return CONFLUO_NOTHING;
+uint32_t confluo_raw_width(confluo_raw_log *log, uint64_t *width) {
+    if (!log->full_private) return CONFLUO_NOTHING;
     *width = 1000000000;
     return CONFLUO_OK;
 }

@@ -58,7 +58,7 @@ static void *append(void *given) {
 
 /* All questions, the groups of an aggregate and of a tally, and two rows, at one tail. */
 static uintptr_t ask_at(confluo_reader *reader, uint32_t tail) {
-    confluo_head head;
+    confluo_head head = {0, 0, 0};
     confluo_value row[24];
     uint64_t words[5 * 16];
     uint32_t number;
@@ -94,24 +94,24 @@ static void *ask(void *given) {
 
 static uintptr_t run(void) {
     const confluo_sizes sizes = {.capacity = WRITERS * EACH, .writers = WRITERS, .nodes = 64};
-    confluo_log log = CONFLUO_LOG_INIT;
-    confluo_writer writers[WRITERS] = {CONFLUO_WRITER_INIT};
-    confluo_reader readers[READERS] = {CONFLUO_READER_INIT};
+    confluo_log *log = NULL;
+    confluo_writer *writers[WRITERS] = {NULL};
+    confluo_reader *readers[READERS] = {NULL};
     confluo_fault fault;
     pthread_t threads[WRITERS + READERS];
     char setup[512];
     uint32_t number;
     uintptr_t wrong = 0;
     snprintf(setup, sizeof setup, "%s%s%s", with_frames ? packets : records, with_frames ? packets_lanes : records_lanes, questions);
-    if (confluo_open(&log, (const uint8_t *)setup, strlen(setup), &sizes, &fault) != CONFLUO_OK) return 1;
+    if (confluo_open(&log, setup, strlen(setup), &sizes, &fault) != CONFLUO_OK) return 1;
     for (int w = 0; w < WRITERS; w++)
-        if (confluo_take_writer(&log, &writers[w], &number) != CONFLUO_OK) return 1;
+        if (confluo_take_writer(log, &writers[w], &number) != CONFLUO_OK) return 1;
     for (int r = 0; r < READERS; r++)
-        if (confluo_take_reader(&log, &readers[r]) != CONFLUO_OK) return 1;
-    confluo_free_log(&log);
+        if (confluo_take_reader(log, &readers[r]) != CONFLUO_OK) return 1;
+    confluo_free_log(log);
     pthread_barrier_init(&start, NULL, WRITERS + READERS);
-    for (int w = 0; w < WRITERS; w++) pthread_create(&threads[w], NULL, append, &writers[w]);
-    for (int r = 0; r < READERS; r++) pthread_create(&threads[WRITERS + r], NULL, ask, &readers[r]);
+    for (int w = 0; w < WRITERS; w++) pthread_create(&threads[w], NULL, append, writers[w]);
+    for (int r = 0; r < READERS; r++) pthread_create(&threads[WRITERS + r], NULL, ask, readers[r]);
     for (int t = 0; t < WRITERS + READERS; t++) {
         void *given;
         pthread_join(threads[t], &given);

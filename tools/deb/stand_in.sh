@@ -19,7 +19,7 @@ END
 {
     echo '#include <stdint.h>'
     echo '#include <stdlib.h>'
-    sed -n '/^static/d; s/^[a-zA-Z].*\(confluo_[a-z_]*\)(.*/\1/p' "$here/bindings/confluo.h" | sort -u | while read -r name; do
+    sed -n 's/.*__asm__("\(confluo_[a-z_]*\)").*/\1/p' "$here/bindings/confluo.h" | sort -u | while read -r name; do
         if [ "$name" = confluo_version ]; then
             echo "uint32_t $name(void) { return $(sed -n 's/^#define CONFLUO_VERSION //p' "$here/bindings/confluo.h"); }"
         else

@@ -37,29 +37,36 @@ BUILDS = next(
 CPP = """
 #include "confluo.h"
 #include <cstdio>
+#include <memory>
 #include <thread>
+template <auto free> struct Frees { template <class T> void operator()(T *it) const { free(it); } };
+template <class T, auto free> using Held = std::unique_ptr<T, Frees<free>>;
 int main() {
     const confluo_sizes sizes{16, 1, 0, 0};
-    confluo_log log = CONFLUO_LOG_INIT;
-    confluo_writer writer = CONFLUO_WRITER_INIT;
-    confluo_reader reader = CONFLUO_READER_INIT;
+    Held<confluo_log, confluo_free_log> log;
+    Held<confluo_reader, confluo_free_reader> reader;
+    confluo_log *opened = nullptr;
+    confluo_writer *writer = nullptr;
+    confluo_reader *last = nullptr;
     confluo_head head{};
     uint64_t quad[4] = {};
-    uint32_t code = confluo_open_str(&log, "schema records ts:u64,len:u32\\nask all total len *\\n", &sizes, nullptr);
-    if (code || confluo_take_writer(&log, &writer, nullptr) || confluo_take_reader(&log, &reader)) return 1;
+    uint32_t code = confluo_open_str(&opened, "schema records ts:u64,len:u32\\nask all total len *\\n", &sizes, nullptr);
+    log.reset(opened);
+    if (code || confluo_take_writer(log.get(), &writer, nullptr)) return 1;
     std::thread([&] {
         const uint64_t row[] = {1000, 60};
-        for (int k = 0; k < 2 && !code; k++) code = confluo_append_values(&writer, 0, row, 2, nullptr);
-        confluo_free_writer(&writer);
+        for (int k = 0; k < 2 && !code; k++) code = confluo_append_values(writer, 0, row, 2, nullptr);
+        confluo_free_writer(writer);
     }).join();
     switch ((confluo_code)code) {
     case CONFLUO_OK: break;
     default: return (std::puts(confluo_error_name(code)), 1);
     }
-    if (confluo_close(&log, &reader) || confluo_ask_seen(&reader, 0, &head)) return 1;
-    confluo_words(&reader, 0, quad, 4);
+    if (confluo_close(log.get(), &last)) return 1;
+    reader.reset(last);
+    if (confluo_ask_seen(last, 0, &head)) return 1;
+    confluo_words(last, 0, quad, 4);
     std::printf("%u records, %u bytes\\n", head.tail, (unsigned)quad[1]);
-    confluo_free_reader(&reader);
 }
 """
 
@@ -111,12 +118,13 @@ class StandIn(unittest.TestCase):
         for compiler in filter(shutil.which, ("gcc", "clang")):
             program = self.folder / compiler
             flags = ["-std=c11", "-Wall", "-Wextra", "-Werror", "-O2", f"-I{BINDINGS}"]
-            for source in ("inline.c", "stand_in.c"):
+            for source in ("inline.c", "raw.c", "stand_in.c"):
                 done = run(compiler, *flags, "-c", TESTS / source, "-o", f"{program}_{source}.o")
                 self.assertEqual(done.stderr, "")
-            run(compiler, f"{program}_inline.c.o", f"{program}_stand_in.c.o", "-pthread", "-o", program)
-            done = run(program)
-            self.assertEqual((done.returncode, done.stderr), (0, ""))
+            for source in ("inline.c", "raw.c"):
+                run(compiler, f"{program}_{source}.o", f"{program}_stand_in.c.o", "-pthread", "-o", program)
+                done = run(program)
+                self.assertEqual((done.returncode, done.stderr), (0, ""))
             for language, standard in (("c", "c99"), ("c", "c17"), ("c++", "c++11"), ("c++", "c++20")):
                 flags = ["-Wall", "-Wextra", "-Werror", "-x", language, f"-std={standard}", "-fsyntax-only"]
                 done = run(compiler, *flags, f"-I{BINDINGS}", "-", input='#include "confluo.h"\n')
@@ -166,6 +174,10 @@ class StandIn(unittest.TestCase):
         found = re.findall(r'"([^"]*)"', re.search(r"RULES: \[&str; 14\] = \[(.*?)\];", text, re.S).group(1))
         self.assertEqual(found, rules)
 
+    def number_of_the_release(self) -> int:
+        major, minor, patch = map(int, (ROOT / "VERSION").read_text().strip().split("."))
+        return 1000000 * major + 1000 * minor + patch
+
     def test_all_have_one_version(self):
         version = int(
             re.search(r"#define CONFLUO_VERSION (\d+)", (BINDINGS / "confluo.h").read_text()).group(1)
@@ -177,6 +189,7 @@ class StandIn(unittest.TestCase):
             (BINDINGS / "rust" / "Cargo.toml", f'version = "{shown}"'),
             (BINDINGS / "rust" / "src" / "raw.rs", f"VERSION: u32 = {version // 1000}_{version % 1000:03};"),
             (ROOT / "crates" / "confluo_c" / "src" / "plain.rt", f"result ≡ {version} "),
+            (BINDINGS / "confluo.h", f"#define CONFLUO_HEADER_VERSION {self.number_of_the_release()}\n"),
         ]
         for file, said in cases:
             with self.subTest(file=file.name):
