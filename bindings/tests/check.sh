@@ -44,13 +44,17 @@ for flags in -O2 -fsanitize=address,undefined -fsanitize=thread; do
     build header "$flags" "$folder/header.c"
     [ "$("$folder/header")" = "record 0" ] || { echo "check-c: the example of confluo.h prints something else"; exit 1; }
     # A program written from the header alone, in C and in C++.
-    for language in c:c99 c++:c++20; do
-        if ! echo 'int main() { return 0; }' | "$cc" -x "${language%:*}" "-std=${language#*:}" -fsyntax-only - 2> /dev/null; then
+    for language in c:c99:-lc c++:c++20:-lstdc++; do
+        links=${language##*:} language=${language%:*}
+        words="-x ${language%:*} -std=${language#*:}"
+        # shellcheck disable=SC2086
+        if ! echo 'int main() { return 0; }' | "$cc" $words "$flags" -o "$folder/empty" - "$links" 2> /dev/null; then
             echo "check-c: $language skipped, the compiler does not have it"
             continue
         fi
-        "$cc" -x "${language%:*}" "-std=${language#*:}" -g -Wall -Wextra -Wpedantic -Werror -I"$here/.." "$flags" -c "$here/program.c" -o "$folder/program.o"
-        "$cc" "$flags" "$folder/program.o" "$out/libconfluo.a" -pthread -o "$folder/program"
+        # shellcheck disable=SC2086
+        "$cc" $words -g -Wall -Wextra -Wpedantic -Werror -I"$here/.." "$flags" -c "$here/program.c" -o "$folder/program.o"
+        "$cc" "$flags" "$folder/program.o" "$out/libconfluo.a" -pthread "$links" -o "$folder/program"
         "$folder/program" > "$folder/report"
         cmp -s "$folder/report" "$here/program.report" || { echo "check-c: the program prints another report in $language"; exit 1; }
     done

@@ -128,7 +128,7 @@ static void *append(void *given) {
 }
 
 static void a_handle_goes_through_a_ring(void) {
-    parts it = parts_of("schema records ts:u64\nask all total ts *\n", 1000, 0);
+    parts it = parts_of("schema records ts:u64\nask all list *\n", 1000, 0);
     pthread_t thread;
     uint32_t tail = 0;
     ring.writer = it.writer;

@@ -13,9 +13,9 @@ static const char setup[] = "schema records ts:u64,host:u32,len:u16\n"
                             "filter every *\n"
                             "aggregate bytes every len\n"
                             "tally senders host len *\n"
-                            "trigger busy bytes sum > 100000\n"
+                            "trigger busy bytes sum > 25000\n"
                             "ask all total len *\n"
-                            "ask one find hosts 3 3\n"
+                            "ask one find hosts 99 99\n"
                             "ask marks fired busy\n"
                             "ask most top senders sum 2\n";
 
@@ -32,7 +32,7 @@ static void *append(void *given) {
     uint32_t code = CONFLUO_OK, offset = 0, before = 0;
     void *is_wrong = NULL;
     for (uint32_t k = 0; k < EACH && code == CONFLUO_OK; k++, before = offset) {
-        const uint64_t row[3] = {k * UINT64_C(10000000), k % HOSTS, 60 + k % 2};
+        const uint64_t row[3] = {k * UINT64_C(10000000), k == 500 ? 99 : k % HOSTS, k == 700 ? 1500 : 60 + k % 2};
         code = confluo_append_values(writer, k, row, 3, &offset);
         if (code == CONFLUO_OK && k > 0 && offset <= before) is_wrong = wrong("an offset fell", code);
     }
