@@ -43,9 +43,9 @@
 **
 **   A log, a writer and a reader are pointers that a call gives and another one frees. NULL is a handle that leads to nothing: each call
 **   answers CONFLUO_NOTHING to it, and freeing it does nothing.
-**   In C and C++ all calls by handles are inline functions of this header around the library's own calls, which "THE LIBRARY'S OWN CALLS"
-**   below lists for other languages. What that costs: one malloc of 32 bytes for a log or a writer and of 48 for a reader, a copy of the
-**   setup's text for each log, and a load and a store in each call (see THREADS), about 5 nanoseconds.
+**   In C and C++ all calls are inline functions of this header around the library's own calls, which "THE LIBRARY'S OWN CALLS" below lists
+**   for other languages. What that costs: one malloc for each handle, of at most 48 bytes; a copy of the setup's text for each log; and in
+**   each call a load and a store (see THREADS), which take about 10 nanoseconds together.
 **
 ** THREADS
 **

@@ -1,4 +1,4 @@
-"""The calls of confluo.h."""
+"""The library's own calls, as the last part of confluo.h lists them."""
 
 from __future__ import annotations
 

@@ -94,13 +94,22 @@ class Log(Part):
             call("open")(self._handle, text, len(text), sizes_of(capacity, writers, nodes), fault),
             fault,
         )
-        self.names = Names(self._handle)
+        self.names = Names(self._handle, text)
 
     def width(self) -> int:
         """How wide a bucket is, in nanoseconds."""
-        found = LONG()
-        self._call("width", found)
-        return found.value
+        return self.names.width
+
+    def reads_link(self, link: int) -> bool:
+        """Whether `append` takes the frames of a link. A log of one record is opened and closed."""
+        with Log(self.names.setup, 1, 1, 0) as log, log.writer() as writer:
+            try:
+                writer.append(0, 0, b"", link=link)
+            except Error as refused:
+                if refused.code not in (Code.FRAME, Code.UNFIT, Code.NODES):
+                    raise
+                return refused.code == Code.NODES
+        return True
 
     def writer(self) -> Writer:
         """A writer that is not taken; Error with NO_WRITER if all are. A writer that is closed can be taken again."""

@@ -7,7 +7,7 @@ import itertools
 from typing import Iterator, NamedTuple, Optional, Union
 
 from . import calls
-from .calls import SIZE, call
+from .calls import LONG, SIZE, call
 from .errors import Code, wanted
 
 LANES = ["index", "filter", "aggregate", "tally"]
@@ -86,9 +86,13 @@ def question_of(name: str, about: calls.About, attributes: list[Attribute], lane
 
 
 class Names:
-    """All that a setup names: `attributes`, `lanes`, `triggers` and `questions`, as lists in the order of the lines."""
+    """All that a setup names: `attributes`, `lanes`, `triggers` and `questions`, as lists in the order of the lines. `setup` is its text,
+    and `width` how wide a bucket is, in nanoseconds."""
 
-    def __init__(self, handle: calls.Handle) -> None:
+    def __init__(self, handle: calls.Handle, setup: bytes) -> None:
+        width = LONG()
+        wanted(call("width")(handle, width))
+        self.setup, self.width = setup.decode("ascii"), width.value
         self.attributes = [
             Attribute(name, f"u{it.kind}" if it.kind else f"b{it.size}") for name, it in told(handle, 0)
         ]

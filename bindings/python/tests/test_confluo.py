@@ -164,7 +164,21 @@ class Calls(unittest.TestCase):
                 confluo.Question("first", "top", "keys", part="count", count=2),
             ],
         )
-        self.assertEqual(confluo.Log("schema packet\nwidth 50\n").width(), 50)
+        setup = "schema packet\nwidth 50\n"
+        log = confluo.Log(setup)
+        reader = log.reader()
+        log.close()
+        self.assertEqual((reader.names.width, reader.names.setup, log.width()), (50, setup, 50))
+
+    def test_links(self):
+        cases = [
+            ("schema packet\nindex hosts src\n", [True, True, False]),
+            ("schema packet6\n", [True, True, True]),
+            (LANES, [False, False, False]),
+        ]
+        for setup, reads in cases:
+            log = confluo.Log(setup)
+            self.assertEqual([log.reads_link(link) for link in (1, 113, 276)], reads)
 
     def test_questions_at_one_tail(self):
         log = confluo.Log(LANES, capacity=8)

@@ -68,7 +68,7 @@ pub use error::{
     RowError, TakeError,
 };
 pub use log::{check, Log, Sizes};
-pub use names::{Asks, Attribute, Lane, LaneKind, Op, Part, Question, Trigger};
+pub use names::{Asks, Attribute, Lane, LaneKind, Op, Part, Question, Setup, Trigger};
 pub use reader::{Reader, Rows};
 pub use row::{Row, Value};
 pub use writer::{Appended, Batch, Capture, Room, Writer};

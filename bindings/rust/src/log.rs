@@ -1,7 +1,7 @@
 //! Logs.
 use crate::error::{CloseError, OpenError, TakeError};
 use crate::handle::Held;
-use crate::names::{place_of, Attribute, Lane, Names, Question, Trigger};
+use crate::names::{Attribute, Lane, Question, Setup, Trigger};
 use crate::raw;
 use crate::reader::Reader;
 use crate::writer::Writer;
@@ -67,7 +67,7 @@ pub fn check(setup: &str, sizes: Sizes) -> Result<u64, OpenError> {
 #[derive(Debug)]
 pub struct Log {
     held: Held<raw::Log>,
-    names: Arc<Names>,
+    setup: Arc<Setup>,
 }
 
 impl Log {
@@ -84,13 +84,18 @@ impl Log {
         let code =
             held.call(|log| unsafe { raw::confluo_open(log, setup.as_ptr(), setup.len(), &sizes.raw(), &mut fault) });
         OpenError::check(code, &fault)?;
-        let mut names = |sort| named(&mut held, sort, |name, _| name);
-        let names = Arc::new(Names {
-            attributes: names(raw::ATTRIBUTES),
-            lanes: names(raw::LANES),
-            questions: names(raw::QUESTIONS),
+        let mut width = 0;
+        // SAFETY: the memory is ours. The call is refused only for a handle that leads to nothing.
+        held.call(|log| unsafe { raw::confluo_width(log, &mut width) });
+        let setup = Arc::new(Setup {
+            text: setup.to_owned(),
+            width,
+            attributes: named(&mut held, raw::ATTRIBUTES, Attribute::of),
+            lanes: named(&mut held, raw::LANES, Lane::of),
+            triggers: named(&mut held, raw::TRIGGERS, Trigger::of),
+            questions: named(&mut held, raw::QUESTIONS, Question::of),
         });
-        Ok(Log { held, names })
+        Ok(Log { held, setup })
     }
 
     /// Takes a writer that is not taken, that of the greatest number. A writer that is dropped, in whatever thread, can be taken again.
@@ -131,7 +136,7 @@ impl Log {
             .held
             .call(|log| reader.call(|reader| unsafe { raw::confluo_take_reader(log, reader) }));
         TakeError::check(code)?;
-        Ok(Reader::new(reader, Arc::clone(&self.names)))
+        Ok(Reader::new(reader, Arc::clone(&self.setup)))
     }
 
     /// Closes the log, once all its writers are dropped: no record comes to it any more. The reader that is left has seen every record;
@@ -162,43 +167,21 @@ impl Log {
             .held
             .call(|log| reader.call(|reader| unsafe { raw::confluo_close(log, reader) }));
         match CloseError::check(code) {
-            Ok(()) => Ok(Reader::new(reader, Arc::clone(&self.names))),
+            Ok(()) => Ok(Reader::new(reader, Arc::clone(&self.setup))),
             Err(refused) => Err((self, refused)),
         }
     }
 
-    /// The attributes of the schema, in its order.
-    pub fn attributes(&mut self) -> Vec<Attribute> {
-        named(&mut self.held, raw::ATTRIBUTES, Attribute::of)
-    }
-
-    /// Indexes, filters, aggregates and tallies, in the order of their lines.
-    pub fn lanes(&mut self) -> Vec<Lane> {
-        named(&mut self.held, raw::LANES, Lane::of)
-    }
-
-    /// The triggers, in the order of their lines.
-    pub fn triggers(&mut self) -> Vec<Trigger> {
-        named(&mut self.held, raw::TRIGGERS, Trigger::of)
-    }
-
-    /// The questions, in the order of their lines.
-    pub fn questions(&mut self) -> Vec<Question> {
-        named(&mut self.held, raw::QUESTIONS, Question::of)
+    /// What the setup says.
+    #[must_use]
+    pub fn setup(&self) -> &Setup {
+        &self.setup
     }
 
     /// The number of the question of that name, if there is one.
     #[must_use]
     pub fn question(&self, name: &str) -> Option<u32> {
-        place_of(&self.names.questions, name).and_then(|place| u32::try_from(place).ok())
-    }
-
-    /// How wide a bucket is, in nanoseconds.
-    pub fn width(&mut self) -> u64 {
-        let mut width = 0;
-        // SAFETY: the memory is ours. The call is refused only for a handle that leads to nothing.
-        self.held.call(|log| unsafe { raw::confluo_width(log, &mut width) });
-        width
+        self.setup.question(name)
     }
 }
 

@@ -1,17 +1,114 @@
 //! What a setup names.
+use crate::error::{AppendError, Error};
+use crate::log::{Log, Sizes};
 use crate::raw::About;
+use crate::writer::Capture;
 
-/// The names that a setup gives, in the order of their numbers.
+/// What the setup of a log says. The log and its readers share it, from [`Log::setup`] and [`Reader::setup`](crate::Reader::setup).
 #[derive(Debug)]
-pub(crate) struct Names {
-    pub attributes: Vec<String>,
-    pub lanes: Vec<String>,
-    pub questions: Vec<String>,
+pub struct Setup {
+    pub(crate) text: String,
+    pub(crate) width: u64,
+    pub(crate) attributes: Vec<Attribute>,
+    pub(crate) lanes: Vec<Lane>,
+    pub(crate) triggers: Vec<Trigger>,
+    pub(crate) questions: Vec<Question>,
+}
+
+impl Setup {
+    /// Its text.
+    #[must_use]
+    pub fn text(&self) -> &str {
+        &self.text
+    }
+
+    /// How wide a bucket is, in nanoseconds.
+    #[must_use]
+    pub fn width(&self) -> u64 {
+        self.width
+    }
+
+    /// The attributes of the schema, in its order.
+    #[must_use]
+    pub fn attributes(&self) -> &[Attribute] {
+        &self.attributes
+    }
+
+    /// Indexes, filters, aggregates and tallies, in the order of their lines.
+    #[must_use]
+    pub fn lanes(&self) -> &[Lane] {
+        &self.lanes
+    }
+
+    /// The triggers, in the order of their lines.
+    #[must_use]
+    pub fn triggers(&self) -> &[Trigger] {
+        &self.triggers
+    }
+
+    /// The questions, in the order of their lines.
+    #[must_use]
+    pub fn questions(&self) -> &[Question] {
+        &self.questions
+    }
+
+    /// The number of the question of that name, if there is one.
+    #[must_use]
+    pub fn question(&self, name: &str) -> Option<u32> {
+        number_of(self.questions.iter().map(|it| &it.name), name)
+    }
+
+    /// The number of the index, filter, aggregate or tally of that name, if there is one.
+    #[must_use]
+    pub fn lane(&self, name: &str) -> Option<u32> {
+        number_of(self.lanes.iter().map(|it| &it.name), name)
+    }
+
+    /// The place of the attribute of that name among the values of a [`Row`](crate::Row), if there is one.
+    #[must_use]
+    pub fn attribute(&self, name: &str) -> Option<usize> {
+        self.attributes.iter().position(|it| it.name == name)
+    }
+
+    /// Whether a log of this setup takes the frames of a link. A log of one record is opened and dropped.
+    ///
+    /// # Errors
+    ///
+    /// [`Code::Memory`](crate::Code::Memory).
+    ///
+    /// ```
+    /// use confluo::{Log, Sizes};
+    ///
+    /// let log = Log::open("schema packet\n", Sizes::default())?;
+    /// assert!(log.setup().reads_link(1)? && !log.setup().reads_link(147)?);
+    /// # Ok::<(), confluo::Error>(())
+    /// ```
+    pub fn reads_link(&self, link: u32) -> Result<bool, Error> {
+        let sizes = Sizes {
+            capacity: 1,
+            writers: 1,
+            nodes: 0,
+        };
+        let (ns, number, length) = (0, 0, 0);
+        let capture = Capture {
+            ns,
+            number,
+            length,
+            link,
+        };
+        match Log::open(&self.text, sizes)?.writer()?.append(&capture, &[]) {
+            Ok(_) | Err(AppendError::Nodes) => Ok(true),
+            Err(AppendError::Frame | AppendError::Unfit) => Ok(false),
+            Err(refused) => Err(refused.into()),
+        }
+    }
 }
 
 /// The place of a name among others.
-pub(crate) fn place_of(names: &[String], name: &str) -> Option<usize> {
-    names.iter().position(|it| it == name)
+fn number_of<'a>(mut names: impl Iterator<Item = &'a String>, name: &str) -> Option<u32> {
+    names
+        .position(|it| it == name)
+        .and_then(|place| u32::try_from(place).ok())
 }
 
 /// An attribute of the schema.

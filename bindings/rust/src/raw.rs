@@ -1,4 +1,4 @@
-//! The calls of `confluo.h`.
+//! The library's own calls, as the last part of `confluo.h` lists them.
 use std::os::raw::c_void;
 
 /// A handle: nothing if it is not `full`. Its fields are the library's.

@@ -2,7 +2,7 @@
 use crate::answer::{Answer, Body, Groups};
 use crate::error::{AskError, GroupsError, LineError, ReportError, RowError};
 use crate::handle::Held;
-use crate::names::{place_of, Names};
+use crate::names::Setup;
 use crate::raw;
 use crate::row::{Row, Value};
 use std::sync::Arc;
@@ -11,30 +11,36 @@ use std::sync::Arc;
 #[derive(Debug)]
 pub struct Reader {
     held: Held<raw::Reader>,
-    names: Arc<Names>,
+    setup: Arc<Setup>,
 }
 
 impl Reader {
-    pub(crate) fn new(held: Held<raw::Reader>, names: Arc<Names>) -> Self {
-        Reader { held, names }
+    pub(crate) fn new(held: Held<raw::Reader>, setup: Arc<Setup>) -> Self {
+        Reader { held, setup }
+    }
+
+    /// What the setup of the log says.
+    #[must_use]
+    pub fn setup(&self) -> &Setup {
+        &self.setup
     }
 
     /// The number of the question of that name, if there is one.
     #[must_use]
     pub fn question(&self, name: &str) -> Option<u32> {
-        place_of(&self.names.questions, name).and_then(|place| u32::try_from(place).ok())
+        self.setup.question(name)
     }
 
     /// The number of the index, filter, aggregate or tally of that name, if there is one.
     #[must_use]
     pub fn lane(&self, name: &str) -> Option<u32> {
-        place_of(&self.names.lanes, name).and_then(|place| u32::try_from(place).ok())
+        self.setup.lane(name)
     }
 
     /// The place of the attribute of that name among the values of a [`Row`], if there is one.
     #[must_use]
     pub fn attribute(&self, name: &str) -> Option<usize> {
-        place_of(&self.names.attributes, name)
+        self.setup.attribute(name)
     }
 
     /// Asks the question of that name, as [`ask`](Reader::ask) does.

@@ -130,21 +130,16 @@ fn answers_have_forms() -> Result<(), Box<dyn Error>> {
 
 #[test]
 fn names_are_told() -> Result<(), Box<dyn Error>> {
-    let mut log = Log::open(RECORDS, sizes(4, 1, 64))?;
-    let names: Vec<_> = log
+    // (a reader's is that of the log, which is gone)
+    let reader = Log::open(RECORDS, sizes(4, 1, 64))?.reader()?;
+    let setup = reader.setup();
+    let names: Vec<_> = setup
         .attributes()
-        .into_iter()
-        .map(|it| (it.name, it.is_number, it.size))
+        .iter()
+        .map(|it| (it.name.as_str(), it.is_number, it.size))
         .collect();
-    assert_eq!(
-        names,
-        [
-            ("ts".into(), true, 8),
-            ("host".into(), true, 4),
-            ("len".into(), true, 4)
-        ]
-    );
-    let lanes: Vec<_> = log.lanes().into_iter().map(|it| it.kind).collect();
+    assert_eq!(names, [("ts", true, 8), ("host", true, 4), ("len", true, 4)]);
+    let lanes: Vec<_> = setup.lanes().iter().map(|it| it.kind).collect();
     let kinds = [
         LaneKind::Index { key: 1 },
         LaneKind::Filter,
@@ -160,8 +155,8 @@ fn names_are_told() -> Result<(), Box<dyn Error>> {
         op,
         number,
     };
-    assert_eq!(log.triggers(), [trigger]);
-    let asks: Vec<_> = log.questions().into_iter().map(|it| it.asks).collect();
+    assert_eq!(setup.triggers(), [trigger]);
+    let asks: Vec<_> = setup.questions().iter().map(|it| it.asks).collect();
     let asked = [
         Asks::Total { attribute: 2 },
         Asks::Find {
@@ -182,8 +177,23 @@ fn names_are_told() -> Result<(), Box<dyn Error>> {
         },
     ];
     assert_eq!(asks, asked);
-    assert_eq!((log.question("marks"), log.question("large")), (Some(2), None));
-    assert_eq!(log.width(), 1_000_000_000);
+    assert_eq!((setup.question("marks"), setup.question("large")), (Some(2), None));
+    assert_eq!((setup.width(), setup.text()), (1_000_000_000, RECORDS));
+    Ok(())
+}
+
+#[test]
+fn links_are_read_or_not() -> Result<(), Box<dyn Error>> {
+    for (setup, reads) in [
+        ("schema packet\nindex hosts src\n", [true, true, false]),
+        ("schema packet6\n", [true, true, true]),
+        (RECORDS, [false, false, false]),
+    ] {
+        let log = Log::open(setup, sizes(4, 1, 0))?;
+        for (link, reads) in [1, 113, 276].into_iter().zip(reads) {
+            assert_eq!(log.setup().reads_link(link)?, reads, "link {link} of {setup}");
+        }
+    }
     Ok(())
 }
 
