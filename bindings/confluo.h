@@ -460,6 +460,9 @@ static inline size_t confluo_words(confluo_reader *reader, size_t from, uint64_t
 static inline CONFLUO_CHECKED CONFLUO_NEEDS(4) uint32_t
 confluo_report(confluo_reader *reader, char *text, size_t text_len, size_t *count) CONFLUO_CALL(report);
 
+/* The same report in memory from malloc, which is yours to free, with a byte 0 behind it; `count` may be NULL. Codes as for confluo_report. */
+static inline CONFLUO_CHECKED CONFLUO_NEEDS(2) uint32_t confluo_make_report(confluo_reader *reader, char **text, size_t *count);
+
 /* Says how many records are below the tail now. The thread that has `reader`.
 **
 **   CONFLUO_NOTHING    `reader` leads to nothing */
@@ -838,6 +841,22 @@ static inline uint32_t confluo_report(confluo_reader *reader, char *text, size_t
     CONFLUO_BY(reader, uint32_t, CONFLUO_NOTHING,
                confluo_ended_private(
                    confluo_raw_report(&reader->raw_private, text_len != 0 ? (uint8_t *)text : &no_text, text_len, count), text, text_len, count));
+}
+static inline uint32_t confluo_make_report(confluo_reader *reader, char **text, size_t *count) {
+    size_t room = 65536, length = 0;
+    uint32_t code = reader != NULL ? CONFLUO_OK : CONFLUO_NOTHING;
+    while (code == CONFLUO_OK) {
+        char *made = (char *)malloc(room);
+        code = made != NULL ? confluo_report(reader, made, room, &length) : (uint32_t)CONFLUO_MEMORY;
+        if (code == CONFLUO_OK && length < room) {
+            *text = made;
+            if (count != NULL) *count = length;
+            return code;
+        }
+        free(made);
+        room = length + 1; /* what the reader has seen stays, so the second text is the first one */
+    }
+    return code;
 }
 static inline uint32_t confluo_tail(confluo_reader *reader, uint32_t *tail) {
     CONFLUO_BY(reader, uint32_t, CONFLUO_NOTHING, confluo_raw_tail(&reader->raw_private, tail));

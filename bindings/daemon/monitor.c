@@ -82,17 +82,10 @@ static void *capture_frames(void *given) {
 }
 
 static void report(confluo_reader *reader) {
-    static char *text;
-    static size_t room;
-    size_t count = 0;
-    must(confluo_report(reader, text, room, &count), "report");
-    if (count > room) { /* what the reader has seen stays, so the second text is the first one */
-        text = realloc(text, room = count);
-        if (!text) err(2, NULL);
-        must(confluo_report(reader, text, room, &count), "report");
-    }
-    fwrite(text, 1, count, stdout);
-    fflush(stdout);
+    char *text = NULL;
+    must(confluo_make_report(reader, &text, NULL), "report");
+    fputs(text, stdout), fflush(stdout);
+    free(text);
 }
 
 /* Waits for a signal: at most a second, and less if the capture is to stop. */

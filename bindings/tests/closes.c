@@ -16,6 +16,10 @@ static void report_is(confluo_reader *reader, const char *wanted) {
     is(whole, strlen(wanted), "how long it is");
     is(confluo_report(reader, text, sizeof text, &count), CONFLUO_OK, "report");
     is(count == whole && strcmp(text, wanted) == 0, 1, wanted);
+    char *made = NULL;
+    is(confluo_make_report(reader, &made, &count), CONFLUO_OK, "report in new memory");
+    is(made != NULL && count == whole && strcmp(made, wanted) == 0, 1, wanted);
+    free(made);
     memset(text, '.', 9);
     is(confluo_report(reader, text, 7, &count), CONFLUO_OK, "report with some room");
     is(count == whole && memcmp(text, "records..", 9) == 0, 1, "its front");
@@ -30,8 +34,11 @@ static void *closes(void *given) {
     uint32_t number = 7, tail = 7;
     char text[2] = {'.', '.'};
     size_t count = 7;
+    char *made = NULL;
     is(confluo_close(log, &last), CONFLUO_NOTHING, "close nothing");
     is(confluo_report(last, text, 2, &count), CONFLUO_NOTHING, "report of nothing");
+    is(confluo_make_report(last, &made, NULL), CONFLUO_NOTHING, "report of nothing");
+    is(made == NULL, 1, "which leaves no text");
     is(count == 7 && text[0] == '.' && last == NULL, 1, "which leaves all");
     is(opened(&log, setup, 4, 3, 64), CONFLUO_OK, "open");
     for (int k = 0; k < 3; k++) is(confluo_take_writer(log, &writers[k], &number), CONFLUO_OK, "writer");
@@ -71,4 +78,18 @@ static void *closes(void *given) {
     return given;
 }
 
-int main(void) { return in_a_small_stack(closes); }
+static void *long_reports(void *given) {
+    parts it = parts_of("schema records ts:u64\nask all list *\n", 9000, 0);
+    uint32_t tail = 7;
+    size_t count = 7;
+    char *made = NULL;
+    for (uint64_t k = 0; k < 9000; k++) is(confluo_append_values(it.writer, 10000000 + (uint32_t)k, &k, 1, NULL), CONFLUO_OK, "append");
+    is(confluo_tail(it.reader, &tail), CONFLUO_OK, "tail");
+    is(confluo_make_report(it.reader, &made, &count), CONFLUO_OK, "a long report");
+    is(count > 9000 * 9 && made != NULL && strlen(made) == count, 1, "which has all records");
+    is(made != NULL && strncmp(made, "records 9000\nask all list 9000: 10000000 10000001 ", 48) == 0, 1, "its front");
+    free(made), free_parts(&it);
+    return given;
+}
+
+int main(void) { return in_a_small_stack(closes) || in_a_small_stack(long_reports); }

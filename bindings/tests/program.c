@@ -73,12 +73,8 @@ static void *ask(void *given) {
 }
 
 static int print_report(confluo_reader *reader) {
-    size_t count = 0, room;
-    uint32_t code = confluo_report(reader, NULL, 0, &count);
-    char *text = (char *)malloc(room = count + 1), *order;
-    if (text == NULL) return 1;
-    if (code == CONFLUO_OK) code = confluo_report(reader, text, room, &count);
-    order = code == CONFLUO_OK ? strstr(text, "order ") : NULL;
+    char *text = NULL, *order = NULL;
+    if (confluo_make_report(reader, &text, NULL) == CONFLUO_OK) order = strstr(text, "order ");
     if (order != NULL) *order = 0;
     if (order != NULL) fputs(text, stdout);
     free(text);
