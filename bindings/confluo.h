@@ -11,7 +11,8 @@
 **   behind an earlier one whose writer has not finished it.
 **   An answer is exactly the question's meaning on the records below the tail that it was asked at (confluo_head.tail). It is as if one
 **   thread had appended these records and then asked.
-**   All questions of a report can have one tail: look at it once (confluo_tail), and ask of what was seen (confluo_ask_seen).
+**   All questions of a report can have one tail: look at it once (confluo_tail), and ask of what was seen (confluo_ask_seen). A reader
+**   need not look again and again: confluo_wait sleeps until records come.
 **   When all writers are freed a log can be closed (confluo_close), which leaves a reader of all its records and their report.
 **   A log that is full stays open to readers. Open the next one and go on there. What an aggregate or a tally measured in several logs can
 **   be merged (confluo_groups, confluo_merge), as if one log had all records.
@@ -468,6 +469,13 @@ static inline CONFLUO_CHECKED CONFLUO_NEEDS(2) uint32_t confluo_make_report(conf
 **   CONFLUO_NOTHING    `reader` leads to nothing */
 static inline CONFLUO_NEEDS(2) uint32_t confluo_tail(confluo_reader *reader, uint32_t *tail) CONFLUO_CALL(tail);
 
+/* Waits until more than `after` records are below the tail, the log is closed, or so many nanoseconds have gone by, and says how many are
+** below the tail then. It sleeps in the kernel meanwhile, and each call that appends wakes it. To end a wait early, close the log, or give
+** it little time and look at a flag of yours. The thread that has `reader`.
+**
+**   CONFLUO_NOTHING    `reader` leads to nothing */
+static inline CONFLUO_NEEDS(4) uint32_t confluo_wait(confluo_reader *reader, uint32_t after, uint64_t nanoseconds, uint32_t *tail);
+
 /* Copies the name of what the setup of the log has of that sort at that number (CONFLUO_ATTRIBUTES and so on), as far as there is room, with
 ** a byte 0 behind it if there is room for that too, and says in `count` how many bytes the name has: at most 32, all ASCII. The thread
 ** that has `log`.
@@ -580,21 +588,27 @@ uint32_t confluo_raw_width(confluo_raw_log *log, uint64_t *width) __asm__("confl
 void confluo_raw_free_log(confluo_raw_log *log) __asm__("confluo_free_log");
 void confluo_raw_free_writer(confluo_raw_writer *writer) __asm__("confluo_free_writer");
 void confluo_raw_free_reader(confluo_raw_reader *reader) __asm__("confluo_free_reader");
+/* (of the C library, whose headers do not show these in strict modes) */
+long confluo_futex_private(long number, ...) __asm__("syscall");
+int confluo_clock_private(int clock, int64_t *seconds_and_nanoseconds) __asm__("clock_gettime");
 #ifdef __cplusplus
 }
 #endif
 
 /* INLINE: what the calls for C and C++ do around those. */
 
-/* The text of a setup, which stands behind this; the log and its readers own it. */
-typedef struct confluo_text_private { size_t length_private, owners_private; } confluo_text_private;
+/* What the handles of a log share and own together; the text of its setup stands behind it. */
+typedef struct confluo_shared_private {
+    size_t length_private, owners_private;
+    uint32_t waiters_private, events_private, closed_private;
+} confluo_shared_private;
 
-struct confluo_log { confluo_raw_log raw_private; confluo_text_private *text_private; uint32_t passed_private; };
-struct confluo_writer { confluo_raw_writer raw_private; uint32_t passed_private; };
+struct confluo_log { confluo_raw_log raw_private; confluo_shared_private *shared_private; uint32_t passed_private; };
+struct confluo_writer { confluo_raw_writer raw_private; confluo_shared_private *shared_private; uint32_t passed_private; };
 struct confluo_reader {
     confluo_raw_reader raw_private;
     confluo_raw_log names_private; /* a log of one record, once names are wanted */
-    confluo_text_private *text_private;
+    confluo_shared_private *shared_private;
     uint32_t passed_private;
 };
 
@@ -617,6 +631,16 @@ static inline void *confluo_made_private(size_t size) {
     return made != NULL ? memset(made, 0, size) : NULL;
 }
 
+/* The same for a call that appends. */
+#define CONFLUO_APPEND(call)                          \
+    uint32_t answer = CONFLUO_NOTHING;                \
+    if (writer == NULL) return answer;                \
+    confluo_begin_private(&writer->passed_private);   \
+    answer = call;                                    \
+    confluo_end_private(&writer->passed_private);     \
+    confluo_wake_private(writer->shared_private);     \
+    return answer
+
 /* What is given, or memory in the place of nothing. */
 static inline const uint8_t *confluo_bytes_private(const void *bytes, size_t length) {
     static const uint8_t none = 0;
@@ -630,9 +654,26 @@ static inline const confluo_value *confluo_values_private(const confluo_value *v
     static const confluo_value none = {0, 0, 0, {0}};
     return length != 0 ? values : &none;
 }
-static inline const uint8_t *confluo_text_of_private(const confluo_text_private *text) { return (const uint8_t *)(text + 1); }
-static inline void confluo_release_private(confluo_text_private *text) {
-    if (__atomic_sub_fetch(&text->owners_private, 1, __ATOMIC_ACQ_REL) == 0) free(text);
+static inline const uint8_t *confluo_text_of_private(const confluo_shared_private *shared) { return (const uint8_t *)(shared + 1); }
+static inline confluo_shared_private *confluo_share_private(confluo_shared_private *shared) {
+    (void)__atomic_add_fetch(&shared->owners_private, 1, __ATOMIC_RELAXED);
+    return shared;
+}
+static inline void confluo_release_private(confluo_shared_private *shared) {
+    if (__atomic_sub_fetch(&shared->owners_private, 1, __ATOMIC_ACQ_REL) == 0) free(shared);
+}
+
+/* Readers that wait sleep in the kernel, by a futex on `events`. A writer says that it is done before it looks whether one waits, and a
+** reader says that it waits before it looks at the tail, so one of them sees the other. */
+static inline void confluo_wake_private(confluo_shared_private *shared) {
+    if (__atomic_load_n(&shared->waiters_private, __ATOMIC_SEQ_CST) == 0) return;
+    (void)__atomic_add_fetch(&shared->events_private, 1, __ATOMIC_SEQ_CST);
+    (void)confluo_futex_private(202, &shared->events_private, 129 /* FUTEX_WAKE_PRIVATE */, INT32_MAX, NULL, NULL, 0);
+}
+static inline uint64_t confluo_now_private(void) {
+    int64_t now[2] = {0, 0};
+    (void)confluo_clock_private(1 /* CLOCK_MONOTONIC */, now);
+    return (uint64_t)now[0] * 1000000000 + (uint64_t)now[1];
 }
 
 static inline uint32_t confluo_version(void) { return confluo_raw_version(); }
@@ -640,6 +681,14 @@ static inline uint32_t confluo_check(const char *setup, size_t setup_len, const 
                                      confluo_fault *fault) {
     confluo_fault no_fault;
     return confluo_raw_check(confluo_bytes_private(setup, setup_len), setup_len, sizes, bytes, fault != NULL ? fault : &no_fault);
+}
+/* What the handles of a log of this setup share, with one owner; NULL if there is no memory. */
+static inline confluo_shared_private *confluo_shared_of_private(const char *setup, size_t setup_len) {
+    confluo_shared_private *shared = (confluo_shared_private *)confluo_made_private(sizeof *shared + setup_len + 1);
+    if (shared == NULL) return NULL;
+    shared->length_private = setup_len, shared->owners_private = 1;
+    memcpy(shared + 1, confluo_bytes_private(setup, setup_len), setup_len);
+    return shared;
 }
 static inline uint32_t confluo_open(confluo_log **log, const char *setup, size_t setup_len, const confluo_sizes *sizes,
                                     confluo_fault *fault) {
@@ -649,17 +698,13 @@ static inline uint32_t confluo_open(confluo_log **log, const char *setup, size_t
     if (made == NULL) return CONFLUO_MEMORY;
     code = confluo_raw_open(&made->raw_private, confluo_bytes_private(setup, setup_len), setup_len, sizes, fault != NULL ? fault : &no_fault);
     if (code == CONFLUO_OK) {
-        made->text_private = (confluo_text_private *)malloc(sizeof *made->text_private + setup_len + 1);
-        if (made->text_private == NULL) code = (confluo_raw_free_log(&made->raw_private), CONFLUO_MEMORY);
+        made->shared_private = confluo_shared_of_private(setup, setup_len);
+        if (made->shared_private == NULL) code = (confluo_raw_free_log(&made->raw_private), CONFLUO_MEMORY);
     }
     if (code != CONFLUO_OK) {
         free(made);
         return code;
     }
-    made->text_private->length_private = setup_len;
-    made->text_private->owners_private = 1;
-    memcpy(made->text_private + 1, confluo_bytes_private(setup, setup_len), setup_len);
-    ((char *)(made->text_private + 1))[setup_len] = 0;
     confluo_end_private(&made->passed_private);
     *log = made;
     return code;
@@ -674,10 +719,12 @@ static inline uint32_t confluo_take_writer(confluo_log *log, confluo_writer **wr
     code = confluo_raw_take_writer(&log->raw_private, &made->raw_private, number != NULL ? number : &no_number);
     confluo_end_private(&log->passed_private);
     confluo_end_private(&made->passed_private);
-    if (code == CONFLUO_OK)
-        *writer = made;
-    else
+    if (code != CONFLUO_OK) {
         free(made);
+        return code;
+    }
+    made->shared_private = confluo_share_private(log->shared_private);
+    *writer = made;
     return code;
 }
 /* A reader of the log, by closing it or not. */
@@ -695,8 +742,11 @@ static inline uint32_t confluo_read_private(confluo_log *log, confluo_reader **r
         free(made);
         return code;
     }
-    made->text_private = log->text_private;
-    (void)__atomic_add_fetch(&made->text_private->owners_private, 1, __ATOMIC_RELAXED);
+    made->shared_private = confluo_share_private(log->shared_private);
+    if (closes) {
+        __atomic_store_n(&log->shared_private->closed_private, 1, __ATOMIC_SEQ_CST);
+        confluo_wake_private(log->shared_private);
+    }
     *reader = made;
     return code;
 }
@@ -706,13 +756,14 @@ static inline void confluo_free_log(confluo_log *log) {
     if (log == NULL) return;
     confluo_begin_private(&log->passed_private);
     confluo_raw_free_log(&log->raw_private);
-    confluo_release_private(log->text_private);
+    confluo_release_private(log->shared_private);
     free(log);
 }
 static inline void confluo_free_writer(confluo_writer *writer) {
     if (writer == NULL) return;
     confluo_begin_private(&writer->passed_private);
     confluo_raw_free_writer(&writer->raw_private);
+    confluo_release_private(writer->shared_private);
     free(writer);
 }
 static inline void confluo_free_reader(confluo_reader *reader) {
@@ -720,30 +771,27 @@ static inline void confluo_free_reader(confluo_reader *reader) {
     confluo_begin_private(&reader->passed_private);
     confluo_raw_free_reader(&reader->raw_private);
     confluo_raw_free_log(&reader->names_private);
-    confluo_release_private(reader->text_private);
+    confluo_release_private(reader->shared_private);
     free(reader);
 }
 
 static inline uint32_t confluo_append(confluo_writer *writer, const confluo_capture *capture, const uint8_t *bytes, size_t bytes_len,
                                       uint32_t *offset) {
     uint32_t no_offset;
-    CONFLUO_BY(writer, uint32_t, CONFLUO_NOTHING,
-               confluo_raw_append(&writer->raw_private, capture, confluo_bytes_private(bytes, bytes_len), bytes_len,
-                                  offset != NULL ? offset : &no_offset));
+    CONFLUO_APPEND(confluo_raw_append(&writer->raw_private, capture, confluo_bytes_private(bytes, bytes_len), bytes_len,
+                                      offset != NULL ? offset : &no_offset));
 }
 static inline uint32_t confluo_append_values(confluo_writer *writer, uint32_t number, const uint64_t *values, size_t values_len,
                                              uint32_t *offset) {
     uint32_t no_offset;
-    CONFLUO_BY(writer, uint32_t, CONFLUO_NOTHING,
-               confluo_raw_append_values(&writer->raw_private, number, confluo_numbers_private(values, values_len), values_len,
-                                         offset != NULL ? offset : &no_offset));
+    CONFLUO_APPEND(confluo_raw_append_values(&writer->raw_private, number, confluo_numbers_private(values, values_len), values_len,
+                                             offset != NULL ? offset : &no_offset));
 }
 static inline uint32_t confluo_append_row(confluo_writer *writer, uint32_t number, const confluo_value *values, size_t values_len,
                                           uint32_t *offset) {
     uint32_t no_offset;
-    CONFLUO_BY(writer, uint32_t, CONFLUO_NOTHING,
-               confluo_raw_append_row(&writer->raw_private, number, confluo_values_private(values, values_len), values_len,
-                                      offset != NULL ? offset : &no_offset));
+    CONFLUO_APPEND(confluo_raw_append_row(&writer->raw_private, number, confluo_values_private(values, values_len), values_len,
+                                          offset != NULL ? offset : &no_offset));
 }
 /* Frames whose offsets nobody wants, in parts of 256. */
 static inline uint32_t confluo_append_all_private(confluo_raw_writer *writer, const confluo_frame *frames, size_t frames_len,
@@ -765,17 +813,17 @@ static inline uint32_t confluo_append_many(confluo_writer *writer, const confluo
     *done = 0;
     if (frames_len == 0) frames = &no_frame;
     bytes = confluo_bytes_private(bytes, bytes_len);
-    CONFLUO_BY(writer, uint32_t, CONFLUO_NOTHING,
-               frames_len != 0 && offsets == NULL
-                   ? confluo_append_all_private(&writer->raw_private, frames, frames_len, bytes, bytes_len, done)
-                   : confluo_raw_append_many(&writer->raw_private, frames, frames_len, bytes, bytes_len,
-                                             offsets_len != 0 && offsets != NULL ? offsets : &no_offset, offsets != NULL ? offsets_len : 0, done));
+    CONFLUO_APPEND(frames_len != 0 && offsets == NULL
+                       ? confluo_append_all_private(&writer->raw_private, frames, frames_len, bytes, bytes_len, done)
+                       : confluo_raw_append_many(&writer->raw_private, frames, frames_len, bytes, bytes_len,
+                                                 offsets_len != 0 && offsets != NULL ? offsets : &no_offset,
+                                                 offsets != NULL ? offsets_len : 0, done));
 }
 static inline uint32_t confluo_room_of(confluo_writer *writer, confluo_room *room) {
     CONFLUO_BY(writer, uint32_t, CONFLUO_NOTHING, confluo_raw_room_of(&writer->raw_private, room));
 }
 /* An empty frame of the link goes to a log of its own. */
-static inline uint32_t confluo_try_private(const confluo_text_private *text, uint32_t link) {
+static inline uint32_t confluo_try_private(const confluo_shared_private *text, uint32_t link) {
     const confluo_sizes sizes = {1, 1, 0, 0};
     const confluo_capture capture = {0, 0, 0, link, 0};
     confluo_raw_log log = {false, NULL};
@@ -790,7 +838,7 @@ static inline uint32_t confluo_try_private(const confluo_text_private *text, uin
     return code == CONFLUO_NODES ? (uint32_t)CONFLUO_OK : code;
 }
 static inline uint32_t confluo_reads_link(confluo_log *log, uint32_t link) {
-    CONFLUO_BY(log, uint32_t, CONFLUO_NOTHING, log->raw_private.full_private ? confluo_try_private(log->text_private, link) : answer);
+    CONFLUO_BY(log, uint32_t, CONFLUO_NOTHING, log->raw_private.full_private ? confluo_try_private(log->shared_private, link) : answer);
 }
 
 static inline uint32_t confluo_ask(confluo_reader *reader, uint32_t question, confluo_head *head) {
@@ -862,6 +910,26 @@ static inline uint32_t confluo_tail(confluo_reader *reader, uint32_t *tail) {
     CONFLUO_BY(reader, uint32_t, CONFLUO_NOTHING, confluo_raw_tail(&reader->raw_private, tail));
 }
 
+static inline uint32_t confluo_wait(confluo_reader *reader, uint32_t after, uint64_t nanoseconds, uint32_t *tail) {
+    const uint32_t code = confluo_tail(reader, tail);
+    confluo_shared_private *shared;
+    uint64_t until;
+    if (code != CONFLUO_OK || *tail > after || nanoseconds == 0) return code;
+    shared = reader->shared_private, until = confluo_now_private();
+    until = nanoseconds < UINT64_MAX / 2 - until ? until + nanoseconds : UINT64_MAX / 2;
+    (void)__atomic_add_fetch(&shared->waiters_private, 1, __ATOMIC_SEQ_CST);
+    for (;;) {
+        const uint32_t events = __atomic_load_n(&shared->events_private, __ATOMIC_SEQ_CST);
+        const bool is_closed = __atomic_load_n(&shared->closed_private, __ATOMIC_SEQ_CST) != 0;
+        const int64_t time[2] = {(int64_t)(until / 1000000000), (int64_t)(until % 1000000000)};
+        (void)confluo_tail(reader, tail);
+        if (*tail > after || is_closed || confluo_now_private() >= until) break;
+        (void)confluo_futex_private(202, &shared->events_private, 137 /* FUTEX_WAIT_BITSET_PRIVATE */, events, time, NULL, UINT32_MAX);
+    }
+    (void)__atomic_sub_fetch(&shared->waiters_private, 1, __ATOMIC_SEQ_CST);
+    return code;
+}
+
 static inline uint32_t confluo_named_private(confluo_raw_log *log, uint32_t sort, uint32_t number, char *name, size_t name_len,
                                              size_t *count) {
     uint8_t no_name;
@@ -885,7 +953,7 @@ static inline uint32_t confluo_width(confluo_log *log, uint64_t *width) {
 /* Opens the log of one record, in which a reader looks for names, if it is not open. */
 static inline uint32_t confluo_names_private(confluo_reader *reader) {
     const confluo_sizes sizes = {1, 1, 0, 0};
-    const confluo_text_private *text = reader->text_private;
+    const confluo_shared_private *text = reader->shared_private;
     confluo_fault fault;
     if (reader->names_private.full_private) return CONFLUO_OK;
     return confluo_raw_open(&reader->names_private, confluo_text_of_private(text), text->length_private, &sizes, &fault);
@@ -920,15 +988,15 @@ static inline uint32_t confluo_reader_number(confluo_reader *reader, uint32_t so
     return code;
 }
 
-static inline const char *confluo_setup_private(const confluo_text_private *text, size_t *length) {
+static inline const char *confluo_setup_private(const confluo_shared_private *text, size_t *length) {
     if (length != NULL) *length = text->length_private;
     return (const char *)(text + 1);
 }
 static inline const char *confluo_log_setup(const confluo_log *log, size_t *length) {
-    return log != NULL ? confluo_setup_private(log->text_private, length) : NULL;
+    return log != NULL ? confluo_setup_private(log->shared_private, length) : NULL;
 }
 static inline const char *confluo_reader_setup(const confluo_reader *reader, size_t *length) {
-    return reader != NULL ? confluo_setup_private(reader->text_private, length) : NULL;
+    return reader != NULL ? confluo_setup_private(reader->shared_private, length) : NULL;
 }
 
 static inline uint32_t confluo_check_str(const char *setup, const confluo_sizes *sizes, uint64_t *bytes, confluo_fault *fault) {
@@ -944,6 +1012,7 @@ static inline uint32_t confluo_question_str(confluo_log *log, const char *name, 
     return confluo_question(log, name, strlen(name), number);
 }
 #undef CONFLUO_BY
+#undef CONFLUO_APPEND
 #undef CONFLUO_CALL
 
 /* What the library was built with. A compiler that lays these out in another way cannot use it. */

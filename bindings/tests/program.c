@@ -59,7 +59,7 @@ static void *ask(void *given) {
         const int more = is_running();
         uint64_t quad[4] = {0, 0, 0, 0};
         confluo_head head = {0, 0, 0};
-        code = confluo_tail(reader, &tail);
+        code = confluo_wait(reader, before, more ? 10000000 : 0, &tail);
         if (code == CONFLUO_OK && tail < before) return wrong("the tail fell", code);
         for (uint32_t q = 0; q < 4 && code == CONFLUO_OK; q++) {
             code = confluo_ask_seen(reader, q, &head);
