@@ -79,6 +79,19 @@ class Part:
             self.close()
 
 
+class Waits:
+    """The readers of a log that wait. A writer appends before it looks whether one waits, and a reader says that it waits before
+    it looks at the tail, so one of them sees the other."""
+
+    def __init__(self) -> None:
+        self.changed, self.count, self.is_closed = threading.Condition(), 0, False
+
+    def wake(self) -> None:
+        if self.count:
+            with self.changed:
+                self.changed.notify_all()
+
+
 class Log(Part):
     """A log of the setup, which takes `capacity` records by `writers` writers of `nodes` nodes each. `names` is what
     the setup names."""
@@ -94,7 +107,7 @@ class Log(Part):
             call("open")(self._handle, text, len(text), sizes_of(capacity, writers, nodes), fault),
             fault,
         )
-        self.names = Names(self._handle, text)
+        self.names, self._waits = Names(self._handle, text), Waits()
 
     def width(self) -> int:
         """How wide a bucket is, in nanoseconds."""
@@ -113,14 +126,14 @@ class Log(Part):
 
     def writer(self) -> Writer:
         """A writer that is not taken; Error with NO_WRITER if all are. A writer that is closed can be taken again."""
-        writer, taken = Writer(), WORD()
+        writer, taken = Writer(self._waits), WORD()
         self._call("take_writer", writer._handle, taken)
         writer.number = taken.value
         return writer
 
     def reader(self) -> Reader:
         """A reader. Take as many as you like."""
-        reader = Reader(self.names)
+        reader = Reader(self.names, self._waits)
         self._call("take_reader", reader._handle)
         return reader
 
@@ -128,8 +141,10 @@ class Log(Part):
         """Closes the log for good, once all its writers are closed: no record comes to it any more. Answers a reader that has seen every
         record: `ask_seen` gives the final answers, and `report` their text with the history of the log. Other readers may stay. Error with
         BUSY while a writer is taken; the log stays open then."""
-        reader = Reader(self.names)
+        reader = Reader(self.names, self._waits)
         self._call("close", reader._handle)
+        self._waits.is_closed = True
+        self._waits.wake()
         return reader
 
 
@@ -196,6 +211,17 @@ class Writer(Part):
     _free = "free_writer"
     number: Optional[int] = None
 
+    def __init__(self, waits: Waits) -> None:
+        super().__init__()
+        self._waits = waits
+
+    def _append(self, name: str, *words: Any) -> int:
+        """Appends a record, answers its offset, and wakes the readers that wait."""
+        offset = WORD()
+        self._call(name, *words, offset)
+        self._waits.wake()
+        return offset.value
+
     def append(
         self, number: int, ns: int, frame: BytesLike, length: Optional[int] = None, link: int = 1
     ) -> int:
@@ -203,9 +229,8 @@ class Writer(Part):
         is not one of packets; with NODES if the writer has too few nodes for it: it has none left then, and appends the rows
         that need no new one; with FULL for good, though a full log may answer NODES to a writer that was not told FULL yet.
         """
-        one, offset = Frame(number, ns, data_of(frame), length, link), WORD()
-        self._call("append", capture_of(one), one.data, len(one.data), offset)
-        return offset.value
+        one = Frame(number, ns, data_of(frame), length, link)
+        return self._append("append", capture_of(one), one.data, len(one.data))
 
     def append_many(self, frames: Iterable[Union[Frame, tuple[Any, ...]]]) -> Appended:
         """Appends frames, each a Frame or a tuple like one, in one call, until one is refused. Answers Appended."""
@@ -222,21 +247,19 @@ class Writer(Part):
             code = call("append_many")(self._handle, many, len(held), data, at, offsets, len(held), done)
         if code == Code.NOTHING:
             wanted(code)
+        self._waits.wake()
         return Appended(offsets[: done.value], None if code == Code.OK else code_of(code))
 
     def append_row(self, number: int, values: Iterable[Union[int, BytesLike]]) -> int:
         """Appends a record of values, an int or bytes for each attribute of the schema, and answers its offset."""
         held = [value_of(it) for it in values]
-        row, offset = (calls.ValueOf * max(1, len(held)))(*held), WORD()
-        self._call("append_row", checked(number, 32, "number"), row, len(held), offset)
-        return offset.value
+        row = (calls.ValueOf * max(1, len(held)))(*held)
+        return self._append("append_row", checked(number, 32, "number"), row, len(held))
 
     def append_values(self, number: int, values: Iterable[int]) -> int:
         """Appends a record of numbers, one for each attribute of the schema, and answers its offset."""
         row, count = array(values)
-        offset = WORD()
-        self._call("append_values", checked(number, 32, "number"), row, count, offset)
-        return offset.value
+        return self._append("append_values", checked(number, 32, "number"), row, count)
 
     def room(self) -> Room:
         """What the log has room for, and the writer."""
@@ -250,9 +273,9 @@ class Reader(Part):
 
     _free = "free_reader"
 
-    def __init__(self, names: Names) -> None:
+    def __init__(self, names: Names, waits: Waits) -> None:
         super().__init__()
-        self.names = names
+        self.names, self._waits = names, waits
 
     def ask(self, question: Union[str, int]) -> Answer:
         """The answer to a question of the setup, given by its name or its number, on all records below the tail."""
@@ -337,3 +360,15 @@ class Reader(Part):
         tail = WORD()
         self._call("tail", tail)
         return tail.value
+
+    def wait(self, after: int, seconds: Optional[float] = None) -> int:
+        """Waits until more than `after` records are below the tail, the log is closed by `finish`, or so many seconds have gone by, and
+        answers how many are below the tail then. The thread sleeps meanwhile."""
+        waits = self._waits
+        with waits.changed:
+            waits.count += 1
+            try:
+                waits.changed.wait_for(lambda: self.tail() > after or waits.is_closed, seconds)
+            finally:
+                waits.count -= 1
+        return self.tail()

@@ -7,7 +7,9 @@ import pathlib
 import re
 import sys
 import threading
+import time
 import unittest
+from concurrent.futures import ThreadPoolExecutor
 
 HERE = pathlib.Path(__file__).resolve().parent
 sys.path.insert(0, str(HERE.parent))
@@ -289,6 +291,34 @@ class Threads(unittest.TestCase):
             thread.join()
         self.assertEqual(faults, [])
         self.assertEqual(reader.ask(0).words, [2800, 28000, 10, 10])
+
+    def test_readers_wait(self):
+        setup, rounds = "schema records ts:u64\n", 500
+        log, other = confluo.Log(setup), confluo.Log(setup)
+        writer, reader, answers, asks = log.writer(), log.reader(), other.writer(), other.reader()
+        began = time.monotonic()
+        self.assertEqual(reader.wait(0, 0.02), 0)
+        self.assertGreaterEqual(time.monotonic() - began, 0.02)
+
+        def echo():
+            for k in range(rounds):
+                if reader.wait(k, 10) == k + 1:
+                    answers.append_values(k, [1])
+
+        # Each appends once the other has. A wake that is lost takes ten seconds.
+        with ThreadPoolExecutor() as threads:
+            threads.submit(echo)
+            for k in range(rounds):
+                began = time.monotonic()
+                writer.append_values(k, [1])
+                self.assertEqual(asks.wait(k, 10), k + 1)
+                self.assertLess(time.monotonic() - began, 5)
+            writer.close()
+            waits = threads.submit(reader.wait, rounds, 10)
+            time.sleep(0.02)
+            log.finish()
+            self.assertEqual(waits.result(), rounds)
+            self.assertLess(time.monotonic() - began, 5)
 
     @unittest.skipUnless(hasattr(os, "fork"), "there is no fork")
     def test_a_forked_child(self):

@@ -35,7 +35,7 @@ def ask(reader, writers):
     with reader:
         while more:
             more = not all(it.done() for it in writers)
-            tail = reader.tail()
+            tail = reader.wait(before, 0.01 if more else 0)
             answers = {it.name: reader.ask_seen(it.name) for it in reader.names.questions}
             if tail < before or {it.tail for it in answers.values()} != {tail}:
                 raise AssertionError(f"the tail was {before} and is {tail}: {answers}")

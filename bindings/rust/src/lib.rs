@@ -60,6 +60,7 @@ mod names;
 mod raw;
 mod reader;
 mod row;
+mod shared;
 mod writer;
 
 pub use answer::{merge, Answer, Body, Group, Groups, Mark, Quad, Top};

@@ -4,6 +4,7 @@ use crate::handle::Held;
 use crate::names::{Attribute, Lane, Question, Setup, Trigger};
 use crate::raw;
 use crate::reader::Reader;
+use crate::shared::Shared;
 use crate::writer::Writer;
 use std::sync::Arc;
 
@@ -67,7 +68,7 @@ pub fn check(setup: &str, sizes: Sizes) -> Result<u64, OpenError> {
 #[derive(Debug)]
 pub struct Log {
     held: Held<raw::Log>,
-    setup: Arc<Setup>,
+    shared: Arc<Shared>,
 }
 
 impl Log {
@@ -87,15 +88,16 @@ impl Log {
         let mut width = 0;
         // SAFETY: the memory is ours. The call is refused only for a handle that leads to nothing.
         held.call(|log| unsafe { raw::confluo_width(log, &mut width) });
-        let setup = Arc::new(Setup {
+        let setup = Setup {
             text: setup.to_owned(),
             width,
             attributes: named(&mut held, raw::ATTRIBUTES, Attribute::of),
             lanes: named(&mut held, raw::LANES, Lane::of),
             triggers: named(&mut held, raw::TRIGGERS, Trigger::of),
             questions: named(&mut held, raw::QUESTIONS, Question::of),
-        });
-        Ok(Log { held, setup })
+        };
+        let shared = Arc::new(Shared::new(setup));
+        Ok(Log { held, shared })
     }
 
     /// Takes a writer that is not taken, that of the greatest number. A writer that is dropped, in whatever thread, can be taken again.
@@ -121,7 +123,7 @@ impl Log {
             .held
             .call(|log| writer.call(|writer| unsafe { raw::confluo_take_writer(log, writer, &mut number) }));
         TakeError::check(code)?;
-        Ok(Writer::new(writer, number))
+        Ok(Writer::new(writer, number, Arc::clone(&self.shared)))
     }
 
     /// Takes a reader. Take as many as you like.
@@ -136,7 +138,7 @@ impl Log {
             .held
             .call(|log| reader.call(|reader| unsafe { raw::confluo_take_reader(log, reader) }));
         TakeError::check(code)?;
-        Ok(Reader::new(reader, Arc::clone(&self.setup)))
+        Ok(Reader::new(reader, Arc::clone(&self.shared)))
     }
 
     /// Closes the log, once all its writers are dropped: no record comes to it any more. The reader that is left has seen every record;
@@ -167,7 +169,10 @@ impl Log {
             .held
             .call(|log| reader.call(|reader| unsafe { raw::confluo_close(log, reader) }));
         match CloseError::check(code) {
-            Ok(()) => Ok(Reader::new(reader, Arc::clone(&self.setup))),
+            Ok(()) => {
+                self.shared.close();
+                Ok(Reader::new(reader, Arc::clone(&self.shared)))
+            }
             Err(refused) => Err((self, refused)),
         }
     }
@@ -175,13 +180,13 @@ impl Log {
     /// What the setup says.
     #[must_use]
     pub fn setup(&self) -> &Setup {
-        &self.setup
+        &self.shared.setup
     }
 
     /// The number of the question of that name, if there is one.
     #[must_use]
     pub fn question(&self, name: &str) -> Option<u32> {
-        self.setup.question(name)
+        self.shared.setup.question(name)
     }
 }
 

@@ -5,42 +5,44 @@ use crate::handle::Held;
 use crate::names::Setup;
 use crate::raw;
 use crate::row::{Row, Value};
+use crate::shared::Shared;
 use std::sync::Arc;
+use std::time::Duration;
 
 /// A reader of a log.
 #[derive(Debug)]
 pub struct Reader {
     held: Held<raw::Reader>,
-    setup: Arc<Setup>,
+    shared: Arc<Shared>,
 }
 
 impl Reader {
-    pub(crate) fn new(held: Held<raw::Reader>, setup: Arc<Setup>) -> Self {
-        Reader { held, setup }
+    pub(crate) fn new(held: Held<raw::Reader>, shared: Arc<Shared>) -> Self {
+        Reader { held, shared }
     }
 
     /// What the setup of the log says.
     #[must_use]
     pub fn setup(&self) -> &Setup {
-        &self.setup
+        &self.shared.setup
     }
 
     /// The number of the question of that name, if there is one.
     #[must_use]
     pub fn question(&self, name: &str) -> Option<u32> {
-        self.setup.question(name)
+        self.shared.setup.question(name)
     }
 
     /// The number of the index, filter, aggregate or tally of that name, if there is one.
     #[must_use]
     pub fn lane(&self, name: &str) -> Option<u32> {
-        self.setup.lane(name)
+        self.shared.setup.lane(name)
     }
 
     /// The place of the attribute of that name among the values of a [`Row`], if there is one.
     #[must_use]
     pub fn attribute(&self, name: &str) -> Option<usize> {
-        self.setup.attribute(name)
+        self.shared.setup.attribute(name)
     }
 
     /// Asks the question of that name, as [`ask`](Reader::ask) does.
@@ -237,6 +239,25 @@ impl Reader {
         // SAFETY: the memory is ours. The call is refused only for a handle that leads to nothing.
         self.held.call(|reader| unsafe { raw::confluo_tail(reader, &mut tail) });
         tail
+    }
+
+    /// Waits until more than `after` records are below the tail, the log is closed, or the time is over, and answers how many are below
+    /// the tail then. The thread sleeps meanwhile.
+    ///
+    /// ```
+    /// use confluo::{Log, Sizes};
+    /// use std::{thread, time::Duration};
+    ///
+    /// let mut log = Log::open("schema records ts:u64\n", Sizes::default())?;
+    /// let (mut writer, mut reader) = (log.writer()?, log.reader()?);
+    /// let appends = thread::spawn(move || writer.append_values(0, &[1_000]));
+    /// assert_eq!(reader.wait(0, Duration::from_secs(60)), 1);
+    /// appends.join().unwrap()?;
+    /// # Ok::<(), confluo::Error>(())
+    /// ```
+    pub fn wait(&mut self, after: u32, time: Duration) -> u32 {
+        let shared = Arc::clone(&self.shared);
+        shared.wait(after, time, || self.tail())
     }
 
     /// The answer of that head, whose words the reader holds.

@@ -3,7 +3,9 @@ use crate::error::AppendError;
 use crate::handle::Held;
 use crate::raw;
 use crate::row::Value;
+use crate::shared::Shared;
 use std::ops::Range;
+use std::sync::Arc;
 
 /// What is said of a captured frame beside its bytes.
 #[derive(Clone, Copy, Debug, PartialEq, Eq, Hash)]
@@ -118,11 +120,19 @@ pub struct Room {
 pub struct Writer {
     held: Held<raw::Writer>,
     number: u32,
+    shared: Arc<Shared>,
 }
 
 impl Writer {
-    pub(crate) fn new(held: Held<raw::Writer>, number: u32) -> Self {
-        Writer { held, number }
+    pub(crate) fn new(held: Held<raw::Writer>, number: u32, shared: Arc<Shared>) -> Self {
+        Writer { held, number, shared }
+    }
+
+    /// Calls the library with the writer, which may append, and then wakes the readers that wait.
+    fn append_by(&mut self, call: impl FnOnce(&mut raw::Writer) -> u32) -> u32 {
+        let code = self.held.call(call);
+        self.shared.wake();
+        code
     }
 
     /// Its own number: the greatest that was free when it was taken, from the number of writers less 1 down to 0.
@@ -155,9 +165,9 @@ impl Writer {
     pub fn append(&mut self, capture: &Capture, bytes: &[u8]) -> Result<u32, AppendError> {
         let (capture, mut offset) = (capture.raw(), 0);
         // SAFETY: the memory is ours, and the bytes as many as said.
-        let code = self
-            .held
-            .call(|writer| unsafe { raw::confluo_append(writer, &capture, bytes.as_ptr(), bytes.len(), &mut offset) });
+        let code = self.append_by(|writer| unsafe {
+            raw::confluo_append(writer, &capture, bytes.as_ptr(), bytes.len(), &mut offset)
+        });
         answered(code, offset)
     }
 
@@ -170,7 +180,7 @@ impl Writer {
     pub fn append_values(&mut self, number: u32, values: &[u64]) -> Result<u32, AppendError> {
         let mut offset = 0;
         // SAFETY: the memory is ours, and the numbers as many as said.
-        let code = self.held.call(|writer| unsafe {
+        let code = self.append_by(|writer| unsafe {
             raw::confluo_append_values(writer, number, values.as_ptr(), values.len(), &mut offset)
         });
         answered(code, offset)
@@ -201,7 +211,7 @@ impl Writer {
         };
         let (mut offsets, mut done) = (vec![0; frames.len()], 0);
         // SAFETY: the memory is ours, and as long as said.
-        let code = self.held.call(|writer| unsafe {
+        let code = self.append_by(|writer| unsafe {
             raw::confluo_append_many(
                 writer,
                 frames.as_ptr(),
@@ -243,7 +253,7 @@ impl Writer {
         let values = values.ok_or(AppendError::Unfit)?;
         let mut offset = 0;
         // SAFETY: the memory is ours, and the values as many as said.
-        let code = self.held.call(|writer| unsafe {
+        let code = self.append_by(|writer| unsafe {
             raw::confluo_append_row(writer, number, values.as_ptr(), values.len(), &mut offset)
         });
         answered(code, offset)

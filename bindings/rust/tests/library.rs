@@ -9,6 +9,7 @@ use confluo::{
 use std::error::Error;
 use std::sync::mpsc;
 use std::thread;
+use std::time::{Duration, Instant};
 
 const RECORDS: &str =
     "schema records ts:u64,host:u32,len:u32\nindex hosts host\nfilter every *\naggregate sums every len\n\
@@ -263,6 +264,42 @@ fn logs_are_closed() -> Result<(), Box<dyn Error>> {
     assert_eq!(early.report()?, "records 0\nask all list 0:\norder\n");
     assert_eq!(early.tail(), 2);
     assert_eq!(early.report()?, last.report()?);
+    Ok(())
+}
+
+#[test]
+fn readers_wait() -> Result<(), Box<dyn Error>> {
+    const ROUNDS: u32 = 2_000;
+    let long = Duration::from_secs(10);
+    let mut log = Log::open("schema records ts:u64\n", sizes(ROUNDS, 1, 0))?;
+    let mut other = Log::open("schema records ts:u64\n", sizes(ROUNDS, 1, 0))?;
+    let (mut writer, mut reader) = (log.writer()?, log.reader()?);
+    let (mut answers, mut asks) = (other.writer()?, other.reader()?);
+    let began = Instant::now();
+    assert_eq!(reader.wait(0, Duration::from_millis(20)), 0);
+    assert!(began.elapsed() >= Duration::from_millis(20));
+    // Each appends once the other has. A wake that is lost takes ten seconds.
+    let echo = thread::spawn(move || {
+        for k in 0..ROUNDS {
+            assert_eq!(reader.wait(k, long), k + 1);
+            answers.append_values(k, &[1]).expect("room");
+        }
+        reader
+    });
+    for k in 0..ROUNDS {
+        let began = Instant::now();
+        writer.append_values(k, &[1])?;
+        assert_eq!(asks.wait(k, long), k + 1);
+        assert!(began.elapsed() < long / 2, "a wake was lost");
+    }
+    let mut reader = echo.join().expect("no echo panics");
+    drop(writer);
+    let began = Instant::now();
+    let waits = thread::spawn(move || reader.wait(ROUNDS, long));
+    thread::sleep(Duration::from_millis(20));
+    log.close().map_err(|(_, refused)| refused)?;
+    assert_eq!(waits.join().expect("no wait panics"), ROUNDS);
+    assert!(began.elapsed() < long / 2, "the end was not told");
     Ok(())
 }
 

@@ -4,6 +4,7 @@
 use confluo::{Body, Error, Log, Reader, Sizes, Writer};
 use std::sync::atomic::{AtomicU32, Ordering};
 use std::thread;
+use std::time::Duration;
 
 const WRITERS: u32 = 4;
 const READERS: u32 = 2;
@@ -52,7 +53,12 @@ fn ask(mut reader: Reader, running: &AtomicU32) -> Result<u32, Error> {
     let mut before = 0;
     loop {
         let more = running.load(Ordering::SeqCst) > 0;
-        let tail = reader.tail();
+        let time = if more {
+            Duration::from_millis(10)
+        } else {
+            Duration::ZERO
+        };
+        let tail = reader.wait(before, time);
         assert!(tail >= before, "the tail fell");
         for name in ["one", "marks", "most"] {
             assert_eq!(reader.ask_seen_named(name)?.tail, tail);
