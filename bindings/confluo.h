@@ -518,8 +518,8 @@ static inline CONFLUO_CHECKED CONFLUO_NEEDS(2) uint32_t confluo_reader_width(con
 static inline CONFLUO_CHECKED CONFLUO_NEEDS(3, 4) uint32_t
 confluo_reader_number(confluo_reader *reader, uint32_t sort, const char *name, uint32_t *number);
 
-/* The text of the setup, with a byte 0 behind it, and its length, which may be NULL. It stays as long as a log or a reader of it; NULL if the
-** handle is. The thread that has the handle. */
+/* The text of the setup, with a byte 0 behind it, and its length, which may be NULL. It stays as long as a handle of the log;
+** NULL if the handle is. The thread that has the handle. */
 static inline const char *confluo_log_setup(const confluo_log *log, size_t *length);
 static inline const char *confluo_reader_setup(const confluo_reader *reader, size_t *length);
 
@@ -625,13 +625,7 @@ static inline void confluo_end_private(uint32_t *passed) { __atomic_store_n(pass
     confluo_end_private(&(handle)->passed_private);   \
     return answer
 
-/* Memory of zeros. */
-static inline void *confluo_made_private(size_t size) {
-    void *made = malloc(size);
-    return made != NULL ? memset(made, 0, size) : NULL;
-}
-
-/* The same for a call that appends. */
+/* The same for a call that appends: it wakes the readers that wait. */
 #define CONFLUO_APPEND(call)                          \
     uint32_t answer = CONFLUO_NOTHING;                \
     if (writer == NULL) return answer;                \
@@ -640,6 +634,12 @@ static inline void *confluo_made_private(size_t size) {
     confluo_end_private(&writer->passed_private);     \
     confluo_wake_private(writer->shared_private);     \
     return answer
+
+/* Memory of zeros. */
+static inline void *confluo_made_private(size_t size) {
+    void *made = malloc(size);
+    return made != NULL ? memset(made, 0, size) : NULL;
+}
 
 /* What is given, or memory in the place of nothing. */
 static inline const uint8_t *confluo_bytes_private(const void *bytes, size_t length) {
