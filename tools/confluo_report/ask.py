@@ -12,9 +12,11 @@ from dataclasses import dataclass, field, replace
 from typing import Iterator, Sequence
 
 from . import program
+from .addresses import Again, Answer, Ranked, whole_addresses
 from .details import Details, details_of
 from .errors import Complaint
 from .explain import Case, explain
+from .expressions import Attribute
 from .merge import Joined, Merged, Named, merge, merged_lines
 from .nodes import BLOCK, MOST_CAPACITY, MOST_NODES, MOST_RECORDS, Sizes
 from .packets import copy_packets
@@ -27,6 +29,7 @@ from .questions import (
     is_question,
     name_of,
     parse_question,
+    whole_of,
     write_setup,
 )
 from .reports import Body, Fired, Found, Pair, Quad, Report, Top, lines_of, parse_report, refusal_of
@@ -76,9 +79,10 @@ def job_of(words: Sequence[str], schema: str, needs_capture: bool, may_be_cut: b
     if captures.count("-") > 1:
         raise Complaint("standard input is given twice")
     job = Job(captures, [], schema, may_be_cut)
+    attributes = _attributes_of(schema)
     for it in texts:
         try:
-            query = parse_question(it)
+            query = parse_question(it, attributes)
             if query.is_peak and re.search(rf"[ ,]{query.key}:", schema):
                 # An attribute of CSV files that is called like a unit.
                 query = replace(query, width=0)
@@ -89,6 +93,13 @@ def job_of(words: Sequence[str], schema: str, needs_capture: bool, may_be_cut: b
     if not job.queries:
         raise Complaint(OTHERS.join(job.faults))
     return job
+
+
+def _attributes_of(schema: str) -> tuple[Attribute, ...]:
+    try:
+        return parse_setup(f"schema {schema}\n".encode("utf-8", "replace")).schema
+    except SetupFault as fault:
+        raise Complaint(f"--schema {schema}: {fault.fault.why}") from fault
 
 
 def valid(text: str) -> Setup:
@@ -104,21 +115,7 @@ def _fault_text(text: str, fault: SetupFault) -> str:
     above = [it for it in lines[: max(fault.line - 1, 0)] if it.startswith("# ")]
     question = above[-1][2:] if above else ""
     why = f"{fault.fault.why}\n    {fault.text}\n    {' ' * fault.fault.place}^"
-    right = _right_question(question, fault)
-    if right:
-        why += f"\nThis means the same and is right:\n    {right}"
     return f"`{question}` cannot be asked: {why}"
-
-
-def _right_question(question: str, fault: SetupFault) -> str:
-    """The question with the right expression; it and the faulty line end with the same one."""
-    line, right, size = fault.text, fault.fault.right, 0
-    while size < min(len(question), len(line)) and question[-1 - size] == line[-1 - size]:
-        size += 1
-    front = len(line) - size
-    if not right or right[:front] != line[:front]:
-        return ""
-    return question[: len(question) - size] + right[front:]
 
 
 def _raised(sizes: Sizes, kind: str) -> Sizes | None:
@@ -185,8 +182,12 @@ def report_lines(job: Job) -> list[str]:
         named = _reports(job, text, folder, captures)
     if not job.is_several:
         return list(lines_of(named[0].report))
-    asked = {name_of(at): it.count for at, it in enumerate(job.queries) if it.verb == "top"}
-    return merged_lines(merge(named, setup, asked))
+    return merged_lines(merge(named, setup, _asked(job.queries)))
+
+
+def _asked(queries: Sequence[Query]) -> dict[str, int]:
+    """How many keys the questions ask for."""
+    return {name_of(at): it.count for at, it in enumerate(queries) if it.is_ranked and not it.is_whole}
 
 
 def _reports(job: Job, text: str, folder: pathlib.Path, captures: Sequence[str]) -> list[Named]:
@@ -203,6 +204,8 @@ class _Answered:
     queries: Sequence[Query]
     viewers: list[Viewer]
     named: list[Named]
+    # The whole addresses of IPv6, by the places of the questions that rank them.
+    wholes: dict[int, Ranked]
 
     def joined(self, name: str) -> Joined | None:
         return next((it for it in self.merged.asks if it.name == name), None)
@@ -256,13 +259,40 @@ def _answer(
         text = write_setup(queries, job.schema, every=True)
         setup = valid(text)
     named = _reports(job, text, folder, captures)
-    merged = merge(named, setup, {name_of(at): it.count for at, it in enumerate(queries) if it.verb == "top"})
+    merged = merge(named, setup, _asked(queries))
     has_found = any(it.verb in FINDING for it in queries)
     viewers = [
         Viewer(setup, _details(it.report, setup, path, most) if has_found else {}, style, most)
         for it, path in zip(named, captures)
     ]
-    return _Answered(merged, queries, viewers, named)
+    wholes = {
+        at: whole_addresses(
+            it,
+            _answer_of(merged.asks[at]),
+            not job.is_several,
+            lambda again, it=it: _again(job, it, again, files),
+        )
+        for at, it in enumerate(queries)
+        if it.is_whole
+    }
+    return _Answered(merged, queries, viewers, named, wholes)
+
+
+def _answer_of(joined: Joined) -> Answer:
+    assert isinstance(joined.body, Top)
+    return Answer(joined.body, joined.note)
+
+
+def _again(
+    job: Job, query: Query, again: Sequence[Again], files: tuple[pathlib.Path, list[str]]
+) -> list[Answer]:
+    """Ranks again within networks."""
+    lines = [f"schema {job.schema}"]
+    for at, (key, part, expression) in enumerate(again):
+        lines += [f"tally t{at} {key} {query.measure} {expression}", f"ask q{at} top t{at} {part} {MOST_TOP}"]
+    text = "\n".join(lines) + "\n"
+    merged = merge(_reports(job, text, *files), valid(text))
+    return [_answer_of(it) for it in merged.asks]
 
 
 def _details(report: Report, setup: Setup, path: str, most: int) -> Details:
@@ -293,7 +323,7 @@ def _one_shown(answered: _Answered, query: Query, joined: Joined) -> list[str]:
     if query.is_of_buckets:
         lines += _buckets(answered, query, joined)
     elif isinstance(joined.body, Top):
-        lines += top_lines(viewer, joined.name, joined.body, _is_whole(joined)) or ["  none"]
+        return lines + _ranked(answered, query, joined, joined.body)
     elif joined.body is not None:
         lines += body_lines(viewer, joined.name, joined.body)
     else:
@@ -301,7 +331,20 @@ def _one_shown(answered: _Answered, query: Query, joined: Joined) -> list[str]:
     return lines + ([f"  Note: {joined.note}."] if joined.note else [])
 
 
-def _is_whole(joined: Joined) -> bool:
+def _ranked(answered: _Answered, query: Query, joined: Joined, body: Top) -> list[str]:
+    """The keys of `top` and `share`."""
+    at = answered.queries.index(query)
+    ranked = answered.wholes.get(at) or Ranked(body, _has_all(joined), joined.note)
+    whole = answered.joined(whole_of(at)) if query.verb == "share" else None
+    size = None
+    if whole and isinstance(whole.body, Quad):
+        size = whole.body.count if query.part == "count" else whole.body.sum
+    viewer = answered.viewers[0]
+    lines = top_lines(viewer, joined.name, ranked.top, ranked.is_all, query.is_whole, size) or ["  none"]
+    return lines + ([f"  Note: {ranked.note}."] if ranked.note else [])
+
+
+def _has_all(joined: Joined) -> bool:
     """Whether an answer of top has all keys that there are."""
     keys = {it.key for _, body in joined.parts if isinstance(body, Top) for it in body.keys}
     is_full = any(len(body.keys) >= MOST_TOP for _, body in joined.parts if isinstance(body, Top))
@@ -345,4 +388,4 @@ def _buckets(answered: _Answered, query: Query, joined: Joined) -> list[str]:
     if not query.lists_all:
         return lines
     ends = answered.span() or [it.key for it in pairs]
-    return lines + silence_line(viewer, {it.key for it in pairs}, ends, query.expression)
+    return lines + silence_line(viewer, {it.key for it in pairs}, ends, query.condition)

@@ -53,7 +53,10 @@ def fault_lines(path: str, fault: SetupFault, is_first: bool = True) -> list[str
         lines += ["", f"    {shown}", f"    {' ' * (fault.fault.place - begin)}^"]
     lines += ["", f"Why: {fault.fault.why}.", f"Rule {fault.fault.code}: {RULES[fault.fault.code]}."]
     if fault.fault.right:
-        lines += ["A line that is right and means the same:", "", f"    {fault.fault.right}"]
+        words = "A line that is right and means the same:"
+        if fault.fault.is_of_ask:
+            words = "`confluo-report ask` takes parentheses, `and`, `or` and `not`; a setup doesn't. Write:"
+        lines += [words, "", f"    {fault.fault.right}"]
     return lines
 
 

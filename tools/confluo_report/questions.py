@@ -1,33 +1,41 @@
 """Questions as a person types them, and the setup that asks them.
 
-    top [N] ATTRIBUTE by bytes|packets|MEASURE [where EXPRESSION]
-    top [N] UNIT by bytes|packets|MEASURE [where EXPRESSION]
-    list EXPRESSION
-    find ATTRIBUTE VALUE, or LOW..HIGH
-    count [EXPRESSION]
-    total ATTRIBUTE [where EXPRESSION]
-    between TIME and TIME [where EXPRESSION]
-    per UNIT bytes|packets|MEASURE [where EXPRESSION]
-    over N [bytes|packets|MEASURE] in a UNIT [where EXPRESSION], or under N ..
+    top [N] ATTRIBUTE by MEASURE [where CONDITION]     the values with the most
+    top [N] UNIT by MEASURE [where CONDITION]          the seconds, minutes, .. with the most
+    share [N] ATTRIBUTE [by MEASURE] [where CONDITION] what percentage each value has
+    list CONDITION                                     the packets
+    find ATTRIBUTE VALUE|LOW..HIGH                     the packets
+    between TIME and TIME [where CONDITION]            the packets of these seconds
+    count [CONDITION]                                  how many packets and bytes
+    total ATTRIBUTE [where CONDITION]                  number, sum, least, greatest
+    per UNIT MEASURE [where CONDITION]                 each second, minute, ..
+    over N [MEASURE] in a UNIT [where CONDITION]       the units with more; under N ..: with less
 
-A MEASURE is an attribute, whose sum is meant, or `sum of len`, `least ttl`, `greatest win`. A UNIT is a second, minute,
-millisecond, .. or, but for top, `10 seconds`. A TIME is as 2026-11-28T13:00:05, in UTC, or seconds since 1970; of
-`between` both seconds are included.
+    CONDITION   comparisons, joined by and, or, not and parentheses (also by &&, ||, !)
+    comparison  ATTRIBUTE OPERATOR VALUE, or ATTRIBUTE [not] in RANGE
+    OPERATOR    == != < <= > >=
+    VALUE       80, 0x1f90, https, 10.0.0.1, 2001:db8::1, 02:00:00:00:00:01
+    RANGE       60..99, 10.0.0.0/8, 2001:db8::/32
+    ATTRIBUTE   src, dport, len, ..; src6/64 and dst6/64 are networks, src6 and dst6 whole addresses
+    MEASURE     bytes (if there is none), packets, an attribute (its sum), least ttl, greatest win
+    UNIT        second, minute, hour, day, millisecond, ..; but for top also 10 seconds
+    TIME        2026-11-28T13:00:05, in UTC, or seconds since 1970; both ends are included
 """
 
 from __future__ import annotations
 
 import datetime
 import re
-from dataclasses import dataclass, field
+from dataclasses import dataclass, field, replace
 from typing import Sequence
 
+from .conditions import ConditionFault, TooLong, program_form
 from .errors import Complaint
-from .rephrase import rephrased
+from .expressions import MOST_ATOMS, Attribute, is_form
 from .setups import PACKETS, SECOND
 from .values import UNITS
 
-VERBS = ("top", "list", "find", "count", "total", "between", "per", "over", "under")
+VERBS = ("top", "share", "list", "find", "count", "total", "between", "per", "over", "under")
 MOST_TOP = 1000
 # The tool's own questions: the buckets with a packet, and by `schema packet` what is not parsed.
 SPAN = "span"
@@ -35,37 +43,43 @@ UNPARSED = {"ipv6": "etype==0x86dd", "tagged": "etype==0x8100 || etype==0x88a8"}
 MEASURE = r"(?:(?P<part>count|sum|least|greatest)(?: of)? )?(?P<measure>[a-z][a-z0-9_]*)"
 UNIT = r"(?:a |an )?(?:(?P<times>[1-9][0-9]*) )?(?P<unit>[a-z]+?)s?"
 WHERE = r"(?: where (?P<where>.+))?"
+KEY = r"(?:(?P<count>[0-9]+) )?(?P<key>[a-z][a-z0-9_]*)(?P<bits>/[0-9]+)?"
 FORMS = {
     "top": (
-        re.compile(rf"top (?:(?P<count>[0-9]+) )?(?P<key>[a-z][a-z0-9_]*) by {MEASURE}{WHERE}"),
-        "top [N] ATTRIBUTE by bytes|packets|MEASURE [where EXPRESSION]",
+        re.compile(rf"top {KEY} by {MEASURE}{WHERE}"),
+        "top [N] ATTRIBUTE by MEASURE [where CONDITION]",
         "top 10 src by bytes where dport==443",
     ),
-    "list": (re.compile(r"list (?:where )?(?P<where>.+)"), "list EXPRESSION", "list kind==2 && flags==20"),
+    "share": (
+        re.compile(rf"share {KEY}(?: by {MEASURE})?{WHERE}"),
+        "share [N] ATTRIBUTE [by MEASURE] [where CONDITION]",
+        "share proto by packets",
+    ),
+    "list": (re.compile(r"list (?:where )?(?P<where>.+)"), "list CONDITION", "list kind==2 and flags==20"),
     "find": (
-        re.compile(r"find (?P<key>[a-z][a-z0-9_]*) (?P<low>[0-9A-Za-z.]+?)(?:\.\.(?P<high>[0-9A-Za-z.]+))?"),
+        re.compile(r"find (?P<key>[a-z][a-z0-9_]*) (?P<value>\S+)"),
         "find ATTRIBUTE VALUE, or find ATTRIBUTE LOW..HIGH",
         "find dst 10.0.0.53",
     ),
-    "count": (re.compile(r"count(?: (?:where )?(?P<where>.+))?"), "count [EXPRESSION]", "count dport==53"),
+    "count": (re.compile(r"count(?: (?:where )?(?P<where>.+))?"), "count [CONDITION]", "count dport==53"),
     "total": (
         re.compile(rf"total (?P<measure>[a-z][a-z0-9_]*){WHERE}"),
-        "total ATTRIBUTE [where EXPRESSION]",
+        "total ATTRIBUTE [where CONDITION]",
         "total len where dport==443",
     ),
     "between": (
         re.compile(rf"between (?P<low>\S+) and (?P<high>\S+){WHERE}"),
-        "between TIME and TIME [where EXPRESSION]",
+        "between TIME and TIME [where CONDITION]",
         "between 2026-11-28T13:00:00 and 2026-11-28T13:00:05 where dport==53",
     ),
     "per": (
         re.compile(rf"per {UNIT} {MEASURE}{WHERE}"),
-        "per UNIT bytes|packets|MEASURE [where EXPRESSION]",
-        "per second len where dport==443",
+        "per UNIT MEASURE [where CONDITION]",
+        "per second bytes where dport==443",
     ),
     "over": (
         re.compile(rf"(?:over|under) (?P<number>[0-9]+)(?: {MEASURE})? (?:in|per) {UNIT}{WHERE}"),
-        "over N [bytes|packets|MEASURE] in a UNIT [where EXPRESSION]",
+        "over N [MEASURE] in a UNIT [where CONDITION]",
         "over 1000 in a second where dport==443",
     ),
 }
@@ -74,12 +88,15 @@ FORMS["under"] = FORMS["over"]
 
 @dataclass(frozen=True)
 class Query:
-    """One typed question."""
+    """One typed question; `expression` is its condition in the program's form."""
 
     text: str
     verb: str
+    condition: str = "*"
     expression: str = "*"
     key: str = ""
+    # The key is an address of IPv6, of which the program's `key` is the high half.
+    is_whole: bool = False
     part: str = ""
     measure: str = "len"
     count: int = 10
@@ -102,6 +119,16 @@ class Query:
     def is_peak(self) -> bool:
         """Whether it is `top` of time buckets."""
         return self.verb == "top" and bool(self.width)
+
+    @property
+    def bound(self) -> str:
+        """The part by which the program ranks; of whole addresses one that no address of a network is above."""
+        return "greatest" if self.is_whole and self.part == "least" else self.part
+
+    @property
+    def is_ranked(self) -> bool:
+        """Whether it ranks values of an attribute."""
+        return self.verb in ("top", "share") and not self.is_peak
 
     @property
     def lists_all(self) -> bool:
@@ -162,7 +189,7 @@ def time_of(text: str) -> int:
     return (since.days * 86400 + since.seconds) * SECOND + since.microseconds * 1000
 
 
-def parse_question(text: str) -> Query:
+def parse_question(text: str, schema: Sequence[Attribute] = PACKETS["packet6"]) -> Query:
     """The question that the text is; a Complaint shows the form that it should have."""
     text = " ".join(text.split())
     verb = text.split(" ")[0]
@@ -171,30 +198,63 @@ def parse_question(text: str) -> Query:
     form, shape, example = FORMS[verb]
     found = form.fullmatch(text)
     if not found:
-        listed = _as_list(text)
-        same = (
-            f"\nThis means the same and is right:\n    {listed}"
-            if listed
-            else f"\nFor example:\n    {example}"
-        )
-        raise Complaint(f"Cannot read `{text}`. Expected:\n    {shape}{same}")
+        one = "One attribute is ranked, not two together.\n" if re.match(r"(top|share) [^,]*,", text) else ""
+        raise Complaint(f"Cannot read `{text}`. {one}Expected:\n    {shape}\nFor example:\n    {example}")
     words = found.groupdict()
-    query = Query(text, verb, words.get("where") or "*", words.get("key") or "")
-    return _filled(query, words)
+    if verb == "find":
+        return _finding(text, words["key"] or "", words["value"] or "", schema)
+    condition = words.get("where") or "*"
+    query = Query(text, verb, condition, key=words.get("key") or "")
+    if condition != "*":
+        query = replace(query, expression=_form(schema, query, condition, found.start("where")))
+    return _filled(_keyed(query, words.get("bits"), schema), words)
 
 
-def _as_list(text: str) -> str:
-    """A `find` of a network or an address of IPv6, which no range of one attribute is, as a `list`."""
-    found = re.fullmatch(r"find ([a-z][a-z0-9_]*) ([0-9a-fA-F.:/]+)", text)
-    right = rephrased(PACKETS["packet6"], f"{found[1]}=={found[2]}") if found else ""
-    return f"list {right}" if right else ""
+def _form(schema: Sequence[Attribute], query: Query, condition: str, begin: int) -> str:
+    """The condition in the program's form; a fault is shown in the question, where it begins there."""
+    try:
+        return program_form(schema, condition)
+    except ConditionFault as fault:
+        place = max(begin + fault.place, query.text.index(" ") + 1)
+        why = f"{fault.why}\n    {query.text}\n    {' ' * place}^"
+    except TooLong as fault:
+        why = (
+            f"without parentheses and `not` its condition has {fault.count} comparisons, and the program takes "
+            f"{MOST_ATOMS}: ask for parts of it"
+        )
+    raise Complaint(f"`{query.text}` cannot be asked: {why}")
+
+
+def _finding(text: str, key: str, value: str, schema: Sequence[Attribute]) -> Query:
+    """By an index, where the program takes the ends; else the packets are listed by a condition."""
+    low, dots, high = value.partition("..")
+    query = Query(text, "list", f"{key} in {value}" if dots else f"{key}=={value}")
+    # The value has the same place in both; a fault of the key is moved to it.
+    begin = len("find ") + (-3 if dots else -1)
+    query = replace(query, expression=_form(schema, query, query.condition, begin))
+    is_number = all(it.is_number for it in schema if it.name == key)
+    if is_number and is_form(low) and (is_form(high) if dots else True):
+        return replace(query, verb="find", key=key, low=low, high=high or low)
+    return query
+
+
+def _keyed(query: Query, bits: str | None, schema: Sequence[Attribute]) -> Query:
+    """With what the key is: of IPv6, whole addresses or networks."""
+    is_six = query.key in ("src6", "dst6") and Attribute(f"{query.key}_low", "u64") in schema
+    if bits and (not is_six or bits != "/64"):
+        raise Complaint(f"`{query.text}`: only src6/64 and dst6/64 are ranked by networks")
+    return replace(query, is_whole=is_six and not bits)
 
 
 def _filled(query: Query, words: dict[str, str | None]) -> Query:
     part, measure = _measure(words.get("part"), words.get("measure"))
     count = int(words.get("count") or 10)
     if not 1 <= count <= MOST_TOP:
-        raise Complaint(f"`{query.text}`: top lists from 1 to {MOST_TOP} keys, and not {count}")
+        raise Complaint(f"`{query.text}`: {query.verb} lists from 1 to {MOST_TOP} keys, and not {count}")
+    if query.verb == "share" and part not in ("sum", "count"):
+        raise Complaint(
+            f"`{query.text}`: there are shares of bytes, packets or a sum, and not of what is {part}"
+        )
     number = int(words.get("number") or 0)
     if number >= 2**64:
         raise Complaint(f"`{query.text}`: {number} is above 2^64 - 1")
@@ -202,10 +262,8 @@ def _filled(query: Query, words: dict[str, str | None]) -> Query:
     if query.verb == "top":
         width = {name: size for size, name in UNITS.items()}.get(query.key.removesuffix("s"), 0)
     low = words.get("low") or ""
-    high = words.get("high") or low
-    return Query(
-        query.text, query.verb, query.expression, query.key, part, measure, count, number, width, low, high
-    )
+    found = replace(query, part=part, measure=measure, count=count, number=number, width=width)
+    return replace(found, low=low, high=words.get("high") or low)
 
 
 @dataclass
@@ -249,9 +307,9 @@ def _one_width(queries: Sequence[Query]) -> int:
 
 def _ask(writer: _Writer, query: Query, width: int, every: bool) -> str:
     """The question's statement behind `ask NAME`."""
-    if query.verb == "top" and not query.is_peak:
+    if query.is_ranked:
         tally = writer.thing("tally", f"{query.key} {query.measure} {query.expression}")
-        return f"top {tally} {query.part} {MOST_TOP if every else query.count}"
+        return f"top {tally} {query.bound} {MOST_TOP if every else query.count}"
     if query.verb == "list":
         return f"list {query.expression}"
     if query.verb == "find":
@@ -281,6 +339,11 @@ def name_of(number: int) -> str:
     return f"q{number + 1}"
 
 
+def whole_of(number: int) -> str:
+    """The name of the question for the whole of which that question gives the shares."""
+    return f"{name_of(number)}_whole"
+
+
 def write_setup(
     queries: Sequence[Query], schema: str = "packet6", every: bool = False, extras: bool = False
 ) -> str:
@@ -296,6 +359,9 @@ def write_setup(
         writer.lines.append(f"# {query.text}")
         statement = _ask(writer, query, width, every)
         writer.lines.append(f"ask {name_of(number)} {statement}")
+    for number, query in enumerate(queries):
+        if query.verb == "share":
+            writer.lines.append(f"ask {whole_of(number)} total {query.measure} {query.expression}")
     if extras:
         _extras(writer, queries, schema)
     return "\n".join(writer.lines) + "\n"

@@ -23,7 +23,7 @@ from .expressions import (
     value_of,
     values_of_kind,
 )
-from .rephrase import SAME, rephrased
+from .rephrase import SAME, is_of_ask, rephrased, too_long
 
 SECOND = 10**9
 PARTS = ("count", "sum", "least", "greatest")
@@ -140,12 +140,16 @@ def _with_article(word: str) -> str:
 
 @dataclass(frozen=True)
 class Fault:
-    """A broken rule: its code, the place in the line, why, and a right line that means the same, if one is known."""
+    """A broken rule: its code, the place in the line, why, and a right line that means the same, if one is known.
+
+    `is_of_ask`: the expression is one for `ask`.
+    """
 
     code: int
     place: int
     why: str
     right: str = ""
+    is_of_ask: bool = False
 
 
 class SetupFault(Exception):
@@ -302,7 +306,11 @@ class _Statement:
         except ExpressionFault as fault:
             found = rephrased(self.setup.schema, rest.text)
             right = f"{self.line[: rest.place].rstrip(' ')} {found}" if found else ""
-            self.faults.append(Fault(fault.code, rest.place + fault.place, fault.why, right))
+            long = too_long(self.setup.schema, rest.text)
+            why = f"{fault.why}; {long}" if long and fault.code != 14 else fault.why
+            self.faults.append(
+                Fault(fault.code, rest.place + fault.place, why, right, bool(right) and is_of_ask(rest.text))
+            )
         return Expression("*", ((),))
 
 

@@ -88,6 +88,11 @@ def dotted(number: int) -> str:
     return str(ipaddress.IPv4Address(number)) if 0 <= number < 2**32 else str(number)
 
 
+def address_text(address: int) -> str:
+    """The IPv6 address."""
+    return str(ipaddress.IPv6Address(address))
+
+
 def network(half: int) -> str:
     """The network of 64 bits that the high half of an IPv6 address is of."""
     return f"{ipaddress.IPv6Address(half << 64)}/64"
@@ -120,7 +125,7 @@ def key_text(setup: Setup, lane: Lane, value: int) -> str:
     if other is None:
         return value_text(setup, attribute, value)
     high, low = (other, value) if attribute.name.endswith("_low") else (value, other)
-    return str(ipaddress.IPv6Address((high << 64) + low))
+    return address_text((high << 64) + low)
 
 
 def _other_half(setup: Setup, lane: Lane, name: str) -> int | None:

@@ -23,6 +23,7 @@ from confluo_report import cli, program  # noqa: E402
 
 EXAMPLES = ROOT / "examples"
 INCIDENTS = EXAMPLES / "incidents"
+GUIDE = ROOT / "docs" / "GUIDE.md"
 T = TypeVar("T")
 SMALL = ("--writers", "1", "--capacity", "64", "--nodes", "64")
 NO_PROGRAM = "the program confluo is not built: make run builds it, CONFLUO=FILE names another"

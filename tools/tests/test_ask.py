@@ -27,6 +27,22 @@ QUESTIONS = (
     ("find src 10.0.0.1", ["index index1 src", "ask q1 find index1 10.0.0.1 10.0.0.1"]),
     ("find src 10.0.0.1..10.0.0.9", ["index index1 src", "ask q1 find index1 10.0.0.1 10.0.0.9"]),
     ("find dport 80..443", ["index index1 dport", "ask q1 find index1 80 443"]),
+    (
+        "find src6 2001:db8::1",
+        ["ask q1 list src6==0x20010db800000000 && src6_low==0x0000000000000001"],
+    ),
+    ("find src 10.0.0.0/8", ["ask q1 list src in 10.0.0.0/8"]),
+    ("find smac 02:00:00:00:00:01", ["ask q1 list smac==0x020000000001"]),
+    (
+        "share 3 proto by packets where not dport==80",
+        [
+            "tally tally1 proto len dport!=80",
+            "ask q1 top tally1 count 3",
+            "ask q1_whole total len dport!=80",
+        ],
+    ),
+    ("top src6 by least ttl", ["tally tally1 src6 ttl *", "ask q1 top tally1 greatest 10"]),
+    ("top src6/64 by least ttl", ["tally tally1 src6 ttl *", "ask q1 top tally1 least 10"]),
     ("count", ["ask q1 total len *"]),
     ("count kind==2 && flags==2", ["ask q1 total len kind==2 && flags==2"]),
     ("total len where dport==443", ["ask q1 total len dport==443"]),
@@ -77,11 +93,12 @@ BAD = (
     ("top src by bytes at once", "Cannot read"),
     ("top 0 src by bytes", "from 1 to 1000"),
     ("list", "Cannot read `list`. Expected:"),
-    ("find src6 2001:db8::1", "right:\n    list src6==0x20010db800000000 && src6_low==0x0000000000000001"),
-    ("find src 10.0.0.0/8", "right:\n    list src in 10.0.0.0/8"),
+    ("top src, dst by bytes", "One attribute is ranked, not two together."),
+    ("share src, dst", "One attribute is ranked"),
+    ("share src by least ttl", "not of what is least"),
     ("per fortnight len", "not a unit of time"),
     ("between yesterday and 1700000001", "not a time"),
-    ("which src", "Questions begin with top, list"),
+    ("which src", "Questions begin with top, share, list"),
     ("over 18446744073709551616 in a second", "above 2^64"),
 )
 
@@ -92,7 +109,7 @@ class Questions(unittest.TestCase):
             setup = write_setup([parse_question(text)])
             said = [it for it in setup.splitlines() if not it.startswith("#")]
             self.assertEqual(said, ["schema packet6", *lines])
-            self.assertEqual(len(parse_setup(setup.encode()).asks), 1)
+            self.assertEqual(len(parse_setup(setup.encode()).asks), 1 + text.startswith("share"))
 
     def test_bad_questions(self) -> None:
         for text, why in BAD:
@@ -122,7 +139,8 @@ class Questions(unittest.TestCase):
         self.assertEqual(ended.out.splitlines()[1:3], ["# top src by bytes", "tally tally1 src len *"])
         for words, why in (
             (("top scr by bytes",), "`top scr by bytes` cannot be asked: no attribute is called `scr`"),
-            (("list dport=53",), "`=` is not one of"),
+            (("list dport~53",), "`~` is not part of a condition\n    list dport~53\n              ^"),
+            (("--schema", "foo", "list *"), "--schema foo: `foo` is not packet, packet6 or records"),
             (("nosuchfile", "list *"), "neither a file nor a question"),
             ((WEB,), "there is no question"),
         ):
@@ -257,7 +275,10 @@ class Answers(unittest.TestCase):
             out = self.asked("--schema", "packet", path, path, "count flags==4")
             self.assertIn("4 of 10 packets are IPv6", out)
             ended = tool("ask", "--schema", "packet", path, "count src6==1")
-            self.assertIn("`schema packet6` has it", ended.err)
+            self.assertIn(
+                "`schema packet6` has it, and `schema packet` has not\n    count src6==1\n          ^",
+                ended.err,
+            )
             many = [f"list dport=={it}" for it in range(32)]
             self.assertIn("list dport==31: none", self.asked("--schema", "packet", path, *many))
 
@@ -275,13 +296,15 @@ class Answers(unittest.TestCase):
         with tempfile.TemporaryDirectory() as folder:
             path = pathlib.Path(folder, "c")
             path.write_bytes(pcap([(it, frame(dport=80 if it < 20 else 443)) for it in seconds]))
-            out = self.asked(path, "under 100 bytes in a second", "per second packets where dport==80")
+            out = self.asked(path, "under 100 bytes in a second", "per second packets where not dport!=http")
         self.assertIn(
             "  16 seconds between the first and the last packet have no packet and are not listed: "
             "1970-01-01 00:00:12 to 00:00:13, 1970-01-01 00:00:16 to 00:00:29\n",
             out,
         )
-        self.assertIn("  17 seconds between the first and the last packet have no packet with dport==80", out)
+        self.assertIn(
+            "  17 seconds between the first and the last packet have no packet with not dport!=http", out
+        )
         self.assertIn("1970-01-01 00:00:16 to 00:00:30\n", out)
         self.assertNotIn("fewest", out)
 
@@ -299,11 +322,11 @@ class Answers(unittest.TestCase):
             self.assertNotIn("fewest", out)
 
     def test_one_bad_question_does_not_stop_the_others(self) -> None:
-        ended = tool("ask", WEB, "count", "top talkers", "list dport==http and len>60")
+        ended = tool("ask", WEB, "count", "top talkers", "list dport==80 and")
         self.assertEqual(ended.status, 2)
         self.assertIn("count\n  packets", ended.out)
         self.assertIn("Cannot read `top talkers`. Expected:", ended.err)
-        self.assertIn("means the same and is right:\n    list dport==80 && len>60\n", ended.err)
+        self.assertIn("    list dport==80 and\n                      ^\n", ended.err)
 
     def test_found_packets_are_copied(self) -> None:
         with tempfile.TemporaryDirectory() as folder:

@@ -108,7 +108,7 @@ class Packet6(unittest.TestCase):
         self.assertIn("2001:db8:0:42::/64", shown)
         self.assertEqual(confluo("synth", "--setup", setup, "--seed", "1", "--count", "1").status, 2)
         capture = str(INCIDENTS / "many_addresses.pcap")
-        asked = tool("ask", "--schema", "packet6", capture, "top 1 src6 by packets where flags==2")
+        asked = tool("ask", "--schema", "packet6", capture, "top 1 src6/64 by packets where flags==2")
         self.assertIn("2001:db8:0:42::/64", asked.out)
 
 

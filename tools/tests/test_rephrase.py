@@ -1,6 +1,5 @@
 """A line that is offered in place of a faulty one selects the same packets, or none is offered."""
 
-import ipaddress
 import pathlib
 import random
 import tempfile
@@ -9,8 +8,9 @@ import unittest
 from support import confluo, needs_program, tool
 
 from confluo_report.expressions import Attribute, parse_expression
-from confluo_report.rephrase import SERVICES, rephrased
-from confluo_report.setups import PACKETS, SetupFault, faults_of, parse_setup
+from confluo_report.conditions import SERVICES
+from confluo_report.rephrase import rephrased
+from confluo_report.setups import SetupFault, faults_of, parse_setup
 
 HALVES = "src6==0x20010db800000000 && src6_low==0x0000000000000001"
 # The schema, a faulty line, and the line that is offered.
@@ -28,6 +28,8 @@ LINES = (
         "ask q list (sport==53 or dport==53) && len>99",
         "ask q list sport==53 && len>99 || dport==53 && len>99",
     ),
+    ("packet", "ask q list not (flags==2 or flags==18)", "ask q list flags!=2 && flags!=18"),
+    ("packet", "ask q list (flags==2) and flags==18", ""),
     ("packet", "ask q list dport==http", "ask q list dport==80"),
     ("packet", "ask q list len==http", ""),
     ("packet", "ask q list dport=80", "ask q list dport==80"),
@@ -81,21 +83,6 @@ class Rephrases(unittest.TestCase):
                 self.assertEqual(expression.holds(row), wanted, (text, right, row))
         self.assertGreater(found, 1000)
 
-    def test_networks_and_their_opposite(self) -> None:
-        draw = random.Random(4)
-        schema = PACKETS["packet6"]
-        place = {it.name: at for at, it in enumerate(schema)}
-        for _ in range(300):
-            network = ipaddress.IPv6Network((draw.getrandbits(128) | 1 << 127, draw.randrange(1, 129)), False)
-            inside = int(network[0]) + draw.randrange(network.num_addresses)
-            for address in (inside, draw.getrandbits(128), int(network[-1]) + 1):
-                row = [0] * len(schema)
-                row[place["src6"]], row[place["src6_low"]] = divmod(address % 2**128, 2**64)
-                is_in = ipaddress.IPv6Address(address % 2**128) in network
-                for text, wanted in ((f"src6 in {network}", is_in), (f"not src6=={network}", not is_in)):
-                    holds = parse_expression(schema, rephrased(schema, text)).holds(row)
-                    self.assertEqual(holds, wanted, (text, address))
-
     def test_services_are_those_of_the_system(self) -> None:
         path = pathlib.Path("/etc/services")
         if not path.exists():
@@ -144,6 +131,22 @@ class Checks(unittest.TestCase):
             self.assertEqual(ended.out.count("Why: "), 7)
             said = tool("explain", "--setup", path, stdin="setup: line 3 code 5\n").out
             self.assertIn(f"There are 6 further faults: `confluo-report check {path}` shows all.", said)
+
+    def test_parentheses_are_for_ask(self) -> None:
+        with tempfile.TemporaryDirectory() as folder:
+            path = pathlib.Path(folder, "s")
+            path.write_text("schema packet\nask q list not (len>5 or ttl==1)\nask r list dport==http\n")
+            said = tool("check", path).out
+            words = (
+                "`confluo-report ask` takes parentheses, `and`, `or` and `not`; a setup doesn't. Write:\n\n"
+            )
+            self.assertIn(f"{words}    ask q list len<=5 && ttl!=1\n", said)
+            self.assertIn("A line that is right and means the same:\n\n    ask r list dport==80\n", said)
+            parts = [f"({name}==1 or {name}==9)" for name in ("len", "ttl", "win", "tos")]
+            path.write_text(f"schema packet\nask q list {' and '.join(parts)}\n")
+            said = tool("check", path).out
+            self.assertIn("; without parentheses and `not` it has 64 comparisons, and 32 are the most.", said)
+            self.assertNotIn("Write:", said)
 
     def test_all_faults_of_a_line_are_listed(self) -> None:
         text = b"schema packet\nindex x src\nindex x nosuch\nask x top scr count 9999\nask y find x 1 2\n"
