@@ -9,11 +9,17 @@ come before any that it could have: they have more than the network, or as much 
 
 One answer lists at most 1,000 networks. Those behind the last one have at most as much as that one. If that could
 still matter, the networks are asked in two parts, divided in the middle of the listed ones, and so on.
+
+Packets that are not IPv6 have the network 0 too. They are left out by what is asked of it.
+
+`src` and `dst` are of both families. The program's value 0 of them has all packets that are not IPv4, so these are
+asked again: as addresses of IPv6, as packets that are not IP, and as those that IPv4 sends from 0.0.0.0.
 """
 
 from __future__ import annotations
 
-from dataclasses import dataclass, field
+from dataclasses import dataclass, field, replace
+from ipaddress import IPv4Address
 from typing import Callable, Sequence
 
 from .conditions import TooLong, program_form
@@ -21,10 +27,12 @@ from .errors import Complaint
 from .questions import MOST_TOP, Query
 from .reports import Pair, Top
 from .setups import MOST, PACKETS
+from .values import address_text
 
 HALF = 2**64
-# The key that is ranked, the part and the expression: what is asked again.
+# The key that is ranked, the part and the expression: what is asked again. Without a key it is the part of all.
 Again = tuple[str, str, str]
+IPV6 = "kind>=1 and etype==0x86dd"
 
 
 @dataclass(frozen=True)
@@ -39,13 +47,17 @@ class Answer:
         return len(self.top.keys) >= MOST_TOP
 
 
+Asker = Callable[[list[Again]], list[Answer]]
+
+
 @dataclass(frozen=True)
 class Ranked:
-    """The first addresses, whether there are no others, and a note."""
+    """The first keys, whether there are no others, a note, and how the keys are written."""
 
     top: Top
     is_all: bool
     note: str
+    texts: tuple[str, ...] | None = None
 
 
 @dataclass(frozen=True)
@@ -114,7 +126,8 @@ class _Search:
         """What is asked of an area: its addresses, or the networks of both parts."""
         key, query = self.query.key, self.query
         if area.is_one:
-            return [(f"{key}_low", query.part, _within(query, f"{key}=={area.low:#018x}"))]
+            network = f"{key}=={area.low:#018x}" + (f" and {IPV6}" if not area.low else "")
+            return [(f"{key}_low", query.part, _within(query, network))]
         parts = ((area.low, area.middle), (area.middle + 1, area.high))
         spans = (f"{key} in {low:#018x}..{high:#018x}" for low, high in parts)
         return [(key, query.bound, _within(query, it)) for it in spans]
@@ -130,19 +143,16 @@ class _Search:
 
 def _within(query: Query, narrower: str) -> str:
     """The question's condition and a narrower one."""
-    if query.expression == "*":
-        return narrower
+    condition = narrower if query.expression == "*" else f"({query.expression}) and {narrower}"
     try:
-        return program_form(PACKETS["packet6"], f"({query.expression}) and {narrower}")
+        return program_form(PACKETS["packet6"], condition)
     except TooLong as fault:
         raise Complaint(
             f"`{query.text}`: its condition is too long to ask for whole addresses; {query.key}/64 ranks networks"
         ) from fault
 
 
-def whole_addresses(
-    query: Query, first: Answer, may_split: bool, ask: Callable[[list[Again]], list[Answer]]
-) -> Ranked:
+def whole_addresses(query: Query, first: Answer, may_split: bool, ask: Asker) -> Ranked:
     """The first addresses of the question, whose networks the answer lists; `ask` answers at most 16 more at a time."""
     search = _Search(query, may_split)
     search.add_networks(first, 0, HALF - 1)
@@ -155,4 +165,30 @@ def whole_addresses(
         due = search.due()
     top = Top(tuple(Pair(address, -value) for value, address in search.best()))
     is_all = search.is_all and not search.areas and len(search.known) == len(top.keys)
-    return Ranked(top, is_all and not search.note, search.note)
+    texts = tuple(address_text(it.key) for it in top.keys)
+    return Ranked(top, is_all and not search.note, search.note, texts)
+
+
+def both_families(query: Query, first: Answer, may_split: bool, ask: Asker) -> Ranked | None:
+    """The first addresses of IPv4 and IPv6, where the answer has those of IPv4; nothing where all are IPv4."""
+    if query.part != "least" and all(it.key for it in first.top.keys):
+        # An address of IPv6 has no more than the value 0, which is not among the first.
+        return None
+    key = query.key
+    six = replace(query, key=f"{key}6", is_whole=True, expression=_within(query, IPV6))
+    networks, zero, others = ask(
+        [
+            (six.key, six.bound, six.expression),
+            ("", query.part, _within(query, f"kind>=1 and etype!=0x86dd and {key}==0.0.0.0")),
+            ("", query.part, _within(query, "kind==0")),
+        ]
+    )
+    found = whole_addresses(six, networks, may_split, ask)
+    rows = [(-it.value, 4, it.key, str(IPv4Address(it.key))) for it in first.top.keys if it.key]
+    rows += [(-it.value, 4, 0, "0.0.0.0") for it in zero.top.keys]
+    rows += [(-it.value, 6, it.key, text) for it, text in zip(found.top.keys, found.texts or ())]
+    rows += [(-it.value, 7, 0, "not IP") for it in others.top.keys]
+    shown = sorted(rows)[: query.count]
+    top = Top(tuple(Pair(number, -value) for value, _, number, _ in shown))
+    is_all = not first.is_full and found.is_all and len(shown) == len(rows)
+    return Ranked(top, is_all, first.note or found.note, tuple(text for *_, text in shown))

@@ -12,12 +12,12 @@ from dataclasses import dataclass, field, replace
 from typing import Iterator, Sequence
 
 from . import program
-from .addresses import Again, Answer, Ranked, whole_addresses
+from .addresses import Again, Answer, Ranked, both_families, whole_addresses
 from .details import Details, details_of
 from .errors import Complaint
 from .explain import Case, explain
 from .expressions import Attribute
-from .merge import Joined, Merged, Named, merge, merged_lines
+from .merge import Joined, Merged, Named, joined_top, merge, merged_lines
 from .nodes import BLOCK, MOST_CAPACITY, MOST_NODES, MOST_RECORDS, Sizes
 from .packets import copy_packets
 from .questions import (
@@ -187,7 +187,7 @@ def report_lines(job: Job) -> list[str]:
 
 def _asked(queries: Sequence[Query]) -> dict[str, int]:
     """How many keys the questions ask for."""
-    return {name_of(at): it.count for at, it in enumerate(queries) if it.is_ranked and not it.is_whole}
+    return {name_of(at): it.count for at, it in enumerate(queries) if it.is_ranked}
 
 
 def _reports(job: Job, text: str, folder: pathlib.Path, captures: Sequence[str]) -> list[Named]:
@@ -204,8 +204,8 @@ class _Answered:
     queries: Sequence[Query]
     viewers: list[Viewer]
     named: list[Named]
-    # The whole addresses of IPv6, by the places of the questions that rank them.
-    wholes: dict[int, Ranked]
+    # The addresses for which the program was asked again, by the places of the questions that rank them.
+    ranked: dict[int, Ranked]
 
     def joined(self, name: str) -> Joined | None:
         return next((it for it in self.merged.asks if it.name == name), None)
@@ -265,34 +265,55 @@ def _answer(
         Viewer(setup, _details(it.report, setup, path, most) if has_found else {}, style, most)
         for it, path in zip(named, captures)
     ]
-    wholes = {
-        at: whole_addresses(
-            it,
-            _answer_of(merged.asks[at]),
-            not job.is_several,
-            lambda again, it=it: _again(job, it, again, files),
-        )
-        for at, it in enumerate(queries)
-        if it.is_whole
-    }
-    return _Answered(merged, queries, viewers, named, wholes)
+    answered = _Answered(merged, queries, viewers, named, {})
+    for at, it in enumerate(queries):
+        ranked = _ranked_again(job, it, merged.asks[at], setup, files)
+        if ranked:
+            answered.ranked[at] = ranked
+    return answered
 
 
-def _answer_of(joined: Joined) -> Answer:
-    assert isinstance(joined.body, Top)
-    return Answer(joined.body, joined.note)
+def _ranked_again(
+    job: Job, query: Query, joined: Joined, setup: Setup, files: tuple[pathlib.Path, list[str]]
+) -> Ranked | None:
+    """The addresses, if the question ranks them and the program must be asked again for that."""
+    question = setup.question(joined.name)
+    if question is None or not (query.is_whole or query.is_of_both):
+        return None
+
+    def ask(again: Sequence[Again]) -> list[Answer]:
+        return _again(job, query, again, files)
+
+    # All keys that are listed, and not only as many as the question wants.
+    tops = [body for _, body in joined.parts if isinstance(body, Top)]
+    first = Answer(*joined_top(question, tops, MOST_TOP))
+    if query.is_whole:
+        return whole_addresses(query, first, not job.is_several, ask)
+    return both_families(query, first, not job.is_several, ask)
 
 
 def _again(
     job: Job, query: Query, again: Sequence[Again], files: tuple[pathlib.Path, list[str]]
 ) -> list[Answer]:
-    """Ranks again within networks."""
+    """Ranks again within networks, or measures all."""
     lines = [f"schema {job.schema}"]
     for at, (key, part, expression) in enumerate(again):
-        lines += [f"tally t{at} {key} {query.measure} {expression}", f"ask q{at} top t{at} {part} {MOST_TOP}"]
+        if key:
+            lines.append(f"tally t{at} {key} {query.measure} {expression}")
+        asked = f"top t{at} {part} {MOST_TOP}" if key else f"total {query.measure} {expression}"
+        lines.append(f"ask q{at} {asked}")
     text = "\n".join(lines) + "\n"
     merged = merge(_reports(job, text, *files), valid(text))
-    return [_answer_of(it) for it in merged.asks]
+    return [_answer_of(joined, part) for joined, (_, part, _) in zip(merged.asks, again)]
+
+
+def _answer_of(joined: Joined, part: str) -> Answer:
+    """A ranking, or the part of what was measured as that of one key."""
+    if isinstance(joined.body, Quad):
+        value = getattr(joined.body, part)
+        return Answer(Top((Pair(0, value),) if joined.body.count else ()))
+    assert isinstance(joined.body, Top)
+    return Answer(joined.body, joined.note)
 
 
 def _details(report: Report, setup: Setup, path: str, most: int) -> Details:
@@ -334,13 +355,13 @@ def _one_shown(answered: _Answered, query: Query, joined: Joined) -> list[str]:
 def _ranked(answered: _Answered, query: Query, joined: Joined, body: Top) -> list[str]:
     """The keys of `top` and `share`."""
     at = answered.queries.index(query)
-    ranked = answered.wholes.get(at) or Ranked(body, _has_all(joined), joined.note)
+    ranked = answered.ranked.get(at) or Ranked(body, _has_all(joined), joined.note)
     whole = answered.joined(whole_of(at)) if query.verb == "share" else None
     size = None
     if whole and isinstance(whole.body, Quad):
         size = whole.body.count if query.part == "count" else whole.body.sum
     viewer = answered.viewers[0]
-    lines = top_lines(viewer, joined.name, ranked.top, ranked.is_all, query.is_whole, size) or ["  none"]
+    lines = top_lines(viewer, joined.name, ranked.top, ranked.is_all, ranked.texts, size) or ["  none"]
     return lines + ([f"  Note: {ranked.note}."] if ranked.note else [])
 
 

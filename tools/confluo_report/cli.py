@@ -518,6 +518,10 @@ ADDERS = (
 )
 
 
+# Commands that take several files or questions.
+SEVERAL = ("ask", "check", "merge", "packets", "plot")
+
+
 def _count(text: str) -> int:
     if not (text.isascii() and text.isdigit()):
         raise argparse.ArgumentTypeError(f"`{text}` is not a whole number from 0 on")
@@ -540,6 +544,15 @@ def make_parser() -> argparse.ArgumentParser:
     return parser
 
 
+def _parsed(typed: Sequence[str]) -> Words:
+    """The words, of which options may stand between files and questions."""
+    parser = make_parser()
+    commands = next(it for it in parser._actions if isinstance(it, argparse._SubParsersAction)).choices
+    if typed and typed[0] in SEVERAL:
+        return commands[typed[0]].parse_intermixed_args(typed[1:])  # type: ignore[no-any-return]
+    return parser.parse_args(typed)
+
+
 def _take_any_name() -> None:
     """File names that are not UTF-8 are printed byte for byte."""
     for it in (sys.stdout, sys.stderr):
@@ -556,7 +569,7 @@ def main(arguments: Sequence[str] | None = None) -> int:
         if typed[:1] == ["run"]:
             status = _run(typed[1:])
         else:
-            words = make_parser().parse_args(typed)
+            words = _parsed(typed)
             trouble = getattr(words, "trouble", 2)
             status = words.run(words)
         sys.stdout.flush()

@@ -212,8 +212,8 @@ class _Reader:
 
     def compared(self, name: _Token, operator: _Token, value: _Token) -> Node:
         sign = SAME.get(operator.text, operator.text)
-        if name.text in ("src6", "dst6") and ":" in value.text:
-            return self.address6(name.text, sign, value)
+        if name.text in ("src", "dst", "src6", "dst6") and "src6" in self.names and ":" in value.text:
+            return self.address6(f"{name.text[:3]}6", sign, value)
         if "/" in value.text and sign in ("==", "!="):
             network = self.atom(name, "in", value.text, value)
             return network if sign == "==" else opposite(network)

@@ -97,6 +97,8 @@ class Query:
     key: str = ""
     # The key is an address of IPv6, of which the program's `key` is the high half.
     is_whole: bool = False
+    # The key is an address of IPv4 or IPv6, and the program's `key` that of IPv4.
+    is_of_both: bool = False
     part: str = ""
     measure: str = "len"
     count: int = 10
@@ -240,10 +242,12 @@ def _finding(text: str, key: str, value: str, schema: Sequence[Attribute]) -> Qu
 
 def _keyed(query: Query, bits: str | None, schema: Sequence[Attribute]) -> Query:
     """With what the key is: of IPv6, whole addresses or networks."""
-    is_six = query.key in ("src6", "dst6") and Attribute(f"{query.key}_low", "u64") in schema
+    is_packet6 = tuple(schema) == PACKETS["packet6"]
+    is_six = is_packet6 and query.key in ("src6", "dst6")
     if bits and (not is_six or bits != "/64"):
         raise Complaint(f"`{query.text}`: only src6/64 and dst6/64 are ranked by networks")
-    return replace(query, is_whole=is_six and not bits)
+    is_of_both = is_packet6 and query.key in ("src", "dst")
+    return replace(query, is_whole=is_six and not bits, is_of_both=is_of_both)
 
 
 def _filled(query: Query, words: dict[str, str | None]) -> Query:

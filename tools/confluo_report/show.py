@@ -25,7 +25,7 @@ from .reports import (
 )
 from .setups import Lane, Question, Setup, Trigger
 from .tables import Style, marks, table
-from .values import address_text, clock, grouped, key_text, unit, units, utc, value_text
+from .values import clock, grouped, key_text, unit, units, utc, value_text
 
 PART_WORDS = {"count": "number", "sum": "sum", "least": "least", "greatest": "greatest"}
 
@@ -226,29 +226,34 @@ def _top(viewer: Viewer, name: str, body: Top) -> list[str]:
 
 
 def top_lines(
-    viewer: Viewer, name: str, body: Top, is_all: bool, has_whole: bool = False, whole: int | None = None
+    viewer: Viewer,
+    name: str,
+    body: Top,
+    is_all: bool,
+    texts: Sequence[str] | None = None,
+    whole: int | None = None,
 ) -> list[str]:
     """The table of keys; the most and the fewest are marked where all keys are listed.
 
-    With `has_whole` the keys are whole addresses of IPv6. With `whole` each key has its part of that in percent.
+    `texts` are the keys as they are written, if that is known. With `whole` each has its part of that in percent.
     """
     setup = viewer.setup
     question = setup.question(name) if setup else None
     head = ["", "key", "value"]
-    keys = [str(it.key) for it in body.keys]
-    notes = []
+    keys = [str(it.key) for it in body.keys] if texts is None else list(texts)
+    notes: list[str] = []
     if setup and question and question.lane and question.lane.key is not None:
         lane, attribute = question.lane, setup.schema[question.lane.key]
         head = ["", attribute.name, part_text(setup, question.part, lane)]
-        keys = [address_text(it.key) if has_whole else key_text(setup, lane, it.key) for it in body.keys]
-        has_zero = any(not it.key for it in body.keys)
-        notes = _zero_note(setup, attribute.name, has_whole) if has_zero else []
+        if texts is None:
+            keys = [key_text(setup, lane, it.key) for it in body.keys]
+            notes = _zero_note(setup, attribute.name) if any(not it.key for it in body.keys) else []
     rows = [[f"{place}.", key, grouped(it.value)] for place, (key, it) in enumerate(zip(keys, body.keys), 1)]
     if whole is not None:
         head.append("percent")
         rows = [[*row, percent(it.value, whole)] for row, it in zip(rows, body.keys)]
         rest = whole - sum(it.value for it in body.keys)
-        rows += [] if is_all else [["", "all others", grouped(rest), percent(rest, whole)]]
+        rows += [["", "all others", grouped(rest), percent(rest, whole)]] if rest or not is_all else []
         rows += [["", "together", grouped(whole), percent(whole, whole)]] if rows else []
     noted = marks([it.value for it in body.keys], is_all, is_all) if whole is None else []
     rows = [[*row, note] for row, note in itertools.zip_longest(rows, noted, fillvalue="")]
@@ -267,13 +272,13 @@ def percent(value: int, whole: int) -> str:
     return ">99.9" if value < whole and tenths == 1000 else f"{tenths // 10}.{tenths % 10}"
 
 
-def _zero_note(setup: Setup, name: str, has_whole: bool) -> list[str]:
+def _zero_note(setup: Setup, name: str) -> list[str]:
     """What the address 0 stands for."""
     if not setup.is_packet or name not in ("src", "dst", "src6", "dst6"):
         return []
     if name.endswith("6"):
-        return [f"  ::{'' if has_whole else '/64'} stands for all packets that are not IPv6"]
-    six = f", with IPv6 among them: `{name}6` has its addresses" if setup.source == "packet6" else ""
+        return ["  ::/64 stands for all packets that are not IPv6"]
+    six = f", with IPv6 among them: `{name}6` has its networks" if setup.source == "packet6" else ""
     return [f"  0.0.0.0 stands for all packets that are not IPv4{six}"]
 
 

@@ -11,12 +11,13 @@ from unittest import mock
 
 from support import frame, needs_words, pcap, tool
 
-from confluo_report import addresses
+from confluo_report import addresses, ask
 from confluo_report.addresses import Again, Answer, whole_addresses
 from confluo_report.expressions import parse_expression
 from confluo_report.questions import parse_question
 from confluo_report.reports import Pair, Top
 from confluo_report.setups import PACKETS
+from confluo_report.show import percent
 
 HALF = 2**64
 SCHEMA = PACKETS["packet6"]
@@ -44,6 +45,7 @@ class Store:
         for address, value in self.packets:
             row = [0] * len(SCHEMA)
             row[PLACES["src6"]], row[PLACES["src6_low"]] = divmod(address, HALF)
+            row[PLACES["etype"]], row[PLACES["kind"]] = 0x86DD, 1
             if holds(row):
                 found.setdefault(row[PLACES[key]], []).append(value)
         pairs = sorted(
@@ -107,22 +109,27 @@ class Addresses(unittest.TestCase):
             self.assertIn("only src6/64 and dst6/64", tool("ask", "--setup-only", text).err)
 
 
+ARP = bytes.fromhex("ffffffffffff 020000000002 0806") + bytes(28)
+# From 0.0.0.0, as a host that has no address yet.
+NOBODY = frame()[:26] + bytes(4) + frame()[30:]
+
+
 @needs_packet6
 class Answers(unittest.TestCase):
     def setUp(self) -> None:
         draw = random.Random(8)
-        networks = [0x20010DB8 << 32 | it for it in range(40)]
-        self.sent: dict[int, list[int]] = {0: [54]}
-        frames = [(1, frame())]
-        for at in range(900):
-            address = draw.choice(networks) * HALF + draw.choice((1, 2, 2**63 + 5))
-            size = 62 + draw.randrange(900)
-            head = struct.pack(">IHBB", 6 << 28, size - 54, 59, 64)
+        networks = [0x20010DB8 << 32 | it for it in range(40)] + [0]
+        self.sent: dict[str, list[int]] = {}
+        frames = [self.one("10.0.0.1", frame()), self.one("not IP", ARP), self.one("0.0.0.0", NOBODY)]
+        frames += [self.one("10.0.0.2", frame(2)) for _ in range(60)]
+        for _ in range(900):
+            address = draw.choice(networks) * HALF + draw.choice((0, 2, 2**63 + 5))
+            rest = draw.randrange(900)
+            head = struct.pack(">IHBB", 6 << 28, rest, 59, 64)
             ends = struct.pack(">QQQQ", address // HALF, address % HALF, networks[0], 9)
-            frames.append(
-                (at // 300, bytes.fromhex("020000000001 020000000002 86dd") + head + ends + bytes(size - 54))
-            )
-            self.sent.setdefault(address, []).append(size)
+            data = bytes.fromhex("020000000001 020000000002 86dd") + head + ends + bytes(rest)
+            frames.append(self.one(str(ipaddress.IPv6Address(address)), data))
+        draw.shuffle(frames)
         place = tempfile.TemporaryDirectory()
         self.addCleanup(place.cleanup)
         self.captures = [pathlib.Path(place.name, it) for it in ("a", "b")]
@@ -131,42 +138,78 @@ class Answers(unittest.TestCase):
         self.whole = pathlib.Path(place.name, "whole")
         self.whole.write_bytes(pcap(frames))
 
+    def one(self, source: str, data: bytes) -> tuple[int, bytes]:
+        self.sent.setdefault(source, []).append(len(data))
+        return 1, data
+
     def asked(self, *words: object) -> str:
         ended = tool("ask", *words)
         self.assertEqual((ended.status, ended.err), (0, ""))
         return ended.out
 
     def rows(self, out: str) -> list[tuple[str, int]]:
-        found = re.findall(r"(?m)^ +\d+\.  (\S+) +([\d,]+)", out)
+        found = re.findall(r"(?m)^ +\d+\.  (not IP|\S+) +([\d,]+)", out)
         return [(it, int(value.replace(",", ""))) for it, value in found]
 
-    def wanted(self, part: str, count: int) -> list[tuple[str, int]]:
-        ranked = sorted((-PARTS[part](its), it) for it, its in self.sent.items())
-        return [(str(ipaddress.IPv6Address(it)), -value) for value, it in ranked[:count]]
+    def wanted(self, part: str, count: int, families: tuple[int, ...]) -> list[tuple[str, int]]:
+        """The first sources of IPv4, IPv6 or no IP (7)."""
+        rows = []
+        for it, sizes in self.sent.items():
+            address = None if it == "not IP" else ipaddress.ip_address(it)
+            family = address.version if address else 7
+            if family in families:
+                rows.append((-PARTS[part](sizes), family, int(address or 0), it))
+        return [(it, -value) for value, _, _, it in sorted(rows)[:count]]
 
     def test_one_capture(self) -> None:
         for measure, part in (("bytes", "sum"), ("packets", "count"), ("least len", "least")):
-            out = self.asked(self.whole, f"top 7 src6 by {measure}")
-            self.assertEqual(self.rows(out), self.wanted(part, 7))
-            self.assertNotIn("Note", out)
-        out = self.asked(self.whole, "top 1000 src6 by packets where not len<54")
-        self.assertEqual(self.rows(out), self.wanted("count", 1000))
-        self.assertIn("  :: stands for all packets that are not IPv6\n", out)
+            for key, families in (("src6", (6,)), ("src", (4, 6, 7))):
+                for count in (7, 1000):
+                    out = self.asked(self.whole, f"top {count} {key} by {measure} where not len<42")
+                    self.assertEqual(self.rows(out), self.wanted(part, count, families), (key, measure))
+                    self.assertNotIn("Note", out)
+                    self.assertNotIn("stands for", out)
 
     def test_several_captures(self) -> None:
-        out = self.asked(*self.captures, "top 7 src6 by bytes")
-        self.assertEqual(self.rows(out), self.wanted("sum", 7))
+        for key, families in (("src6", (6,)), ("src", (4, 6, 7))):
+            out = self.asked(*self.captures, f"top 7 {key} by bytes")
+            self.assertEqual(self.rows(out), self.wanted("sum", 7, families))
+
+    def test_where_all_is_ipv4_nothing_is_asked_again(self) -> None:
+        with mock.patch.object(ask, "both_families", side_effect=addresses.both_families) as asked:
+            with mock.patch.object(ask, "_again", side_effect=AssertionError):
+                out = self.asked(self.whole, "top src by packets where src in 10.0.0.0/8")
+        self.assertEqual((asked.call_count, self.rows(out)), (1, [("10.0.0.2", 60), ("10.0.0.1", 1)]))
 
     def test_shares(self) -> None:
-        out = self.asked(
-            self.whole, "share 2 src6 by packets", "share 1 etype", "share proto by packets where dport==80"
+        words = (
+            "share 2 src6 by packets",
+            "share 1 etype",
+            "share proto by packets where len==54 and src==10.0.0.1",
         )
-        first = self.wanted("count", 2)
+        out = self.asked(self.whole, *words)
+        first = self.wanted("count", 2, (6,))
         self.assertEqual(self.rows(out)[:2], first)
-        rest = 901 - sum(value for _, value in first)
-        self.assertRegex(out, rf"all others +{rest} +{100 * rest / 901:.1f}\n +together +901 +100\.0\n")
-        self.assertRegex(out, r"0x86dd \(IPv6\) +[\d,]+ +>99\.9\n +all others +54 +<0\.1\n")
+        rest = 963 - sum(value for _, value in first)
+        self.assertRegex(out, rf"all others +{rest} +{100 * rest / 963:.1f}\n +together +963 +100\.0\n")
+        self.assertRegex(out, r"0x86dd \(IPv6\) +[\d,]+ +99\.\d\n +all others +3,390 +0\.\d\n")
         self.assertRegex(out, r"6 \(TCP\) +1 +100\.0\n +together +1 +100\.0\n")
+        self.assertIn("  none\n", self.asked(self.whole, "share src where len<5"))
+
+
+class Percents(unittest.TestCase):
+    def test_little_is_not_nothing(self) -> None:
+        for value, whole, text in (
+            (0, 9, "0.0"),
+            (1, 9000, "<0.1"),
+            (1, 3, "33.3"),
+            (2, 3, "66.7"),
+            (8999, 9000, ">99.9"),
+            (9, 9, "100.0"),
+            (0, 0, "-"),
+            (1, 2000, "0.1"),
+        ):
+            self.assertEqual(percent(value, whole), text)
 
 
 if __name__ == "__main__":

@@ -298,7 +298,7 @@ class OfRuns(Folder):
         if ran.returncode not in (8, 0):
             self.skipTest(f"this build of confluo does not run in little memory (status {ran.returncode})")
         self.assertEqual((ran.returncode, ran.stdout), (8, b""))
-        said = self.explained("--command", " ".join(words), "--status", "8")
+        said = self.explained("--command", " ".join(["confluo", *words[1:]]), "--status", "8")
         self.assertIn("1895 MB for trees", said)
 
     def test_without_a_refusal(self) -> None:
