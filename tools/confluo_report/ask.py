@@ -42,6 +42,8 @@ from .values import grouped
 FIRST_NODES = 8192
 FINDING = ("list", "find", "between")
 OTHERS = "\nconfluo-report: "
+# A folder for setups, and the captures.
+Files = tuple[pathlib.Path, list[str]]
 
 
 @dataclass(frozen=True)
@@ -163,7 +165,7 @@ def _refused(ran: program.Ran, setup_path: str, capture: str) -> str:
 
 
 @contextlib.contextmanager
-def _files(job: Job) -> Iterator[tuple[pathlib.Path, list[str]]]:
+def _files(job: Job) -> Iterator[Files]:
     """A folder for setups, and the captures, of which standard input is copied into one."""
     with tempfile.TemporaryDirectory(prefix="confluo-report-") as name:
         folder = pathlib.Path(name)
@@ -197,7 +199,7 @@ def _reports(job: Job, text: str, folder: pathlib.Path, captures: Sequence[str])
 
 
 @dataclass(frozen=True)
-class _Answered:
+class Answered:
     """The answers of questions that one setup asks, and for each capture how they are shown."""
 
     merged: Merged
@@ -231,15 +233,33 @@ def answers(job: Job, style: Style, most: int, out: str | None = None) -> list[s
     found = [it for it in job.queries if it.verb in FINDING]
     if out is not None and (len(found) != 1 or job.is_several or out == "-"):
         raise Complaint("--out FILE takes the packets of one list, find or between in one capture")
-    with _files(job) as (folder, captures):
-        answered = [_answer(job, it, (folder, captures), style, most) for it in by_width(job.queries)]
+    with _files(job) as files:
+        answered = _answered(job, files, style, most)
         copied = [
-            _copied(it, found[0], captures[0], out) for it in answered if out and found[0] in it.queries
+            _copied(it, found[0], files[1][0], out) for it in answered if out and found[0] in it.queries
         ]
     return _shown(job, answered) + copied
 
 
-def _copied(answered: _Answered, query: Query, capture: str, out: str) -> str:
+def answered_for_programs(job: Job) -> list[Answered]:
+    """The answers without packets in words."""
+    with _files(job) as files:
+        return _answered(job, files, Style(), None)
+
+
+def _answered(job: Job, files: Files, style: Style, most: int | None) -> list[Answered]:
+    return [_answer(job, it, files, style, most) for it in by_width(job.queries)]
+
+
+def in_order(job: Job, answered: Sequence[Answered]) -> Iterator[tuple[Answered, Query, Joined]]:
+    """The questions in their order, each with its answer."""
+    for query in job.queries:
+        for it in answered:
+            if query in it.queries:
+                yield it, query, it.merged.asks[it.queries.index(query)]
+
+
+def _copied(answered: Answered, query: Query, capture: str, out: str) -> str:
     """Copies the packets that the question found, and says how many."""
     named = answered.named[0]
     name = name_of(answered.queries.index(query))
@@ -247,9 +267,7 @@ def _copied(answered: _Answered, query: Query, capture: str, out: str) -> str:
     return f"\n{out}: {copied.packets} of {copied.records} packets"
 
 
-def _answer(
-    job: Job, queries: list[Query], files: tuple[pathlib.Path, list[str]], style: Style, most: int
-) -> _Answered:
+def _answer(job: Job, queries: list[Query], files: Files, style: Style, most: int | None) -> Answered:
     folder, captures = files
     text = write_setup(queries, job.schema, every=True, extras=True)
     try:
@@ -260,12 +278,12 @@ def _answer(
         setup = valid(text)
     named = _reports(job, text, folder, captures)
     merged = merge(named, setup, _asked(queries))
-    has_found = any(it.verb in FINDING for it in queries)
+    has_found = most is not None and any(it.verb in FINDING for it in queries)
     viewers = [
-        Viewer(setup, _details(it.report, setup, path, most) if has_found else {}, style, most)
+        Viewer(setup, _details(it.report, setup, path, most or 0) if has_found else {}, style, most or 0)
         for it, path in zip(named, captures)
     ]
-    answered = _Answered(merged, queries, viewers, named, {})
+    answered = Answered(merged, queries, viewers, named, {})
     for at, it in enumerate(queries):
         ranked = _ranked_again(job, it, merged.asks[at], setup, files)
         if ranked:
@@ -273,9 +291,7 @@ def _answer(
     return answered
 
 
-def _ranked_again(
-    job: Job, query: Query, joined: Joined, setup: Setup, files: tuple[pathlib.Path, list[str]]
-) -> Ranked | None:
+def _ranked_again(job: Job, query: Query, joined: Joined, setup: Setup, files: Files) -> Ranked | None:
     """The addresses, if the question ranks them and the program must be asked again for that."""
     question = setup.question(joined.name)
     if question is None or not (query.is_whole or query.is_of_both):
@@ -292,9 +308,7 @@ def _ranked_again(
     return both_families(query, first, not job.is_several, ask)
 
 
-def _again(
-    job: Job, query: Query, again: Sequence[Again], files: tuple[pathlib.Path, list[str]]
-) -> list[Answer]:
+def _again(job: Job, query: Query, again: Sequence[Again], files: Files) -> list[Answer]:
     """Ranks again within networks, or measures all."""
     lines = [f"schema {job.schema}"]
     for at, (key, part, expression) in enumerate(again):
@@ -320,7 +334,7 @@ def _details(report: Report, setup: Setup, path: str, most: int) -> Details:
     return details_of(report.asks, report.records, setup, path, most, report.truncated).lines
 
 
-def _shown(job: Job, answered: Sequence[_Answered]) -> list[str]:
+def _shown(job: Job, answered: Sequence[Answered]) -> list[str]:
     first = answered[0]
     viewer, merged = first.viewers[0], first.merged
     of = f" of {len(job.captures)} captures" if job.is_several else ""
@@ -329,15 +343,12 @@ def _shown(job: Job, answered: Sequence[_Answered]) -> list[str]:
         lines.append(f"{name} is cut off after {grouped(whole)} {viewer.things}: what came then is missing")
     unparsed = first.unparsed()
     lines += unparsed_line(unparsed, "leave out `--schema packet`") if unparsed else []
-    for query in job.queries:
-        for it in answered:
-            if query in it.queries:
-                joined = it.merged.asks[it.queries.index(query)]
-                lines += _one_shown(it, query, joined)
+    for it, query, joined in in_order(job, answered):
+        lines += _one_shown(it, query, joined)
     return lines
 
 
-def _one_shown(answered: _Answered, query: Query, joined: Joined) -> list[str]:
+def _one_shown(answered: Answered, query: Query, joined: Joined) -> list[str]:
     """A question with its answer, after an empty line."""
     viewer = answered.viewers[0]
     lines = ["", _title(viewer, query, joined)]
@@ -352,16 +363,20 @@ def _one_shown(answered: _Answered, query: Query, joined: Joined) -> list[str]:
     return lines + ([f"  Note: {joined.note}."] if joined.note else [])
 
 
-def _ranked(answered: _Answered, query: Query, joined: Joined, body: Top) -> list[str]:
-    """The keys of `top` and `share`."""
+def ranking(answered: Answered, query: Query, joined: Joined, body: Top) -> tuple[Ranked, int | None]:
+    """The keys of `top` or `share`, and of `share` the whole."""
     at = answered.queries.index(query)
     ranked = answered.ranked.get(at) or Ranked(body, _has_all(joined), joined.note)
     whole = answered.joined(whole_of(at)) if query.verb == "share" else None
-    size = None
-    if whole and isinstance(whole.body, Quad):
-        size = whole.body.count if query.part == "count" else whole.body.sum
+    if whole is None or not isinstance(whole.body, Quad):
+        return ranked, None
+    return ranked, whole.body.count if query.part == "count" else whole.body.sum
+
+
+def _ranked(answered: Answered, query: Query, joined: Joined, body: Top) -> list[str]:
+    ranked, whole = ranking(answered, query, joined, body)
     viewer = answered.viewers[0]
-    lines = top_lines(viewer, joined.name, ranked.top, ranked.is_all, ranked.texts, size) or ["  none"]
+    lines = top_lines(viewer, joined.name, ranked.top, ranked.is_all, ranked.texts, whole) or ["  none"]
     return lines + ([f"  Note: {ranked.note}."] if ranked.note else [])
 
 
@@ -397,15 +412,19 @@ def joined_marks(query: Query, fired: Sequence[Fired]) -> list[Pair]:
     return [Pair(bucket, join(its)) for bucket, its in sorted(values.items())]
 
 
-def _buckets(answered: _Answered, query: Query, joined: Joined) -> list[str]:
+def meant_buckets(query: Query, pairs: Sequence[Pair]) -> list[Pair]:
+    """The buckets of the answer, of all that have a packet."""
+    if query.is_peak:
+        return sorted(pairs, key=lambda it: (-it.value, it.key))[: query.count]
+    return [it for it in pairs if query.fires(it.value)]
+
+
+def _buckets(answered: Answered, query: Query, joined: Joined) -> list[str]:
     """The buckets that the question means, and what is said of those without a packet."""
     viewer = answered.viewers[0]
     pairs = joined_marks(query, fired_in(joined))
-    if query.is_peak:
-        found = sorted(pairs, key=lambda it: (-it.value, it.key))[: query.count]
-        return bucket_lines(viewer, joined.name, found, None) or ["  none"]
-    meant = [it for it in pairs if query.fires(it.value)]
-    lines = bucket_lines(viewer, joined.name, meant, (query.operator, query.number)) or ["  none"]
+    condition = None if query.is_peak else (query.operator, query.number)
+    lines = bucket_lines(viewer, joined.name, meant_buckets(query, pairs), condition) or ["  none"]
     if not query.lists_all:
         return lines
     ends = answered.span() or [it.key for it in pairs]

@@ -10,6 +10,7 @@ import sys
 from typing import Callable, Sequence
 
 from . import ask as asking
+from .ask_exports import answers_csv, answers_json
 from .captures import CaptureFault
 from .check import check
 from .commands import split
@@ -47,7 +48,7 @@ DESCRIPTION = "Shows, explains and exports what confluo prints, and asks it ques
 EPILOG = """\
 examples:
   confluo-report run --setup q.setup capture.pcap
-  confluo-report ask capture.pcap 'top src by bytes' 'list kind==2 && flags==20'
+  confluo-report ask capture.pcap 'top src by bytes' 'list flags==4 or flags==20'
   confluo run --setup q.setup capture.pcap | confluo-report show --setup q.setup --capture capture.pcap
   confluo run --setup q.setup capture.pcap | confluo-report explain --setup q.setup --capture capture.pcap
   tcpdump -U -w - | confluo watch --setup q.setup /dev/stdin | confluo-report stream --setup q.setup
@@ -214,12 +215,16 @@ def _ask(words: Words) -> int:
         asking.valid(text)
         sys.stdout.write(text)
         return 0
-    if words.report and words.out:
-        raise Complaint("--out is not for --report: `confluo-report packets` copies the packets of a report")
+    if words.out and (words.report or words.json or words.csv):
+        raise Complaint("--out is only for tables: `confluo-report packets` copies the packets of a report")
     if words.report:
         _print(asking.report_lines(job))
         return 0
-    _print(asking.answers(job, style_for(sys.stdout), words.most, words.out))
+    if words.json or words.csv:
+        text = (answers_json if words.json else answers_csv)(job, asking.answered_for_programs(job))
+        sys.stdout.write(text)
+    else:
+        _print(asking.answers(job, style_for(sys.stdout), words.most, words.out))
     if job.faults:
         raise Complaint(OTHERS.join(job.faults))
     return 0
@@ -458,17 +463,20 @@ def _add_packets(commands: argparse._SubParsersAction) -> Callable[[Words], int]
 
 
 def _add_ask(commands: argparse._SubParsersAction) -> Callable[[Words], int]:
-    from .questions import __doc__ as forms
+    from .questions import __doc__ as grammar
 
     parser = commands.add_parser(
         "ask",
         help="questions without a setup",
         description="Writes the setup of the questions, runs confluo and shows the answers.",
-        epilog=(forms or "").split("\n", 2)[2],
+        epilog=(grammar or "").split("\n", 2)[2],
         formatter_class=argparse.RawDescriptionHelpFormatter,
     )
-    parser.add_argument("--setup-only", action="store_true", help="print the setup and run nothing")
-    parser.add_argument("--report", action="store_true", help="print the report's lines instead of tables")
+    forms = parser.add_mutually_exclusive_group()
+    forms.add_argument("--setup-only", action="store_true", help="print the setup and run nothing")
+    forms.add_argument("--report", action="store_true", help="print the report's lines instead of tables")
+    forms.add_argument("--json", action="store_true", help="print one JSON text instead of tables")
+    forms.add_argument("--csv", action="store_true", help="print one CSV table instead of tables")
     parser.add_argument(
         "--most", type=_count, default=20, metavar="N", help="records shown of each answer; 0: all (20)"
     )

@@ -1,25 +1,28 @@
 """Questions as a person types them, and the setup that asks them.
 
-    top [N] ATTRIBUTE by MEASURE [where CONDITION]     the values with the most
-    top [N] UNIT by MEASURE [where CONDITION]          the seconds, minutes, .. with the most
-    share [N] ATTRIBUTE [by MEASURE] [where CONDITION] what percentage each value has
-    list CONDITION                                     the packets
-    find ATTRIBUTE VALUE|LOW..HIGH                     the packets
-    between TIME and TIME [where CONDITION]            the packets of these seconds
-    count [CONDITION]                                  how many packets and bytes
-    total ATTRIBUTE [where CONDITION]                  number, sum, least, greatest
-    per UNIT MEASURE [where CONDITION]                 each second, minute, ..
-    over N [MEASURE] in a UNIT [where CONDITION]       the units with more; under N ..: with less
+    top [N] ATTRIBUTE by MEASURE      the values with the most
+    top [N] UNIT by MEASURE           the seconds, minutes, .. with the most
+    share [N] ATTRIBUTE [by MEASURE]  each value's part of the whole in percent
+    list CONDITION                    the packets
+    find ATTRIBUTE VALUE|LOW..HIGH    the packets
+    between TIME and TIME             the packets of these seconds
+    count [CONDITION]                 how many packets and bytes
+    total ATTRIBUTE                   number, sum, least, greatest
+    per UNIT MEASURE                  each second, minute, ..
+    over N [MEASURE] in a UNIT        the units with more; under N ..: with less
 
-    CONDITION   comparisons, joined by and, or, not and parentheses (also by &&, ||, !)
+    All but list, find and count may end with: where CONDITION
+
+    CONDITION   comparisons with and, or, not and parentheses (or &&, ||, !)
     comparison  ATTRIBUTE OPERATOR VALUE, or ATTRIBUTE [not] in RANGE
     OPERATOR    == != < <= > >=
     VALUE       80, 0x1f90, https, 10.0.0.1, 2001:db8::1, 02:00:00:00:00:01
     RANGE       60..99, 10.0.0.0/8, 2001:db8::/32
-    ATTRIBUTE   src, dport, len, ..; src6/64 and dst6/64 are networks, src6 and dst6 whole addresses
-    MEASURE     bytes (if there is none), packets, an attribute (its sum), least ttl, greatest win
-    UNIT        second, minute, hour, day, millisecond, ..; but for top also 10 seconds
-    TIME        2026-11-28T13:00:05, in UTC, or seconds since 1970; both ends are included
+    ATTRIBUTE   len, dport, ..; src and dst are addresses of IPv4 and IPv6,
+                src6 and dst6 those of IPv6, src6/64 and dst6/64 its networks
+    MEASURE     bytes, packets, an attribute (its sum), least ttl, greatest win
+    UNIT        second, minute, hour, millisecond, ..; but for top: 10 seconds
+    TIME        2026-11-28T13:00:05, in UTC, or seconds since 1970
 """
 
 from __future__ import annotations

@@ -1,5 +1,8 @@
 """Questions of the command line: their setups, and their answers by the program."""
 
+import csv
+import io
+import json
 import os
 import pathlib
 import re
@@ -8,7 +11,7 @@ import subprocess
 import tempfile
 import unittest
 
-from support import EXAMPLES, INCIDENTS, frame, frame6, needs_program, pcap, tagged, tool
+from support import EXAMPLES, INCIDENTS, ROOT, frame, frame6, needs_program, pcap, tagged, tool
 
 from confluo_report.ask import _raised, joined_marks
 from confluo_report.errors import Complaint
@@ -263,9 +266,9 @@ class Answers(unittest.TestCase):
             out = self.asked(path, "count flags==4", "top src by packets")
             self.assertIn("        3         202 ", out)
             self.assertNotIn("not parsed", out)
-            self.assertIn(
-                "  0.0.0.0 stands for all packets that are not IPv4, with IPv6 among them: `src6` has", out
-            )
+            self.assertIn("  1.  10.0.0.1                     3\n  2.  2001:db8::1                  2\n", out)
+            out = self.asked("--schema", "packet", path, "top src by packets")
+            self.assertIn("  0.0.0.0 stands for all packets that are not IPv4\n", out)
             out = self.asked("--schema", "packet", path, "count flags==4")
             self.assertIn("        1          54 ", out)
             said = (
@@ -337,6 +340,45 @@ class Answers(unittest.TestCase):
             for words in ((WEB, "count"), (WEB, "list *", "list len>1"), (WEB, WEB, "list *")):
                 ended = tool("ask", "--out", path, *words)
                 self.assertEqual((ended.status, ended.out), (2, ""))
+
+    def test_options_may_stand_between(self) -> None:
+        out = self.asked(WEB, "--most", "1", "list dport==53", "--schema=packet", "count")
+        self.assertIn("and 1 more; --most 0 shows all", out)
+        self.assertIn("usage: confluo-report ask", tool("ask", WEB, "count", "--nosuch").err)
+
+    def test_json_and_csv(self) -> None:
+        words = (
+            "top 2 src by bytes",
+            "share 1 proto by packets",
+            "list dport==53",
+            "over 2000 in a second",
+            "count",
+        )
+        found = json.loads(self.asked(WEB, "--json", *words))
+        _, share, listed, over, count = found["answers"]
+        self.assertEqual((found["records"], found["captures"]), (16, [str(WEB)]))
+        self.assertEqual([it["question"] for it in found["answers"]], list(words))
+        self.assertEqual(found["answers"][0]["keys"][0], {"text": "10.0.0.5", "value": 3478})
+        self.assertEqual(share["keys"], [{"text": "6 (TCP)", "value": 11, "percent": 68.75}])
+        self.assertEqual((share["whole"], share["all"]), (16, False))
+        self.assertEqual(listed["parts"], [{"capture": str(WEB), "records": [0, 7]}])
+        self.assertEqual([it["time"] for it in over["marks"]], ["2023-11-14 22:13:22Z"])
+        self.assertEqual(count["count"], 16)
+        rows = list(csv.DictReader(io.StringIO(self.asked(WEB, WEB, "--csv", *words))))
+        self.assertEqual({it["question"] for it in rows}, set(words))
+        self.assertIn(("10.0.0.5", "6956"), [(it["key"], it["value"]) for it in rows])
+        self.assertIn(("6 (TCP)", "22", "68.75"), [(it["key"], it["value"], it["percent"]) for it in rows])
+        self.assertEqual([it["value"] for it in rows if it["key"] == "record"], ["0", "7"] * 2)
+        self.assertEqual(tool("ask", WEB, "--csv", "--json", "count").status, 2)
+        self.assertEqual(tool("ask", WEB, "--csv", "--out", "x", "list *").status, 2)
+        try:
+            import jsonschema
+        except ImportError:
+            return
+        schema = json.loads((ROOT / "docs" / "report.schema.json").read_text())
+        jsonschema.Draft202012Validator.check_schema(schema)
+        jsonschema.validate(found, schema)
+        jsonschema.validate(json.loads(self.asked(WEB, WEB, "--json", *words, "per minute packets")), schema)
 
     def test_names_that_are_not_utf8_or_begin_with_a_dash(self) -> None:
         with tempfile.TemporaryDirectory() as folder:

@@ -5,7 +5,7 @@ import random
 import unittest
 from typing import Callable, Sequence
 
-from support import GUIDE, tool
+from support import GUIDE, ROOT, tool
 
 from confluo_report import questions
 from confluo_report.conditions import ConditionFault, TooLong, program_form
@@ -102,7 +102,7 @@ class Conditions(unittest.TestCase):
 
     def test_the_same_rows_are_meant(self) -> None:
         draw, count = random.Random(5), 0
-        for _ in range(3000):
+        for _ in range(700):
             text, means = drawn(draw, 4)
             try:
                 form = parse_expression(NUMBERS, program_form(NUMBERS, text))
@@ -113,11 +113,11 @@ class Conditions(unittest.TestCase):
             for _ in range(20):
                 row = [draw.choice((0, 1, 2, 3, 4, 100, 253, 254, MOST)) for _ in "abc"]
                 self.assertEqual(form.holds(row), means(dict(zip("abc", row))), (text, form.text, row))
-        self.assertGreater(count, 2500)
+        self.assertGreater(count, 550)
 
     def test_byte_strings(self) -> None:
         draw, schema = random.Random(6), [Attribute("a", "b1"), Attribute("b", "b2"), Attribute("ts", "u64")]
-        for _ in range(500):
+        for _ in range(200):
             parts = [
                 f"{draw.choice(['', 'not '])}{name}{draw.choice(['==', '!='])}0x{value:0{size}x}"
                 for name, size, value in (
@@ -136,7 +136,7 @@ class Conditions(unittest.TestCase):
     def test_networks_of_ipv6(self) -> None:
         draw = random.Random(4)
         place = {it.name: at for at, it in enumerate(SCHEMA)}
-        for _ in range(300):
+        for _ in range(100):
             network = ipaddress.IPv6Network((draw.getrandbits(128) | 1 << 127, draw.randrange(1, 129)), False)
             inside = int(network[0]) + draw.randrange(network.num_addresses)
             for address in (inside, draw.getrandbits(128), (int(network[-1]) + 1) % 2**128):
@@ -186,6 +186,8 @@ class Conditions(unittest.TestCase):
             f"\n{grammar}\n" in GUIDE.read_text(), f"docs/GUIDE.md does not have this:\n{grammar}"
         )
         self.assertIn(grammar, tool("ask", "--help").out)
+        page = (ROOT / "tools/confluo-report.1").read_text()
+        self.assertIn("\n".join(line[4:] for line in grammar.split("\n")), page)
 
 
 def _quoted(text: str, values: dict[str, str]) -> str:
