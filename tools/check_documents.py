@@ -41,6 +41,7 @@ RUN = [
     "docs/INCIDENTS.md",
     "examples/README.md",
     "examples/formats/README.md",
+    "examples/dual_stack/README.md",
 ]
 SECONDS = 60
 
