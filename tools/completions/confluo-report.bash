@@ -11,8 +11,8 @@ _confluo_report() {
         run) options="--setup --writers --capacity --segments --nodes --live --truncated" ;;
         show) options="--setup --capture --most" ;;
         explain) options="--setup --capture --command --status" ;;
-        json) options="--setup --indent" ;;
-        csv) options="--setup --raw" ;;
+        json) options="--setup --capture --indent" ;;
+        csv) options="--setup --capture --raw" ;;
         prometheus) options="--setup --label --lists --textfile" ;;
         stream) options="--setup --json --quiet --most --prometheus --label --exec --exec-limit --exec-seconds --again" ;;
         merge) options="--setup --tagged" ;;

@@ -9,11 +9,11 @@ import shutil
 import sys
 import tempfile
 from dataclasses import dataclass, field, replace
-from typing import Iterator, Sequence
+from typing import Iterator, Mapping, Sequence
 
 from . import program
 from .addresses import Again, Answer, Ranked, both_families, whole_addresses
-from .details import Details, details_of
+from .details import details_of
 from .errors import Complaint
 from .explain import Case, explain
 from .expressions import Attribute
@@ -165,7 +165,7 @@ def _refused(ran: program.Ran, setup_path: str, capture: str) -> str:
 
 
 @contextlib.contextmanager
-def _files(job: Job) -> Iterator[Files]:
+def files_of(job: Job) -> Iterator[Files]:
     """A folder for setups, and the captures, of which standard input is copied into one."""
     with tempfile.TemporaryDirectory(prefix="confluo-report-") as name:
         folder = pathlib.Path(name)
@@ -180,7 +180,7 @@ def report_lines(job: Job) -> list[str]:
     """The lines of the report, or of the reports of several captures together."""
     text = job.setup_text()
     setup = valid(text)
-    with _files(job) as (folder, captures):
+    with files_of(job) as (folder, captures):
         named = _reports(job, text, folder, captures)
     if not job.is_several:
         return list(lines_of(named[0].report))
@@ -233,7 +233,7 @@ def answers(job: Job, style: Style, most: int, out: str | None = None) -> list[s
     found = [it for it in job.queries if it.verb in FINDING]
     if out is not None and (len(found) != 1 or job.is_several or out == "-"):
         raise Complaint("--out FILE takes the packets of one list, find or between in one capture")
-    with _files(job) as files:
+    with files_of(job) as files:
         answered = _answered(job, files, style, most)
         copied = [
             _copied(it, found[0], files[1][0], out) for it in answered if out and found[0] in it.queries
@@ -243,7 +243,7 @@ def answers(job: Job, style: Style, most: int, out: str | None = None) -> list[s
 
 def answered_for_programs(job: Job) -> list[Answered]:
     """The answers without packets in words."""
-    with _files(job) as files:
+    with files_of(job) as files:
         return _answered(job, files, Style(), None)
 
 
@@ -298,7 +298,7 @@ def _ranked_again(job: Job, query: Query, joined: Joined, setup: Setup, files: F
         return None
 
     def ask(again: Sequence[Again]) -> list[Answer]:
-        return _again(job, query, again, files)
+        return again_of(job, query, again, files)
 
     # All keys that are listed, and not only as many as the question wants.
     tops = [body for _, body in joined.parts if isinstance(body, Top)]
@@ -308,7 +308,7 @@ def _ranked_again(job: Job, query: Query, joined: Joined, setup: Setup, files: F
     return both_families(query, first, not job.is_several, ask)
 
 
-def _again(job: Job, query: Query, again: Sequence[Again], files: Files) -> list[Answer]:
+def again_of(job: Job, query: Query, again: Sequence[Again], files: Files) -> list[Answer]:
     """Ranks again within networks, or measures all."""
     lines = [f"schema {job.schema}"]
     for at, (key, part, expression) in enumerate(again):
@@ -330,7 +330,7 @@ def _answer_of(joined: Joined, part: str) -> Answer:
     return Answer(joined.body, joined.note)
 
 
-def _details(report: Report, setup: Setup, path: str, most: int) -> Details:
+def _details(report: Report, setup: Setup, path: str, most: int) -> Mapping[int, str]:
     return details_of(report.asks, report.records, setup, path, most, report.truncated).lines
 
 

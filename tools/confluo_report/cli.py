@@ -7,9 +7,10 @@ import errno
 import os
 import pathlib
 import sys
-from typing import Callable, Sequence
+from typing import Callable, Mapping, Sequence
 
 from . import ask as asking
+from .addresses import Ranked
 from .ask_exports import answers_csv, answers_json
 from .captures import CaptureFault
 from .check import check
@@ -25,6 +26,7 @@ from .metrics import labels_of, metrics_text, write_at_once
 from .packets import copy_packets
 from .plot import drawing_of, plot
 from .questions import write_setup
+from .report_addresses import addresses_of
 from .reports import Report, Snapshot, is_told, parse, parse_report, refusal_of
 from .setups import Setup, SetupFault, parse_setup
 from .run import HELP, run
@@ -108,14 +110,11 @@ def _show(words: Words) -> int:
     read, setup = _read(words)
     style = style_for(sys.stdout)
     details = Details()
-    if words.capture and not isinstance(read, Report):
-        raise Complaint(
-            "--capture is for a report of `run`: a snapshot or merged report is shown without captures"
-        )
+    addresses = _addresses(words, read, setup)
     if words.capture and isinstance(read, Report):
         cut = read.truncated
         details = details_of(asks_of(read), read.records, setup, words.capture, words.most, cut)
-    viewer = Viewer(setup, details.lines, style, words.most)
+    viewer = Viewer(setup, details.lines, style, words.most, addresses)
     if isinstance(read, Merged):
         lines = merged_shown(viewer, read)
     elif isinstance(read, Snapshot):
@@ -144,15 +143,27 @@ def _explain(words: Words) -> int:
     return 0
 
 
+def _addresses(words: Words, read: Report | Snapshot | Merged, setup: Setup | None) -> Mapping[str, Ranked]:
+    """With the capture, the whole addresses behind networks of IPv6."""
+    if not words.capture:
+        return {}
+    if not isinstance(read, Report):
+        raise Complaint(
+            "--capture is for a report of `run`: a snapshot or merged report is shown without captures"
+        )
+    return addresses_of(read, setup, words.capture)
+
+
 def _json(words: Words) -> int:
     read, setup = _read(words)
-    sys.stdout.write(json_text(read, setup, words.indent))
+    sys.stdout.write(json_text(read, setup, words.indent, _addresses(words, read, setup)))
     return 0
 
 
 def _csv(words: Words) -> int:
     read, setup = _read(words)
-    sys.stdout.write(csv_text(read, None if words.raw else setup))
+    addresses = _addresses(words, read, setup)
+    sys.stdout.write(csv_text(read, None if words.raw else setup, addresses))
     return 0
 
 
@@ -288,13 +299,18 @@ def _add_report(parser: argparse.ArgumentParser, setup: str) -> None:
     )
 
 
+WHOLE = "the capture: then networks of IPv6 that are ranked have their whole addresses"
+
+
 def _add_show(commands: argparse._SubParsersAction) -> Callable[[Words], int]:
     parser = commands.add_parser(
         "show", help="a report as tables", description="Shows a report or snapshot as tables."
     )
     _add_report(parser, "the setup: then times, addresses, units and conditions are shown")
     parser.add_argument(
-        "--capture", metavar="FILE", help="the capture: then found packets are shown, one a line"
+        "--capture",
+        metavar="FILE",
+        help="the capture: then found packets are shown, one a line, and whole addresses of IPv6",
     )
     parser.add_argument(
         "--most", type=_count, default=20, metavar="N", help="records shown of each answer; 0: all (20)"
@@ -325,6 +341,7 @@ def _add_json(commands: argparse._SubParsersAction) -> Callable[[Words], int]:
         "json", help="a report as JSON", description="Writes all of a report as JSON."
     )
     _add_report(parser, "the setup: then buckets have their times and keys their texts beside them")
+    parser.add_argument("--capture", metavar="FILE", help=WHOLE)
     parser.add_argument("--indent", type=_count, metavar="N", help="spaces of indentation; default: one line")
     return _json
 
@@ -334,6 +351,7 @@ def _add_csv(commands: argparse._SubParsersAction) -> Callable[[Words], int]:
         "csv", help="a report as CSV", description="Writes all of a report as one CSV table."
     )
     _add_report(parser, "the setup: then times and addresses are written")
+    parser.add_argument("--capture", metavar="FILE", help=WHOLE)
     parser.add_argument(
         "--raw", action="store_true", help="with a setup too, the numbers of buckets and keys"
     )

@@ -9,7 +9,7 @@ from __future__ import annotations
 import ipaddress
 import re
 from dataclasses import dataclass
-from typing import Sequence, Union
+from typing import Callable, Sequence, Union
 
 from .atoms import (
     Conjunction,
@@ -160,7 +160,8 @@ class _Reader:
     def all(self) -> Node:
         return self.joined(True, AND, self.one)
 
-    def joined(self, is_all, words, part) -> Node:  # type: ignore[no-untyped-def]
+    def joined(self, is_all: bool, words: Sequence[str], part: Callable[[], Node]) -> Node:
+        """Parts with one of the words between them."""
         parts = [part()]
         while self.next().text in words:
             self.take()
@@ -246,7 +247,7 @@ class _Reader:
             why = f"`{value.text}` has the address ::, which every packet has that is not IPv6: write {name}==0 and {name}_low==0"
             raise ConditionFault(value.place, why)
         first, last = int(network.network_address), int(network.broadcast_address)
-        parts = []
+        parts: list[Node] = []
         for half, low, high in (
             (name, first // HALF, last // HALF),
             (f"{name}_low", first % HALF, last % HALF),
@@ -307,7 +308,7 @@ def _conjunctions(node: Node) -> list[Conjunction] | None:
 def program_form(schema: Sequence[Attribute], text: str) -> str:
     """The condition as an expression of the program, which selects the same records.
 
-    A ConditionFault where it is no condition, and TooLong where that has more comparisons than the program takes.
+    A ConditionFault if it is not a condition, and TooLong if that has more comparisons than the program takes.
     """
     try:
         parse_expression(schema, text)

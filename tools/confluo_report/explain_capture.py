@@ -14,7 +14,7 @@ from .reports import Refusal
 from .setups import Setup
 
 REASONS = {
-    1: "the file is not a capture: its first bytes are none of pcap's or pcapng's",
+    1: "the file is not a capture: its first bytes are not those of pcap or pcapng",
     2: "the version of pcap is another than 2.4",
     3: "the packets are of a link type that the schema does not read",
     4: "a packet states more than 262144 captured bytes; most likely the file is damaged there",

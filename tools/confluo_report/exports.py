@@ -5,14 +5,16 @@ from __future__ import annotations
 import csv
 import io
 import json
-from typing import Any, Iterator, Sequence
+from typing import Any, Iterator, Mapping, Sequence
 
+from .addresses import Ranked
 from .merge import Joined, Merged
 from .reports import Ask, Body, Fired, Found, Host, Live, Pair, Quad, Report, RoundAlert, Snapshot, Told
 from .setups import Question, Setup
 from .values import key_text, utc
 
 FORMAT = "confluo-report/1"
+Addresses = Mapping[str, Ranked]
 COLUMNS = ("part", "host", "name", "kind", "prefix", "place", "key", "value")
 
 
@@ -49,9 +51,14 @@ def body_object(body: Body, setup: Setup | None = None, question: Question | Non
     return {"kind": body.kind, "keys": _pairs(body.keys, "key", setup, question)}
 
 
-def _ask(ask: Ask, setup: Setup | None) -> dict[str, Any]:
+def _ask(ask: Ask, setup: Setup | None, addresses: Addresses | None = None) -> dict[str, Any]:
     question = setup.question(ask.name) if setup else None
-    return {"name": ask.name, **body_object(ask.body, setup, question)}
+    found = {"name": ask.name, **body_object(ask.body, setup, question)}
+    ranked = (addresses or {}).get(ask.name)
+    if ranked:
+        pairs = zip(ranked.texts or (), ranked.top.keys)
+        found["addresses"] = [{"text": text, "value": it.value} for text, it in pairs]
+    return found
 
 
 def _live(live: Live, setup: Setup | None) -> dict[str, Any]:
@@ -97,7 +104,9 @@ def _joined(joined: Joined, setup: Setup | None) -> dict[str, Any]:
     return {"name": joined.name, "parts": parts}
 
 
-def report_object(read: Report | Snapshot | Merged, setup: Setup | None = None) -> dict[str, Any]:
+def report_object(
+    read: Report | Snapshot | Merged, setup: Setup | None = None, addresses: Addresses | None = None
+) -> dict[str, Any]:
     """The object that docs/report.schema.json describes; with a setup also times and addresses."""
     if isinstance(read, Merged):
         return _merged_object(read, setup)
@@ -121,7 +130,7 @@ def report_object(read: Report | Snapshot | Merged, setup: Setup | None = None) 
         "format": FORMAT,
         "kind": "report",
         "records": read.records,
-        "asks": [_ask(it, setup) for it in read.asks],
+        "asks": [_ask(it, setup, addresses) for it in read.asks],
         "alerts": alerts,
         "lives": [_live(it, setup) for it in read.lives],
         "order": order,
@@ -140,9 +149,14 @@ def _truncated(read: Report | Host) -> dict[str, Any]:
     return {} if read.truncated is None else {"truncated": read.truncated}
 
 
-def json_text(read: Report | Snapshot | Merged, setup: Setup | None = None, indent: int | None = None) -> str:
+def json_text(
+    read: Report | Snapshot | Merged,
+    setup: Setup | None = None,
+    indent: int | None = None,
+    addresses: Addresses | None = None,
+) -> str:
     """The report as one JSON text."""
-    return json.dumps(report_object(read, setup), indent=indent) + "\n"
+    return json.dumps(report_object(read, setup, addresses), indent=indent) + "\n"
 
 
 Cell = object
@@ -151,8 +165,8 @@ Cell = object
 class _Table:
     """The rows of a report; with a setup, times and texts stand in place of buckets and keys."""
 
-    def __init__(self, setup: Setup | None) -> None:
-        self.setup = setup
+    def __init__(self, setup: Setup | None, addresses: Addresses | None = None) -> None:
+        self.setup, self.addresses = setup, addresses or {}
 
     def bucket(self, bucket: int) -> Cell:
         return utc(bucket * self.setup.nanoseconds) if self.setup else bucket
@@ -220,6 +234,10 @@ class _Table:
             yield ("window", "", "", "", "", "", "", read.window)
         for ask in read.asks:
             yield from self.body(("ask", "", ask.name, ask.body.kind, ""), ask.body)
+            ranked = self.addresses.get(ask.name)
+            for place, it in enumerate(ranked.top.keys if ranked else ()):
+                text = ranked.texts[place] if ranked and ranked.texts else ""
+                yield ("address", "", ask.name, ask.body.kind, "", place, text, it.value)
         for it in read.alerts:
             yield ("alert", "", it.trigger, "", "", "", self.bucket(it.bucket), it.value)
         for live in read.lives:
@@ -234,10 +252,12 @@ class _Table:
             yield ("truncated", "", "", "", "", "", "", read.truncated)
 
 
-def csv_text(read: Report | Snapshot | Merged, setup: Setup | None = None) -> str:
+def csv_text(
+    read: Report | Snapshot | Merged, setup: Setup | None = None, addresses: Addresses | None = None
+) -> str:
     """The report as one table; with a setup, buckets are times and keys texts."""
     out = io.StringIO()
     writer = csv.writer(out, lineterminator="\n")
     writer.writerow(COLUMNS)
-    writer.writerows(_Table(setup).rows(read))
+    writer.writerows(_Table(setup, addresses).rows(read))
     return out.getvalue()

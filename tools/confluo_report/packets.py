@@ -42,7 +42,7 @@ def rows_found(report: Report, name: str, source: str) -> set[int]:
 
 
 def copy_found(capture: str, wanted: set[int], out: BinaryIO, reading: Reading) -> Copied:
-    """Writes all that is no packet, and the packets with these numbers."""
+    """Writes everything but packets, and the packets with these numbers."""
     packets, unparsed = 0, Unparsed()
     with opened(capture) as file:
         for piece in shown(pieces(file, reading), f"reading {capture}, packets"):

@@ -6,6 +6,7 @@ import itertools
 from dataclasses import dataclass, field
 from typing import Collection, Mapping, Sequence
 
+from .addresses import Ranked
 from .merge import Merged
 from .reports import (
     Alert,
@@ -38,6 +39,8 @@ class Viewer:
     details: Mapping[int, str] = field(default_factory=dict)
     style: Style = Style()
     most: int = 20
+    # The whole addresses behind networks of IPv6, by the names of questions.
+    addresses: Mapping[str, Ranked] = field(default_factory=dict)
 
     @property
     def things(self) -> str:
@@ -222,7 +225,11 @@ def _gaps(keys: Sequence[int], first: int, last: int) -> list[tuple[int, int]]:
 
 def _top(viewer: Viewer, name: str, body: Top) -> list[str]:
     question = viewer.setup.question(name) if viewer.setup else None
-    return top_lines(viewer, name, body, bool(question and len(body.keys) < question.high))
+    lines = top_lines(viewer, name, body, bool(question and len(body.keys) < question.high))
+    ranked = viewer.addresses.get(name)
+    if not ranked:
+        return lines
+    return [*lines, "  Whole addresses:", *top_lines(viewer, name, ranked.top, ranked.is_all, ranked.texts)]
 
 
 def top_lines(

@@ -1,6 +1,7 @@
 """The whole addresses of IPv6 with the most, which the program is asked for network by network."""
 
 import ipaddress
+import json
 import pathlib
 import random
 import re
@@ -9,7 +10,7 @@ import tempfile
 import unittest
 from unittest import mock
 
-from support import frame, needs_words, pcap, tool
+from support import EXAMPLES, INCIDENTS, confluo, frame, needs_words, pcap, tool
 
 from confluo_report import addresses, ask
 from confluo_report.addresses import Again, Answer, whole_addresses
@@ -177,7 +178,7 @@ class Answers(unittest.TestCase):
 
     def test_where_all_is_ipv4_nothing_is_asked_again(self) -> None:
         with mock.patch.object(ask, "both_families", side_effect=addresses.both_families) as asked:
-            with mock.patch.object(ask, "_again", side_effect=AssertionError):
+            with mock.patch.object(ask, "again_of", side_effect=AssertionError):
                 out = self.asked(self.whole, "top src by packets where src in 10.0.0.0/8")
         self.assertEqual((asked.call_count, self.rows(out)), (1, [("10.0.0.2", 60), ("10.0.0.1", 1)]))
 
@@ -195,6 +196,40 @@ class Answers(unittest.TestCase):
         self.assertRegex(out, r"0x86dd \(IPv6\) +[\d,]+ +99\.\d\n +all others +3,390 +0\.\d\n")
         self.assertRegex(out, r"6 \(TCP\) +1 +100\.0\n +together +1 +100\.0\n")
         self.assertIn("  none\n", self.asked(self.whole, "share src where len<5"))
+
+
+@needs_packet6
+class Reports(unittest.TestCase):
+    def test_whole_addresses_of_a_report(self) -> None:
+        setup, capture = INCIDENTS / "many_addresses.setup", INCIDENTS / "many_addresses.pcap"
+        report = confluo("run", "--setup", setup, "--nodes", "2048", "--writers", "1", capture).out
+        first = ["2001:db8:0:1::20", "2001:db8:0:1::25", "2001:db8:0:2::21"]
+        words = ("--setup", setup, "--capture", capture)
+        out = tool("show", *words, stdin=report).out
+        rows = "".join(f"  {at}.  {it}                  1\n" for at, it in enumerate(first, 1))
+        self.assertIn("  1.  2001:db8:0:42::/64                 96\n", out)
+        self.assertIn(f"  Whole addresses:\n      src6              number of packets\n{rows}", out)
+        asks = json.loads(tool("json", *words, stdin=report).out)["asks"]
+        found = {it["name"]: it["addresses"] for it in asks if "addresses" in it}
+        self.assertEqual(found, {"by_network": [{"text": it, "value": 1} for it in first]})
+        out = tool("csv", *words, stdin=report).out
+        self.assertIn(f"address,,by_network,top,,2,{first[2]},1\n", out)
+        self.assertNotIn("address,", tool("csv", "--setup", setup, stdin=report).out)
+        words = ("--setup", setup, "--capture", INCIDENTS / "full_link.pcap")
+        ended = tool("json", *words, stdin=report)
+        self.assertEqual((ended.status, ended.out), (2, ""))
+        self.assertIn("full_link.pcap is not the capture of the report", ended.err)
+
+    def test_only_networks_have_them(self) -> None:
+        capture = EXAMPLES / "web_and_dns.pcap"
+        setup = EXAMPLES / "web_and_dns.setup"
+        report = confluo("run", "--setup", setup, "--writers", "1", capture).out
+        with mock.patch("confluo_report.report_addresses.again_of", side_effect=AssertionError):
+            self.assertNotIn(
+                "addresses", tool("json", "--setup", setup, "--capture", capture, stdin=report).out
+            )
+        ended = tool("json", "--capture", capture, stdin="cut 0\nhost 0 @0\n")
+        self.assertIn("--capture is for a report of `run`", ended.err)
 
 
 class Percents(unittest.TestCase):
