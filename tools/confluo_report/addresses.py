@@ -5,10 +5,12 @@ halves, first, and then the low halves within networks.
 
 Which networks must be asked again, so that the first N addresses are right? No address has more than its network has
 (and its least is at most the network's greatest). So a network can be left out only if N addresses are known that all
-come before any that it could have: they have more than the network, or as much and are lower. All others are asked.
+come before any that it could have: they have more than the network, or as much and are lower. All others are asked,
+those with the most first, 16 at a time.
 
-One answer lists at most 1,000 networks. Those behind the last one have at most as much as that one. If that could
-still matter, the networks are asked in two parts, divided in the middle of the listed ones, and so on.
+Sometimes that would be very many: networks of many addresses that all have about as much. And one answer lists at most
+1,000 networks; those behind have at most as much as the last one. If after a few runs there are still networks that
+could matter, listed or not, the packets are listed instead and added up by address.
 
 Packets that are not IPv6 have the network 0 too. They are left out by what is asked of it.
 
@@ -18,7 +20,7 @@ asked again: as addresses of IPv6, as packets that are not IP, and as those that
 
 from __future__ import annotations
 
-from dataclasses import dataclass, field, replace
+from dataclasses import dataclass, replace
 from ipaddress import IPv4Address
 from typing import Callable, Sequence
 
@@ -30,14 +32,17 @@ from .setups import MOST, PACKETS
 from .values import address_text
 
 HALF = 2**64
+MOST_RUNS = 4
 # The key that is ranked, the part and the expression: what is asked again. Without a key it is the part of all.
 Again = tuple[str, str, str]
 IPV6 = "kind>=1 and etype==0x86dd"
+# The place of an address in the answer: its value with a minus, and the address.
+Rank = tuple[int, int]
 
 
 @dataclass(frozen=True)
 class Answer:
-    """The first keys, how many the answer could list, and a note where captures together leave it open."""
+    """The first keys, and a note where captures together leave some open."""
 
     top: Top
     note: str = ""
@@ -47,7 +52,12 @@ class Answer:
         return len(self.top.keys) >= MOST_TOP
 
 
-Asker = Callable[[list[Again]], list[Answer]]
+@dataclass(frozen=True)
+class Asker:
+    """Asks the program: `again` at most 16 rankings in one run, and `values` for the part of every address of IPv6."""
+
+    again: Callable[[Sequence[Again]], list[Answer]]
+    values: Callable[[Query, str], dict[int, int]]
 
 
 @dataclass(frozen=True)
@@ -60,130 +70,92 @@ class Ranked:
     texts: tuple[str, ...] | None = None
 
 
-@dataclass(frozen=True)
-class _Area:
-    """Networks from low to high, of which one list is known, or one network.
-
-    No address in it comes before `rank`, the value with a minus, and the address.
-    """
-
-    rank: tuple[int, int]
-    low: int
-    high: int
-    middle: int
-
-    @property
-    def is_one(self) -> bool:
-        return self.low == self.high
-
-
-@dataclass
-class _Search:
-    query: Query
-    may_split: bool
-    known: dict[int, int] = field(default_factory=dict)
-    networks: set[int] = field(default_factory=set)
-    areas: list[_Area] = field(default_factory=list)
-    is_all: bool = True
-    note: str = ""
-
-    def add_networks(self, answer: Answer, low: int, high: int) -> None:
-        """The networks from low to high, as far as the answer lists them."""
-        self.note = self.note or answer.note
-        keys = [it.key for it in answer.top.keys]
-        for it in answer.top.keys:
-            if it.key not in self.networks:
-                self.areas.append(_Area((-it.value, it.key * HALF), it.key, it.key, it.key))
-        self.networks.update(keys)
-        if answer.is_full and self.may_split and low < high:
-            last = answer.top.keys[-1]
-            rank = (-last.value, (last.key + 1) * HALF)
-            self.areas.append(_Area(rank, low, high, sorted(keys)[len(keys) // 2 - 1]))
-
-    def add_addresses(self, answer: Answer, network: int) -> None:
-        self.note = self.note or answer.note
-        self.is_all = self.is_all and not answer.is_full
-        self.known.update((network * HALF + it.key, it.value) for it in answer.top.keys)
-
-    def best(self) -> list[tuple[int, int]]:
-        """The first of the known addresses, each behind its value with a minus."""
-        return sorted((-value, address) for address, value in self.known.items())[: self.query.count]
-
-    def due(self) -> list[_Area]:
-        """Areas that could have an address before the last one of the first N, the best of them first."""
-        best = self.best()
-        last = best[-1] if len(best) == self.query.count else None
-        there = sorted((it for it in self.areas if last is None or it.rank < last), key=lambda it: it.rank)
-        lanes, found = 0, []
-        for it in there:
-            lanes += 1 if it.is_one else 2
-            if lanes > MOST["lane"]:
-                break
-            found.append(it)
-        return found
-
-    def again(self, area: _Area) -> list[Again]:
-        """What is asked of an area: its addresses, or the networks of both parts."""
-        key, query = self.query.key, self.query
-        if area.is_one:
-            network = f"{key}=={area.low:#018x}" + (f" and {IPV6}" if not area.low else "")
-            return [(f"{key}_low", query.part, _within(query, network))]
-        parts = ((area.low, area.middle), (area.middle + 1, area.high))
-        spans = (f"{key} in {low:#018x}..{high:#018x}" for low, high in parts)
-        return [(key, query.bound, _within(query, it)) for it in spans]
-
-    def take(self, area: _Area, answers: Sequence[Answer]) -> None:
-        self.areas.remove(area)
-        if area.is_one:
-            self.add_addresses(answers[0], area.low)
-            return
-        self.add_networks(answers[0], area.low, area.middle)
-        self.add_networks(answers[1], area.middle + 1, area.high)
-
-
-def _within(query: Query, narrower: str) -> str:
+def within(query: Query, narrower: str) -> str:
     """The question's condition and a narrower one."""
     condition = narrower if query.expression == "*" else f"({query.expression}) and {narrower}"
     try:
         return program_form(PACKETS["packet6"], condition)
     except TooLong as fault:
-        raise Complaint(
-            f"`{query.text}`: its condition is too long to ask for whole addresses; {query.key}/64 ranks networks"
-        ) from fault
+        why = f"its condition is too long to ask for whole addresses; {query.key}/64 ranks networks"
+        raise Complaint(f"`{query.text}`: {why}") from fault
 
 
-def whole_addresses(query: Query, first: Answer, may_split: bool, ask: Asker) -> Ranked:
-    """The first addresses of the question, whose networks the answer lists; `ask` answers at most 16 more at a time."""
-    search = _Search(query, may_split)
-    search.add_networks(first, 0, HALF - 1)
-    due = search.due()
-    while due:
-        wanted = [search.again(it) for it in due]
-        answers = iter(ask([it for its in wanted for it in its]))
-        for area, its in zip(due, wanted):
-            search.take(area, [next(answers) for _ in its])
-        due = search.due()
-    top = Top(tuple(Pair(address, -value) for value, address in search.best()))
-    is_all = search.is_all and not search.areas and len(search.known) == len(top.keys)
+def _best(query: Query, known: dict[int, int]) -> list[Rank]:
+    """The ranks of the first addresses."""
+    return sorted((-value, address) for address, value in known.items())[: query.count]
+
+
+def _could_matter(query: Query, known: dict[int, int], rank: Rank) -> bool:
+    """Whether an address of that rank could be among the first."""
+    best = _best(query, known)
+    return len(best) < query.count or rank < best[-1]
+
+
+def _searched(query: Query, networks: Answer, asker: Asker) -> dict[int, int] | None:
+    """Addresses with their values, the first of which are right; nothing if it would take too many runs."""
+    known: dict[int, int] = {}
+    waiting = [(-it.value, it.key * HALF) for it in networks.top.keys]
+    for _ in range(MOST_RUNS):
+        best = _best(query, known)
+        last = best[-1] if len(best) == query.count else None
+        due = [it for it in waiting if last is None or it < last][: MOST["lane"]]
+        if not due:
+            break
+        keys = [address // HALF for _, address in due]
+        for key, answer in zip(keys, asker.again([_lows(query, it) for it in keys])):
+            if answer.note:
+                return None
+            known.update((key * HALF + it.key, it.value) for it in answer.top.keys)
+        waiting = [it for it in waiting if it not in due]
+    if networks.is_full:
+        # Those that are not listed.
+        last_listed = networks.top.keys[-1]
+        waiting.append((-last_listed.value, (last_listed.key + 1) * HALF))
+    return None if any(_could_matter(query, known, it) for it in waiting) else known
+
+
+def _lows(query: Query, network: int) -> Again:
+    """What is asked of a network."""
+    narrower = f"{query.key}=={network:#018x}" + ("" if network else f" and {IPV6}")
+    return f"{query.key}_low", query.part, within(query, narrower)
+
+
+def whole_addresses(query: Query, networks: Answer, asker: Asker) -> Ranked:
+    """The first addresses of the question, whose networks the answer lists by their `bound`."""
+    known = None if networks.note else _searched(query, networks, asker)
+    is_all = known is not None and len(networks.top.keys) < MOST_TOP and _asked_all(networks, known)
+    if known is None:
+        known, is_all = asker.values(query, within(query, IPV6)), True
+    best = _best(query, known)
+    top = Top(tuple(Pair(address, -value) for value, address in best))
     texts = tuple(address_text(it.key) for it in top.keys)
-    return Ranked(top, is_all and not search.note, search.note, texts)
+    return Ranked(top, is_all and len(known) == len(best), "", texts)
 
 
-def both_families(query: Query, first: Answer, may_split: bool, ask: Asker) -> Ranked | None:
+def _asked_all(networks: Answer, known: dict[int, int]) -> bool:
+    """Whether all addresses are known: each network was asked, and lists fewer than could be."""
+    counts: dict[int, int] = {}
+    for it in known:
+        counts[it // HALF] = counts.get(it // HALF, 0) + 1
+    there = {it.key for it in networks.top.keys if it.key}
+    return there <= set(counts) and all(it < MOST_TOP for it in counts.values())
+
+
+def both_families(query: Query, first: Answer, asker: Asker) -> Ranked | None:
     """The first addresses of IPv4 and IPv6, where the answer has those of IPv4; nothing where all are IPv4."""
     if query.part != "least" and all(it.key for it in first.top.keys):
         # An address of IPv6 has no more than the value 0, which is not among the first.
         return None
     key = query.key
-    six = replace(query, key=f"{key}6", is_whole=True, expression=_within(query, IPV6))
-    networks, zero, others = ask(
+    six = replace(query, key=f"{key}6", is_whole=True, expression=within(query, IPV6))
+    networks, zero, others = asker.again(
         [
             (six.key, six.bound, six.expression),
-            ("", query.part, _within(query, f"kind>=1 and etype!=0x86dd and {key}==0.0.0.0")),
-            ("", query.part, _within(query, "kind==0")),
+            ("", query.part, within(query, f"kind>=1 and etype!=0x86dd and {key}==0.0.0.0")),
+            ("", query.part, within(query, "kind==0")),
         ]
     )
-    found = whole_addresses(six, networks, may_split, ask)
+    found = whole_addresses(six, networks, asker)
     rows = [(-it.value, 4, it.key, str(IPv4Address(it.key))) for it in first.top.keys if it.key]
     rows += [(-it.value, 4, 0, "0.0.0.0") for it in zero.top.keys]
     rows += [(-it.value, 6, it.key, text) for it, text in zip(found.top.keys, found.texts or ())]
@@ -191,4 +163,4 @@ def both_families(query: Query, first: Answer, may_split: bool, ask: Asker) -> R
     shown = sorted(rows)[: query.count]
     top = Top(tuple(Pair(number, -value) for value, _, number, _ in shown))
     is_all = not first.is_full and found.is_all and len(shown) == len(rows)
-    return Ranked(top, is_all, first.note or found.note, tuple(text for *_, text in shown))
+    return Ranked(top, is_all, first.note, tuple(text for *_, text in shown))

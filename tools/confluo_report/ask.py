@@ -12,8 +12,8 @@ from dataclasses import dataclass, field, replace
 from typing import Iterator, Mapping, Sequence
 
 from . import program
-from .addresses import Again, Answer, Ranked, both_families, whole_addresses
-from .details import details_of
+from .addresses import Again, Answer, Asker, Ranked, both_families, whole_addresses
+from .details import details_of, dumped_values
 from .errors import Complaint
 from .explain import Case, explain
 from .expressions import Attribute
@@ -33,7 +33,7 @@ from .questions import (
     write_setup,
 )
 from .reports import Body, Fired, Found, Pair, Quad, Report, Top, lines_of, parse_report, refusal_of
-from .setups import Setup, SetupFault, parse_setup
+from .setups import PARTS, Setup, SetupFault, parse_setup
 from .show import Viewer, bucket_lines, count_text, body_lines, silence_line, top_lines
 from .tables import Style
 from .unparsed import Unparsed, unparsed_line
@@ -296,16 +296,36 @@ def _ranked_again(job: Job, query: Query, joined: Joined, setup: Setup, files: F
     question = setup.question(joined.name)
     if question is None or not (query.is_whole or query.is_of_both):
         return None
-
-    def ask(again: Sequence[Again]) -> list[Answer]:
-        return again_of(job, query, again, files)
-
     # All keys that are listed, and not only as many as the question wants.
     tops = [body for _, body in joined.parts if isinstance(body, Top)]
     first = Answer(*joined_top(question, tops, MOST_TOP))
-    if query.is_whole:
-        return whole_addresses(query, first, not job.is_several, ask)
-    return both_families(query, first, not job.is_several, ask)
+    rank = whole_addresses if query.is_whole else both_families
+    return rank(query, first, asker_of(job, query, files))
+
+
+def asker_of(job: Job, query: Query, files: Files) -> Asker:
+    """Asks again about the captures."""
+    return Asker(
+        lambda again: again_of(job, query, again, files),
+        lambda query, expression: _values(job, query, expression, files),
+    )
+
+
+def _values(job: Job, query: Query, expression: str, files: Files) -> dict[int, int]:
+    """The part of every address: the packets are listed, and what `confluo dump` prints of them is added up."""
+    text = f"schema {job.schema}\nask q list {expression}\n"
+    valid(text)
+    names = (query.key, f"{query.key}_low", query.measure)
+    parts: dict[int, list[int]] = {}
+    for named, capture in zip(_reports(job, text, *files), files[1]):
+        (body,) = [it.body for it in named.report.asks]
+        assert isinstance(body, Found)
+        for high, low, value in dumped_values(capture, set(body.rows), job.may_be_cut, names):
+            address = (high << 64) + low
+            known = parts.setdefault(address, [0, 0, value, value])
+            known[:] = known[0] + 1, known[1] + value, min(known[2], value), max(known[3], value)
+    place = PARTS.index(query.part)
+    return {address: it[place] for address, it in parts.items()}
 
 
 def again_of(job: Job, query: Query, again: Sequence[Again], files: Files) -> list[Answer]:

@@ -3,10 +3,12 @@
 from __future__ import annotations
 
 import ipaddress
+import re
 import shlex
 import tempfile
 from dataclasses import dataclass, field
-from typing import Callable, Iterable, Mapping, Sequence
+from ipaddress import IPv4Address
+from typing import Callable, Iterable, Iterator, Mapping, Sequence
 
 from . import program
 from .captures import CaptureFault, Reading
@@ -111,6 +113,29 @@ def _dumped(capture: str, wanted: set[int], reading: Reading) -> tuple[dict[int,
         raise Complaint(f"{capture}: `confluo dump` refuses it with status {ran.status}: {ran.text.strip()}")
     lines = ran.text.splitlines()[1:]
     return {at: _packet(line, reading.schema) for at, line in zip(there, lines)}, found
+
+
+def dumped_values(
+    capture: str, wanted: set[int], may_be_cut: bool, names: Sequence[str]
+) -> Iterator[tuple[int, ...]]:
+    """The values of these names of each packet with these numbers, by `confluo dump`, in the order of the capture."""
+    if not wanted:
+        return
+    form = re.compile(r"\b.*".join(rf" {name}=(\S+)" for name in sorted(names, key=_place6)))
+    places = [sorted(names, key=_place6).index(it) for it in names]
+    with tempfile.NamedTemporaryFile(prefix="confluo-report-") as file:
+        copy_found(capture, wanted, file, Reading(may_be_cut, "packet6"))  # type: ignore[arg-type]
+        file.flush()
+        for line in program.lines(["dump", "--schema", "packet6", file.name]):
+            found = form.search(line)
+            if found:
+                values = [int(it, 0) if it.isalnum() else int(IPv4Address(it)) for it in found.groups()]
+                yield tuple(values[it] for it in places)
+
+
+def _place6(name: str) -> int:
+    """The place of the attribute in a line."""
+    return [it.name for it in PACKETS["packet6"]].index(name)
 
 
 def dumped(

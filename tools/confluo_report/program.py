@@ -7,7 +7,7 @@ import pathlib
 import shutil
 import subprocess
 from dataclasses import dataclass
-from typing import BinaryIO, Sequence
+from typing import BinaryIO, Iterator, Sequence
 
 from . import captures
 from .errors import Complaint
@@ -52,6 +52,18 @@ def run(words: Sequence[str], stdin: BinaryIO | None = None) -> Ran:
     except OSError as error:
         raise Complaint(f"{named} cannot be run: {error.strerror}") from error
     return Ran(done.returncode, done.stdout.decode("ascii", "replace"))
+
+
+def lines(words: Sequence[str]) -> Iterator[str]:
+    """The lines that the program prints, as they come; a Complaint if it does not end with 0."""
+    named = program()
+    with subprocess.Popen(
+        [named, *words], stdin=subprocess.DEVNULL, stdout=subprocess.PIPE, encoding="ascii"
+    ) as process:
+        assert process.stdout
+        yield from process.stdout
+    if process.returncode:
+        raise Complaint(f"`confluo {words[0]}` ended with status {process.returncode}")
 
 
 def is_utf8(word: str) -> bool:

@@ -4,8 +4,8 @@ from __future__ import annotations
 
 from typing import Mapping
 
-from .addresses import Again, Answer, Ranked, whole_addresses
-from .ask import Files, Job, again_of, files_of
+from .addresses import Ranked, whole_addresses
+from .ask import Files, Job, asker_of, files_of
 from .errors import Complaint
 from .questions import Query
 from .reports import Report, Top
@@ -33,15 +33,13 @@ def _query(setup: Setup, question: Question) -> Query | None:
 
 
 def _addresses(job: Job, query: Query, body: Top, files: Files) -> Ranked:
-    def ask(again: list[Again]) -> list[Answer]:
-        return again_of(job, query, again, files)
-
-    networks, same = ask(
+    asker = asker_of(job, query, files)
+    networks, same = asker.again(
         [(query.key, query.bound, query.expression), (query.key, query.part, query.expression)]
     )
     if same.top.keys[: len(body.keys)] != body.keys:
         raise Complaint(f"{job.captures[0]} is not the capture of the report: it has other networks of IPv6")
-    return whole_addresses(query, networks, True, ask)
+    return whole_addresses(query, networks, asker)
 
 
 def addresses_of(report: Report, setup: Setup | None, capture: str) -> Mapping[str, Ranked]:

@@ -8,14 +8,15 @@ import re
 import struct
 import tempfile
 import unittest
+from typing import Sequence
 from unittest import mock
 
 from support import EXAMPLES, INCIDENTS, confluo, frame, needs_words, pcap, tool
 
 from confluo_report import addresses, ask
-from confluo_report.addresses import Again, Answer, whole_addresses
+from confluo_report.addresses import Again, Answer, Asker, whole_addresses
 from confluo_report.expressions import parse_expression
-from confluo_report.questions import parse_question
+from confluo_report.questions import Query, parse_question
 from confluo_report.reports import Pair, Top
 from confluo_report.setups import PACKETS
 from confluo_report.show import percent
@@ -38,9 +39,12 @@ class Store:
     """Packets with an address and a number each, and answers about them as the program gives them."""
 
     def __init__(self, packets: list[tuple[int, int]]) -> None:
-        self.packets, self.asked = packets, 0
+        self.packets, self.asked, self.read = packets, 0, 0
 
     def top(self, key: str, part: str, expression: str) -> Answer:
+        return self.first(key, part, expression, MOST)
+
+    def first(self, key: str, part: str, expression: str, most: int) -> Answer:
         holds = parse_expression(SCHEMA, expression).holds
         found: dict[int, list[int]] = {}
         for address, value in self.packets:
@@ -52,12 +56,20 @@ class Store:
         pairs = sorted(
             (Pair(it, PARTS[part](its)) for it, its in found.items()), key=lambda it: (-it.value, it.key)
         )
-        return Answer(Top(tuple(pairs[:MOST])))
+        return Answer(Top(tuple(pairs[:most])))
 
-    def again(self, asked: list[Again]) -> list[Answer]:
+    def again(self, asked: Sequence[Again]) -> list[Answer]:
         assert 1 <= len(asked) <= 16
         self.asked += len(asked)
         return [self.top(*it) for it in asked]
+
+    def values(self, query: Query, expression: str) -> dict[int, int]:
+        self.read += 1
+        assert expression == "kind>=1 && etype==0x86dd"
+        return {address: -value for value, address in self.ranked(query.part)}
+
+    def asker(self) -> Asker:
+        return Asker(self.again, self.values)
 
     def ranked(self, part: str) -> list[tuple[int, int]]:
         found: dict[int, list[int]] = {}
@@ -78,7 +90,7 @@ def drawn(draw: random.Random) -> list[tuple[int, int]]:
 
 class Addresses(unittest.TestCase):
     def test_the_first_addresses_are_right(self) -> None:
-        draw = random.Random(7)
+        draw, read = random.Random(7), 0
         with mock.patch.object(addresses, "MOST_TOP", MOST):
             for _ in range(120):
                 store = Store(drawn(draw))
@@ -86,21 +98,33 @@ class Addresses(unittest.TestCase):
                     count = draw.randrange(1, MOST)
                     query = parse_question(f"top {count} src6 by {measure}")
                     first = store.top("src6", query.bound, "*")
-                    ranked = whole_addresses(query, first, True, store.again)
+                    ranked = whole_addresses(query, first, store.asker())
                     wanted = store.ranked(part)
                     found = [(-it.value, it.key) for it in ranked.top.keys]
                     self.assertEqual(found, wanted[:count], (measure, count))
                     self.assertTrue(not ranked.is_all or len(found) == len(wanted))
+                read += store.read
+        self.assertGreater(read, 10)
 
     def test_only_networks_that_matter_are_asked(self) -> None:
-        # One network has all but one of the packets of the others.
-        packets = [(5 * HALF + it, 100) for it in range(4)] + [((10 + it) * HALF, 99) for it in range(5)]
+        # One network has more than any other, and its addresses have more than the others' networks.
+        packets = [(5 * HALF + it, 100) for it in range(4)] + [((10 + it) * HALF, 99) for it in range(40)]
         store = Store(packets)
-        with mock.patch.object(addresses, "MOST_TOP", MOST):
-            query = parse_question("top 3 src6 by bytes")
-            ranked = whole_addresses(query, store.top("src6", "sum", "*"), True, store.again)
+        query = parse_question("top 3 src6 by bytes")
+        with mock.patch.object(addresses, "MOST", {"lane": 2}):
+            ranked = whole_addresses(query, Answer(Top((Pair(5, 400), Pair(10, 99)))), store.asker())
         self.assertEqual([it.key for it in ranked.top.keys], [5 * HALF, 5 * HALF + 1, 5 * HALF + 2])
-        self.assertLess(store.asked, 16)
+        self.assertEqual((store.asked, store.read, ranked.is_all), (2, 0, False))
+
+    def test_packets_are_read_if_too_many_networks_could_matter(self) -> None:
+        packets = [(net * HALF + low, 1) for net in range(1, 4 * 16 + 5) for low in range(2)]
+        store = Store(packets[1:])
+        with mock.patch.object(Store, "top", lambda *it: Store.first(*it, most=1000)):
+            query = parse_question("top 3 src6 by packets")
+            ranked = whole_addresses(query, store.top("src6", "count", "*"), store.asker())
+        # The address with the lowest number is in the network that has the least.
+        self.assertEqual([it.key for it in ranked.top.keys], [HALF + 1, 2 * HALF, 2 * HALF + 1])
+        self.assertEqual((store.asked, store.read), (64, 1))
 
     def test_networks_and_whole_addresses(self) -> None:
         self.assertTrue(parse_question("top dst6 by packets").is_whole)
@@ -224,7 +248,7 @@ class Reports(unittest.TestCase):
         capture = EXAMPLES / "web_and_dns.pcap"
         setup = EXAMPLES / "web_and_dns.setup"
         report = confluo("run", "--setup", setup, "--writers", "1", capture).out
-        with mock.patch("confluo_report.report_addresses.again_of", side_effect=AssertionError):
+        with mock.patch("confluo_report.report_addresses.asker_of", side_effect=AssertionError):
             self.assertNotIn(
                 "addresses", tool("json", "--setup", setup, "--capture", capture, stdin=report).out
             )
