@@ -74,6 +74,8 @@ MEANT = {
 }
 HALF = 2**64
 MOST_CONJUNCTIONS = 256
+MOST_READ = 1000
+MOST_DEPTH = 100
 
 
 class ConditionFault(Exception):
@@ -132,7 +134,7 @@ class _Reader:
             at = found.end()
             at += len(self.text[at:]) - len(self.text[at:].lstrip(" "))
         self.tokens.append(_Token("", len(self.text)))
-        self.at = 0
+        self.at = self.depth = 0
 
     def next(self) -> _Token:
         return self.tokens[self.at]
@@ -171,13 +173,18 @@ class _Reader:
     def one(self) -> Node:
         """A comparison or a group, or its opposite."""
         token = self.next()
-        if token.text in NOT:
-            self.take()
-            return opposite(self.one())
-        if token.text != "(":
+        if token.text not in (*NOT, "("):
             return self.comparison()
         self.take()
+        self.depth += 1
+        if self.depth > MOST_DEPTH:
+            raise ConditionFault(token.place, f"`not` and parentheses are nested at most {MOST_DEPTH} deep")
+        if token.text in NOT:
+            node = opposite(self.one())
+            self.depth -= 1
+            return node
         node = self.any()
+        self.depth -= 1
         if self.next().text != ")":
             raise self.fail(f"`and`, `or` or the `)` of the `(` at place {token.place + 1}", self.next())
         self.take()
@@ -279,6 +286,10 @@ def _plain(name: str, text: str) -> str:
     return text
 
 
+def _comparisons(node: Node) -> int:
+    return 1 if isinstance(node, Literal) else sum(map(_comparisons, node.parts))
+
+
 def _written_out(node: Node) -> tuple[int, int]:
     """How many conjunctions the node is if nothing is left out, and how many comparisons."""
     if isinstance(node, Literal):
@@ -315,7 +326,7 @@ def program_form(schema: Sequence[Attribute], text: str) -> str:
         return text.strip(" ")
     except ExpressionFault:
         node = _Reader(schema, text).whole()
-    found = _conjunctions(node)
+    found = _conjunctions(node) if _comparisons(node) <= MOST_READ else None
     count = _written_out(node)[1] if found is None else weight_of(found)
     if found is None or count > MOST_ATOMS:
         raise TooLong(count)

@@ -38,6 +38,7 @@ FORMS = (
     ("(dport==80) and dport==443", "ts<0"),
     ("not len<0", "*"),
     ("* ", "*"),
+    ("(" * 99 + "not len>5" + ")" * 99, "len<=5"),
 )
 # Where the fault is, and why.
 FAULTS = (
@@ -64,6 +65,8 @@ FAULTS = (
     ("src6>2001:db8::1", 5, "compare only by ==, != and in"),
     ("flags & 2", 6, "`&` is not part of a condition"),
     ("* and len>5", 0, "`*` means every packet and stands alone"),
+    ("(" * 5000, 100, "are nested at most 100 deep"),
+    ("not " * 5000, 400, "are nested at most 100 deep"),
 )
 NUMBERS = [Attribute(it, "u8") for it in "abc"]
 MOST = 255
@@ -158,6 +161,7 @@ class Conditions(unittest.TestCase):
             (all_but(("src", "dst"), (*PRIVATE, "127.0.0.0/8")), 50),
             (" and ".join(f"({name}==1 or {name}==2)" for name in ("len", "ttl", "win", "tos")), 64),
             (" or ".join(f"len=={it}" for it in range(33)), 33),
+            (" and ".join(f"not len=={it}" for it in range(5000)), 5000),
             (
                 " and ".join(f"({name}==1 or {name}==9)" for name in [it.name for it in SCHEMA[5:18]]),
                 13 * 2**13,
