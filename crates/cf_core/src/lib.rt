@@ -5,8 +5,6 @@
 mod cells;
 mod event;
 mod lanes;
-#[cfg(test)]
-mod tests;
 mod world;
 
 pub use event::{Act, Event};

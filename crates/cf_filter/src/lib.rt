@@ -9,8 +9,6 @@ mod bytes;
 mod expr;
 mod fault;
 mod range;
-#[cfg(test)]
-mod tests;
 mod value;
 
 pub use atom::named_op;

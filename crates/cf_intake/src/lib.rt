@@ -16,8 +16,6 @@ mod reader;
 mod reads;
 mod refusal;
 mod rows;
-#[cfg(test)]
-mod tests;
 
 pub use devices::write_all;
 pub use files::{collect_rows, first_lines, open_packets, read_lines, read_setup};

@@ -35,5 +35,3 @@ pub use stage::Stage;
 
 #[cfg(test)]
 mod length_tests;
-#[cfg(test)]
-mod tests;

@@ -20,6 +20,3 @@ pub use laws::{
     files_are_judged_by_the_rules,
 };
 pub use reader::PcapNg;
-
-#[cfg(test)]
-mod tests;

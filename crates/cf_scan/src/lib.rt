@@ -8,8 +8,6 @@ mod found;
 mod laws;
 mod logs;
 mod parts;
-#[cfg(test)]
-mod tests;
 mod total;
 
 pub use found::scan;

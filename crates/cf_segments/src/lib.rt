@@ -6,7 +6,5 @@
 mod cuts;
 mod readers;
 mod segments;
-#[cfg(test)]
-mod tests;
 
 pub use segments::{Closing, Sealing, Segment, Segments, TurnFault};

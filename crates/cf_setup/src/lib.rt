@@ -25,8 +25,6 @@ mod setup;
 mod source;
 mod statement;
 mod tally;
-#[cfg(test)]
-mod tests;
 mod trigger;
 mod values;
 mod width;

@@ -1,6 +1,6 @@
-use super::*;
 use cf_packet6::PacketSchema;
 use cf_plain::{Ask, suits};
+use cf_setup::*;
 use std::alloc::Global;
 use std::test::Fail;
 

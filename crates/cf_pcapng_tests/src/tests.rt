@@ -1,6 +1,6 @@
 // Captures by tables.
-use crate::{NgFault, PcapNg};
 use cf_pcap::{Frame, LinkSet, Scope};
+use cf_pcapng::{NgFault, PcapNg};
 use std::alloc::{AllocError, Global};
 use std::test::Fail;
 

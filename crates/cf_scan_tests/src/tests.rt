@@ -1,12 +1,12 @@
 ghost use Rattle.std.specs.Prelude.{◌↔◌, IsTrue};
 ghost use Rattle.cf_scan.specs.Scans.{FitAll};
 
-use super::*;
 use cf_fold::Quad;
 use cf_row::{
     Atom, Attr, Conjunction, Entry, Expr, Kind, Memory, Name, Op, Row, Schema, Value, fits,
     is_of_schema,
 };
+use cf_scan::*;
 use cf_shape::is_lawful_measure;
 use std::alloc::Global;
 use std::process::Abort;

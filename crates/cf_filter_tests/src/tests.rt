@@ -1,6 +1,6 @@
 ghost use Rattle.cf_row.specs.Expr.{IsOfSchema};
 
-use super::*;
+use cf_filter::*;
 use cf_row::{Attr, Expr, Kind, Memory, Name, Row, Schema, Value, fits, holds};
 use std::alloc::Global;
 use std::test::Fail;

@@ -1,4 +1,4 @@
-use super::*;
+use cf_core::*;
 use cf_row::{Attr, Conjunction, Expr, Kind, Memory, Name, Row, Schema, Value};
 use cf_shape::{Key, Lane, Shape, belongs};
 use std::alloc::Global;

@@ -1,5 +1,5 @@
 // Captures by their first bytes, under both schemas of packets, whole and truncated.
-use super::*;
+use cf_intake::*;
 use cf_outside::SteadyShelf;
 use cf_packet6::PacketSchema;
 use cf_row::{Memory, Row, Schema, fits};

@@ -1,8 +1,8 @@
 ghost use Rattle.std.specs.Prelude.{[], IfOk, IsTrue};
 ghost use Rattle.cf_segments.specs.Segments.{AllowsSegments, HoldsRows};
 
-use crate::{Segments, TurnFault};
 use cf_row::{Attr, Conjunction, Expr, Kind, Memory, Name, Schema};
+use cf_segments::{Segments, TurnFault};
 use cf_shape::{Key, Lane, Shape, belongs};
 use std::alloc::Global;
 use std::process::Abort;

@@ -1,5 +1,5 @@
 // Captures by tables.
-use crate::{Frame, LinkSet, Pcap, PcapFault, Scope};
+use cf_pcap::{Frame, LinkSet, Pcap, PcapFault, Scope};
 use std::alloc::{AllocError, Global};
 use std::process::Abort;
 use std::test::Fail;

@@ -1,0 +1,5 @@
+//! Expressions and values, tried: by tables of texts. There is no code here but tests.
+#![tactic(auto)]
+
+#[cfg(test)]
+mod tests;

@@ -1,0 +1,5 @@
+//! Files that are read, tried. There is no code here but tests.
+#![tactic(auto)]
+
+#[cfg(test)]
+mod tests;

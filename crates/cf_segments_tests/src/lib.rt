@@ -1,0 +1,5 @@
+//! Logs of several segments, tried. There is no code here but tests.
+#![tactic(auto)]
+
+#[cfg(test)]
+mod tests;
