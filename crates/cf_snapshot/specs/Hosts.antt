@@ -4,7 +4,9 @@ use Rattle.std.specs.declared.result.Result.{Result}
 use Rattle.std.specs.declared.result.Result.TheVariants.{Ok, Err}
 use Rattle.cf_row.specs.Row.{RowValue}
 use Rattle.cf_row.specs.declared.row.Entry.{Entry}
+use Rattle.cf_segments.specs.Needed.{IsNeeded}
 use Rattle.cf_shape.specs.Lanes.{ShapeValue}
+use Rattle.cf_shape.specs.Nodes.{distinct}
 use Rattle.cf_words.specs.Words.{Spot}
 use Rattle.cf_table.specs.Values.{PassValue, LogValue, IsOf, book_of}
 use Rattle.cf_table.specs.Moves.{HasAll, AreFit, MarkedIsFull}
@@ -52,6 +54,15 @@ pub record HasUsedFor (shape : ShapeValue) (row : RowValue) (before used : List 
   pub is : used ≡ before ++ spots
   pub on : (j : ℕ) (s : Spot) → slice_get spots j ≡ Some s → IsOnPath shape row s
   pub full : answer ≡ Err NodesFull → length used ≡ shape.nodes
+
+-- the path of some of these rows goes through each used node
+abbrev pub AreNeeded : ShapeValue → List RowValue → List Spot → Type 0
+AreNeeded shape rows used = (j : ℕ) (s : Spot) → slice_get used j ≡ Some s → IsNeeded shape rows s
+
+-- Some rows that have this one, and that need the used nodes, need more different nodes than there are.
+abbrev pub LacksNodes : ShapeValue → RowValue → List Spot → Type 0
+LacksNodes shape row used = (rows : List RowValue) (place : ℕ) → slice_get rows place ≡ Some row → AreNeeded shape rows used
+    → shape.nodes < distinct shape rows
 
 -- host h of the snapshot has covered as many records, and is frozen where that one is
 pub record StandsFor (s : SnapValue) (h : ℕ) (host : HostValue) : Type 0 where

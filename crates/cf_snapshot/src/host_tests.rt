@@ -11,7 +11,12 @@ use std::process::Abort;
 use std::test::Fail;
 
 // A schema of times and of numbers of one byte, by which the one lane files all rows.
-fn shape<R: Abort>(rt: &R, alloc: Global, capacity: u32, nodes: u32) -> Result<Shape, Memory>
+pub(crate) fn shape_of<R: Abort>(
+    rt: &R,
+    alloc: Global,
+    capacity: u32,
+    nodes: u32,
+) -> Result<Shape, Memory>
     ensures { IfOk result (λ shape. shape.writers ≡ 1) }
 {
     let mut attrs = Vec::new(alloc);
@@ -32,6 +37,14 @@ fn shape<R: Abort>(rt: &R, alloc: Global, capacity: u32, nodes: u32) -> Result<S
     })?;
     assert!(rt; belongs(&schema, &lanes));
     Ok(Shape::new(schema, lanes, capacity, 1, nodes, 10).expect(rt, "a shape"))
+}
+
+// A row of that key.
+pub(crate) fn row_of(alloc: Global, key: u8) -> Result<Row, Memory> {
+    let mut values = Vec::new(alloc);
+    values.push(Value::Num(7))?;
+    values.push(Value::Num(u64::from(key)))?;
+    Ok(Row::new(0, values))
 }
 
 // How many places and nodes there are, how rows of the keys 10, 11 and 20 (hexadecimal) are covered, and the places of those.
@@ -76,10 +89,7 @@ const CASES: [Case; 4] = [
 
 fn cover_each<R: Abort>(rt: &R, alloc: Global, host: &mut Host, case: Case) -> Result<(), Memory> {
     for (key, wanted) in [0x10, 0x11, 0x20].iter().zip(case.answers.iter()) {
-        let mut values = Vec::new(alloc);
-        values.push(Value::Num(7))?;
-        values.push(Value::Num(*key))?;
-        let row = Row::new(0, values);
+        let row = row_of(alloc, *key)?;
         assert!(rt; fits(host.shape().schema(), &row));
         assert!(rt; !host.frozen());
         assert!(rt; host.cover(&row) == *wanted);
@@ -91,7 +101,7 @@ fn cover_each<R: Abort>(rt: &R, alloc: Global, host: &mut Host, case: Case) -> R
 fn a_host_covers_while_there_is_room(rt: HostRuntime) -> Result<(), Fail> {
     let alloc = rt.alloc();
     for case in CASES {
-        let shape = shape(&rt, alloc, case.capacity, case.nodes)?;
+        let shape = shape_of(&rt, alloc, case.capacity, case.nodes)?;
         let mut host = Host::open(alloc, shape)?;
         cover_each(&rt, alloc, &mut host, case)?;
         assert!(rt; !host.frozen());

@@ -2,9 +2,10 @@
 //!
 //! `Snap` is the coordinator and its hosts by themselves, moved by events; an event that isn't lawful changes nothing. The
 //! laws say, of every list of events, that a cut is of one moment. `Host` is a host that runs, with a log; each of its calls is an
-//! event.
+//! event. `take_snapshot` drives hosts, each with the rows of a `Course`, and a `Snap` through the events of a snapshot.
 #![tactic(auto)]
 
+mod course;
 mod event;
 mod host;
 #[cfg(test)]
@@ -14,9 +15,13 @@ mod plan;
 #[cfg(test)]
 mod plan_tests;
 mod snap;
+mod take;
+#[cfg(test)]
+mod take_tests;
 #[cfg(test)]
 mod tests;
 
+pub use course::{Course, Untaken};
 pub use event::SnapEvent;
 pub use host::Host;
 pub use laws::{
@@ -25,3 +30,4 @@ pub use laws::{
 };
 pub use plan::cut_of_turns;
 pub use snap::{Snap, snap_step};
+pub use take::{Pace, Snapshot, take_snapshot};
