@@ -5,3 +5,8 @@ pub mod Cuts
 pub mod Hosting
 pub mod Standing
 pub mod Planning
+pub mod Lacking
+pub mod Coursing
+pub mod Driving
+pub mod Ending
+pub mod Whole

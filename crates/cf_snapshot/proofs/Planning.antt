@@ -58,7 +58,7 @@ covers hosts g (suc count) s sound there free small =
     }
 
 -- what each number of a range carries on, all of them do
-fold_flat : (P : ℕ → SnapValue → Type 0) (f : ℕ → List SnapEvent) (a n b : ℕ) → a + n ≡ b
+pub fold_flat : (P : ℕ → SnapValue → Type 0) (f : ℕ → List SnapEvent) (a n b : ℕ) → a + n ≡ b
     → ((k : ℕ) (s : SnapValue) → a ≤ k → k < b → P k s → P (k + 1) (fold after s (f k))) → (s : SnapValue) → P a s
     → P b (fold after s (flat_map f (range_with_len a n)))
 fold_flat P f a zero b end step s here = let e : a ≡ b = omega (arith, end) in subst (λ k. P k s) e here
@@ -67,7 +67,7 @@ fold_flat P f a (suc n) b end step s here =
     (fold_flat P f (a + 1) n b (omega (arith, end)) (λ k t from to. step k t (omega (arith, from)) to) (fold after s (f a))
     (step a s (omega arith) (omega (arith, end)) here))
 
-fold_map : (P : ℕ → SnapValue → Type 0) (f : ℕ → SnapEvent) (a n b : ℕ) → a + n ≡ b
+pub fold_map : (P : ℕ → SnapValue → Type 0) (f : ℕ → SnapEvent) (a n b : ℕ) → a + n ≡ b
     → ((k : ℕ) (s : SnapValue) → a ≤ k → k < b → P k s → P (k + 1) (after s (f k))) → (s : SnapValue) → P a s → P b (fold after s (map f (range_with_len a n)))
 fold_map P f a zero b end step s here = let e : a ≡ b = omega (arith, end) in subst (λ k. P k s) e here
 fold_map P f a (suc n) b end step s here =
@@ -91,7 +91,7 @@ module _ (hosts turns : ℕ) (some : 0 < hosts) where
   at_quotient : (n q r : ℕ) → r < hosts → n ≡ q * hosts + r → n / hosts ≡ q
   at_quotient n q r low is = ap (λ m. m / hosts) is ∙ div-mul-add q hosts r low
 
-  own_before : turns_of_host hosts turns whose ≡ quotient
+  pub own_before : turns_of_host hosts turns whose ≡ quotient
   own_before = at_quotient (turns + (hosts - 1 - whose)) quotient (hosts - 1) (omega (arith, some)) (omega (arith, parts, below))
 
   own_after : turns_of_host hosts (turns + 1) whose ≡ quotient + 1
@@ -159,12 +159,12 @@ module _ (turn : ℕ) (counts : List ℕ) (turns : ℕ) (some : 0 < length count
       }
 
   -- so many turns went round
-  record Going (n : ℕ) (s : SnapValue) : Type 0 where
-    sound : Sound hosts s
-    tails : (h : ℕ) → h < hosts → tail_of s h ≡ covered h (turns_of_host hosts n h)
-    free : (h : ℕ) → is_frozen s h ≡ false
-    begun : s.has_begun ≡ false
-    released : s.is_released ≡ false
+  pub record Going (n : ℕ) (s : SnapValue) : Type 0 where
+    pub sound : Sound hosts s
+    pub tails : (h : ℕ) → h < hosts → tail_of s h ≡ covered h (turns_of_host hosts n h)
+    pub free : (h : ℕ) → is_frozen s h ≡ false
+    pub begun : s.has_begun ≡ false
+    pub released : s.is_released ≡ false
 
   going_start : Going 0 (at_start hosts)
   going_start = record {
@@ -191,7 +191,7 @@ module _ (turn : ℕ) (counts : List ℕ) (turns : ℕ) (some : 0 < length count
         released = turned.released ∙ g.released;
       }
 
-  all_round : Going turns (fold after (at_start hosts) (turns_round turn counts turns))
+  pub all_round : Going turns (fold after (at_start hosts) (turns_round turn counts turns))
   all_round = fold_flat Going (λ j. turn_of_host turn counts (j % hosts) (j / hosts)) 0 turns turns (omega arith) (λ k s from to g. going_on k s g)
       (at_start hosts) going_start
 
@@ -199,16 +199,16 @@ module _ (turn : ℕ) (counts : List ℕ) (turns : ℕ) (some : 0 < length count
   had host = turns_of_host hosts turns host
 
   -- the first n hosts are frozen
-  record Freezing (n : ℕ) (s : SnapValue) : Type 0 where
-    sound : Sound hosts s
-    fixed : (h : ℕ) → h < hosts → h < n → tail_of s h ≡ covered h (had h + h)
-    going : (h : ℕ) → h < hosts → n ≤ h → tail_of s h ≡ covered h (had h + n)
-    frozen : (h : ℕ) → h < n → is_frozen s h ≡ true
-    free : (h : ℕ) → n ≤ h → is_frozen s h ≡ false
-    begun : s.has_begun ≡ true
-    released : s.is_released ≡ false
+  pub record Freezing (n : ℕ) (s : SnapValue) : Type 0 where
+    pub sound : Sound hosts s
+    pub fixed : (h : ℕ) → h < hosts → h < n → tail_of s h ≡ covered h (had h + h)
+    pub going : (h : ℕ) → h < hosts → n ≤ h → tail_of s h ≡ covered h (had h + n)
+    pub frozen : (h : ℕ) → h < n → is_frozen s h ≡ true
+    pub free : (h : ℕ) → n ≤ h → is_frozen s h ≡ false
+    pub begun : s.has_begun ≡ true
+    pub released : s.is_released ≡ false
 
-  freezing_start : (s : SnapValue) → Going turns s → Freezing 0 (after s Begin)
+  pub freezing_start : (s : SnapValue) → Going turns s → Freezing 0 (after s Begin)
   freezing_start s g =
       let lawful : is_lawful s Begin ≡ true = ap not g.begun in
       subst (Freezing 0) (sym (taken s Begin lawful)) (record {
@@ -222,17 +222,17 @@ module _ (turn : ℕ) (counts : List ℕ) (turns : ℕ) (some : 0 < length count
       })
 
   -- host n is frozen too, and those above it up to m had their turn
-  record Passing (n m : ℕ) (s : SnapValue) : Type 0 where
-    sound : Sound hosts s
-    fixed : (h : ℕ) → h < hosts → h ≤ n → tail_of s h ≡ covered h (had h + h)
-    went : (h : ℕ) → h < hosts → n < h → h < m → tail_of s h ≡ covered h (had h + (n + 1))
-    going : (h : ℕ) → h < hosts → n < h → m ≤ h → tail_of s h ≡ covered h (had h + n)
-    frozen : (h : ℕ) → h < n + 1 → is_frozen s h ≡ true
-    free : (h : ℕ) → n + 1 ≤ h → is_frozen s h ≡ false
-    begun : s.has_begun ≡ true
-    released : s.is_released ≡ false
+  pub record Passing (n m : ℕ) (s : SnapValue) : Type 0 where
+    pub sound : Sound hosts s
+    pub fixed : (h : ℕ) → h < hosts → h ≤ n → tail_of s h ≡ covered h (had h + h)
+    pub went : (h : ℕ) → h < hosts → n < h → h < m → tail_of s h ≡ covered h (had h + (n + 1))
+    pub going : (h : ℕ) → h < hosts → n < h → m ≤ h → tail_of s h ≡ covered h (had h + n)
+    pub frozen : (h : ℕ) → h < n + 1 → is_frozen s h ≡ true
+    pub free : (h : ℕ) → n + 1 ≤ h → is_frozen s h ≡ false
+    pub begun : s.has_begun ≡ true
+    pub released : s.is_released ≡ false
 
-  passing_start : (n : ℕ) (s : SnapValue) → n < hosts → Freezing n s → Passing n (n + 1) (after s (Freeze n))
+  pub passing_start : (n : ℕ) (s : SnapValue) → n < hosts → Freezing n s → Passing n (n + 1) (after s (Freeze n))
   passing_start n s there f =
       let lens = f.sound.lens.tails in
       let wide = f.sound.lens.frozen in
@@ -256,7 +256,7 @@ module _ (turn : ℕ) (counts : List ℕ) (turns : ℕ) (some : 0 < length count
         released = f.released;
       })
 
-  passing_on : (n m : ℕ) (s : SnapValue) → n + 1 ≤ m → m < hosts → Passing n m s → Passing n (m + 1) (fold after s (turn_of_host turn counts m (had m + n)))
+  pub passing_on : (n m : ℕ) (s : SnapValue) → n + 1 ≤ m → m < hosts → Passing n m s → Passing n (m + 1) (fold after s (turn_of_host turn counts m (had m + n)))
   passing_on n m s above there p =
       let turned = takes_turn m (had m + n) s p.sound there (p.free m above) (p.going m there (omega (arith, above)) (omega arith)) in
       record {
@@ -285,7 +285,7 @@ module _ (turn : ℕ) (counts : List ℕ) (turns : ℕ) (some : 0 < length count
     released = p.released;
   }
 
-  freezing_on : (n : ℕ) (s : SnapValue) → n < hosts → Freezing n s → Freezing (n + 1) (fold after s (freeze_host turn counts turns n))
+  pub freezing_on : (n : ℕ) (s : SnapValue) → n < hosts → Freezing n s → Freezing (n + 1) (fold after s (freeze_host turn counts turns n))
   freezing_on n s there f =
       let begin = passing_start n s there f in
       let end = fold_flat (Passing n) (λ above. turn_of_host turn counts above (had above + n)) (n + 1) (hosts - 1 - n) hosts (omega (arith, there))
@@ -298,15 +298,15 @@ module _ (turn : ℕ) (counts : List ℕ) (turns : ℕ) (some : 0 < length count
       (freezing_start s g)
 
   -- the first n hosts have replied
-  record Replying (n : ℕ) (s : SnapValue) : Type 0 where
-    sound : Sound hosts s
-    tails : (h : ℕ) → h < hosts → tail_of s h ≡ in_cut turn counts turns h
-    frozen : (h : ℕ) → h < hosts → is_frozen s h ≡ true
-    replied : (h : ℕ) → h < n → has_replied s h ≡ true
-    begun : s.has_begun ≡ true
-    released : s.is_released ≡ false
+  pub record Replying (n : ℕ) (s : SnapValue) : Type 0 where
+    pub sound : Sound hosts s
+    pub tails : (h : ℕ) → h < hosts → tail_of s h ≡ in_cut turn counts turns h
+    pub frozen : (h : ℕ) → h < hosts → is_frozen s h ≡ true
+    pub replied : (h : ℕ) → h < n → has_replied s h ≡ true
+    pub begun : s.has_begun ≡ true
+    pub released : s.is_released ≡ false
 
-  replying_start : (s : SnapValue) → Freezing hosts s → Replying 0 s
+  pub replying_start : (s : SnapValue) → Freezing hosts s → Replying 0 s
   replying_start s f = record {
     sound = f.sound;
     tails = λ h there. f.fixed h there there;
@@ -316,7 +316,7 @@ module _ (turn : ℕ) (counts : List ℕ) (turns : ℕ) (some : 0 < length count
     released = f.released;
   }
 
-  replying_on : (n : ℕ) (s : SnapValue) → n < hosts → Replying n s → Replying (n + 1) (after s (Reply n))
+  pub replying_on : (n : ℕ) (s : SnapValue) → n < hosts → Replying n s → Replying (n + 1) (after s (Reply n))
   replying_on n s there r =
       let lens = r.sound.lens.tails in
       let wide = r.sound.lens.replied in
@@ -345,13 +345,17 @@ module _ (turn : ℕ) (counts : List ℕ) (turns : ℕ) (some : 0 < length count
       (λ h less. let there : h < hosts = omega (arith, less, sized) in each h there
       ∙ sym (get_or-map-range_with_len (in_cut turn counts turns) 0 hosts h h 0 there (omega arith)))
 
-  releases : (s : SnapValue) → Replying hosts s → Released (after s Release)
-  releases s r =
+  pub release_lawful : (s : SnapValue) → Replying hosts s → is_lawful s Release ≡ true
+  release_lawful s r =
       let sized = r.sound.lens.replied in
       let all : list_all (λ replied. replied) s.replied ≡ true =
       list_all-from_AllPass (λ replied. replied) s.replied
       (λ k d less. get_or_default s.replied k d false less ∙ r.replied k (omega (arith, less, sized))) in
-      let lawful : is_lawful s Release ≡ true = rw (r.begun, r.released, all) refl in
+      rw (r.begun, r.released, all) refl
+
+  releases : (s : SnapValue) → Replying hosts s → Released (after s Release)
+  releases s r =
+      let lawful = release_lawful s r in
       let known = all_known hosts s lawful r.sound in
       subst Released (sym (taken s Release lawful)) (record { released = refl; replies = known.1 ∙ is_cut s.tails r.sound.lens.tails r.tails })
 

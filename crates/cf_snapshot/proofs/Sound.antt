@@ -24,7 +24,7 @@ pub record Sound (hosts : ℕ) (s : SnapValue) : Type 0 where
   pub lens : IsOf hosts s
   pub known : s.is_released ≡ false → (h : ℕ) → has_replied s h ≡ true → IsKnown s h
 
-lens_kept : (hosts : ℕ) (s : SnapValue) (e : SnapEvent) → IsOf hosts s → IsOf hosts (changed s e)
+pub lens_kept : (hosts : ℕ) (s : SnapValue) (e : SnapEvent) → IsOf hosts s → IsOf hosts (changed s e)
 lens_kept hosts s (Cover h) l = record { tails = length-set s.tails h (tail_of s h + 1) ∙ l.tails; frozen = l.frozen; replies = l.replies; replied = l.replied }
 lens_kept hosts s Begin l = record { tails = l.tails; frozen = l.frozen; replies = l.replies; replied = l.replied }
 lens_kept hosts s (Freeze h) l = record { tails = l.tails; frozen = length-set s.frozen h true ∙ l.frozen; replies = l.replies; replied = l.replied }

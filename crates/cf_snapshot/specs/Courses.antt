@@ -10,9 +10,9 @@ use Rattle.cf_segments.specs.Needed.{IsNeeded}
 use Rattle.cf_shape.specs.Lanes.{ShapeValue}
 use Rattle.cf_shape.specs.Nodes.{distinct}
 use Rattle.cf_words.specs.Words.{Spot}
-use Rattle.cf_snapshot.specs.Hosts.{HostValue, AreNeeded}
+use Rattle.cf_snapshot.specs.Hosts.{HostValue, AreNeeded, HasEnough}
 use Rattle.cf_snapshot.specs.Plans.{turns_round, turn_of_host, turns_of_host, freeze_host, in_cut}
-use Rattle.cf_snapshot.specs.Snapshots.{SnapValue, is_host, tail_of, is_frozen, after, state_after}
+use Rattle.cf_snapshot.specs.Snapshots.{SnapValue, IsSnapshot, is_host, tail_of, is_frozen, after, state_after}
 use Rattle.cf_snapshot.specs.declared.event.SnapEvent.TheVariants.{Begin, Freeze}
 use Rattle.cf_snapshot.specs.declared.take.Pace.{Pace}
 
@@ -35,15 +35,14 @@ course_of rows host = record { task = record { shape = host.shape; rows = rows }
 abbrev pub idle_course : ShapeValue → List RowValue → CourseValue
 idle_course shape rows = record { task = record { shape = shape; rows = rows }; covered = 0; is_frozen = false }
 
--- The rows fit the log of the host, which has covered the first of them, with no more nodes than it has. Its used nodes are needed by
--- the rows.
+-- The rows fit the log of the host, which has covered the first of them. Its used nodes are needed by the rows.
 pub record IsCourse (rows : List RowValue) (host : HostValue) : Type 0 where
   pub fit : All (Fits (host.shape).schema) rows
   pub few : length rows ≤ (host.shape).capacity
   pub within : length host.entries ≤ length rows
   pub begins : rows_in host.entries ≡ take (length host.entries) rows
-  pub room : distinct host.shape (rows_in host.entries) ≤ (host.shape).nodes
   pub needed : AreNeeded host.shape rows host.used
+  pub enough : HasEnough host
 
 -- the rows need more different nodes than their host has
 abbrev pub NeedsMore : TaskValue → Type 0
@@ -51,12 +50,14 @@ NeedsMore task = (task.shape).nodes < distinct task.shape task.rows
 
 -- host h of the snapshot has covered as many records, and is frozen where that one is
 pub record StandsIn (s : SnapValue) (h : ℕ) (course : CourseValue) : Type 0 where
+  pub sized : IsSnapshot s
   pub exists : is_host s h ≡ true
   pub tail : tail_of s h ≡ course.covered
   pub frozen : is_frozen s h ≡ course.is_frozen
 
 -- the hosts are those of the snapshot
 pub record AreIn (s : SnapValue) (courses : List CourseValue) : Type 0 where
+  pub sized : IsSnapshot s
   pub tails : s.tails ≡ map (λ course. course.covered) courses
   pub frozen : s.frozen ≡ map (λ course. course.is_frozen) courses
 

@@ -1,5 +1,5 @@
 -- What contracts see of a host, what its calls do, and which event of a snapshot each of them is.
-use Rattle.std.specs.Prelude.{◌≡◌, ℕ, ◌<◌, Bool, true, false, List, ◌∷◌, [], ◌++◌, length, Some, slice_get}
+use Rattle.std.specs.Prelude.{◌≡◌, ℕ, ◌<◌, ◌≤◌, Bool, true, false, List, ◌∷◌, [], ◌++◌, length, Some, slice_get}
 use Rattle.std.specs.declared.result.Result.{Result}
 use Rattle.std.specs.declared.result.Result.TheVariants.{Ok, Err}
 use Rattle.cf_row.specs.Row.{RowValue}
@@ -12,6 +12,7 @@ use Rattle.cf_table.specs.Values.{PassValue, LogValue, IsOf, book_of}
 use Rattle.cf_table.specs.Moves.{HasAll, AreFit, MarkedIsFull}
 use Rattle.cf_append.specs.Appends.{Rests}
 use Rattle.cf_append.specs.Paths.{IsOnPath}
+use Rattle.cf_plain.specs.Asks.{rows_in}
 use Rattle.cf_append.specs.declared.appends.AppendFault.{AppendFault}
 use Rattle.cf_append.specs.declared.appends.AppendFault.TheVariants.{Full, NodesFull}
 use Rattle.cf_snapshot.specs.declared.event.SnapEvent.{SnapEvent}
@@ -58,6 +59,13 @@ pub record HasUsedFor (shape : ShapeValue) (row : RowValue) (before used : List 
 -- the path of some of these rows goes through each used node
 abbrev pub AreNeeded : ShapeValue → List RowValue → List Spot → Type 0
 AreNeeded shape rows used = (j : ℕ) (s : Spot) → slice_get used j ≡ Some s → IsNeeded shape rows s
+
+-- where no node is used but for the rows of the entries, these need no more different nodes than there are
+abbrev pub AreEnough : ShapeValue → List Entry → List Spot → Type 0
+AreEnough shape entries used = AreNeeded shape (rows_in entries) used → distinct shape (rows_in entries) ≤ shape.nodes
+
+abbrev pub HasEnough : HostValue → Type 0
+HasEnough host = AreEnough host.shape host.entries host.used
 
 -- Some rows that have this one, and that need the used nodes, need more different nodes than there are.
 abbrev pub LacksNodes : ShapeValue → RowValue → List Spot → Type 0

@@ -13,6 +13,7 @@ ghost use Rattle.std.specs.Prelude.{
   map,
   min,
   replicate,
+  take,
   IfErr,
   IfOk,
   OnOk,
@@ -21,9 +22,9 @@ ghost use Rattle.cf_plain.specs.Answered.{answer_on};
 ghost use Rattle.cf_plain.specs.Asks.{Suits};
 ghost use Rattle.cf_row.specs.Row.{Fits};
 ghost use Rattle.cf_shape.specs.Nodes.{distinct};
-ghost use Rattle.cf_snapshot.specs.Courses.{IsCourse, StandsIn, NeedsMore, idle_course, answers_of};
+ghost use Rattle.cf_snapshot.specs.Courses.{IsCourse, StandsIn, NeedsMore, idle_course, answers_on};
 ghost use Rattle.cf_snapshot.specs.Hosts.{StandsFor};
-ghost use Rattle.cf_snapshot.specs.Snapshots.{is_lawful, is_under_way, after};
+ghost use Rattle.cf_snapshot.specs.Snapshots.{IsSnapshot, is_lawful, is_under_way, after};
 ghost use Rattle.cf_snapshot.specs.declared.event.SnapEvent.TheVariants.{Cover, Freeze, Thaw};
 ghost use Rattle.cf_snapshot.specs.declared.course.Untaken.TheVariants as untaken;
 
@@ -96,6 +97,7 @@ fn cover_rows(
 ) -> Result<(), Untaken>
     requires course { IsCourse rows.now host.old }
     requires free { host.old.is_frozen ≡ false }
+    requires sized { IsSnapshot snap.old }
     requires stands { StandsFor snap.old number host.old }
     requires end { (length host.old.entries ≤ end) × (end ≤ length rows.now) }
     ensures course { IsCourse rows.now host.new }
@@ -209,7 +211,7 @@ impl Course {
         requires frozen { self.old.is_frozen ≡ true }
         requires suits { All (Suits self.old.task.shape) asks.now }
         ensures course { self.new ≡ self.old }
-        ensures answers { IfOk result (λ answers. answers.items ≡ answers_of self.old.task self.old.covered asks.now) }
+        ensures answers { IfOk result (λ answers. answers.items ≡ answers_on self.old.task.shape (take self.old.covered self.old.task.rows) asks.now) }
     {
         ask_frozen(alloc, &mut self.host, asks)
     }

@@ -1,11 +1,10 @@
 // A host, whose log is appended to by one writer.
-ghost use Rattle.std.specs.Prelude.{◌≡◌, ◌<◌, ◌≤◌, length, true, false, Err, IfOk};
+ghost use Rattle.std.specs.Prelude.{◌≡◌, ◌<◌, length, true, false, Err, IfOk};
 ghost use Rattle.cf_row.specs.Row.{Fits};
 ghost use Rattle.cf_append.specs.declared.appends.AppendFault.TheVariants.{NodesFull};
-ghost use Rattle.cf_shape.specs.Nodes.{distinct};
 ghost use Rattle.cf_table.specs.Values.{book_of};
-ghost use Rattle.cf_plain.specs.Asks.{Suits, eval, rows_in};
-ghost use Rattle.cf_snapshot.specs.Hosts.{IsAlone, HasCovered, HasUsedFor, IsEvent, LacksNodes, empty_host};
+ghost use Rattle.cf_plain.specs.Asks.{Suits, eval};
+ghost use Rattle.cf_snapshot.specs.Hosts.{AreEnough, IsAlone, HasCovered, HasEnough, HasUsedFor, IsEvent, LacksNodes, empty_host};
 ghost use Rattle.cf_snapshot.specs.Snapshots.{is_under_way};
 ghost use Rattle.cf_snapshot.specs.declared.event.SnapEvent.TheVariants.{Cover, Freeze, Thaw};
 
@@ -53,7 +52,7 @@ fn cover_counted<L: Ledger>(
     ensures alone { IsAlone log.now pass.new }
     ensures answer { HasCovered log.now.shape row.now pass.old.view.seen pass.new.view.seen result }
     ensures nodes { HasUsedFor log.now.shape row.now (book_of pass.old.view).used (book_of pass.new.view).used result }
-    ensures enough { IfOk result (λ _. distinct log.now.shape (rows_in pass.new.view.seen) ≤ log.now.shape.nodes) }
+    ensures enough { IfOk result (λ _. AreEnough log.now.shape pass.new.view.seen (book_of pass.new.view).used) }
     ensures lacks { result ≡ Err NodesFull → LacksNodes log.now.shape row.now (book_of pass.old.view).used }
 {
     let mut steps = Steps::<L>::new(blank);
@@ -116,7 +115,7 @@ impl Host {
         ensures stays { (self.new.shape ≡ self.old.shape) × (self.new.is_frozen ≡ false) }
         ensures answer { HasCovered self.old.shape row.now self.old.entries self.new.entries result }
         ensures nodes { HasUsedFor self.old.shape row.now self.old.used self.new.used result }
-        ensures enough { IfOk result (λ _. distinct self.old.shape (rows_in self.new.entries) ≤ self.old.shape.nodes) }
+        ensures enough { IfOk result (λ _. HasEnough self.new) }
         ensures lacks { result ≡ Err NodesFull → LacksNodes self.old.shape row.now self.old.used }
         ensures event { IfOk result (λ _. IsEvent Cover (λ _. true) self.old self.new) }
     {
@@ -138,8 +137,9 @@ impl Host {
         ensures tail { result ≡ length self.old.entries }
         ensures event { IsEvent Freeze is_under_way self.old self.new }
     {
+        let tail = self.covered();
         self.is_frozen = true;
-        self.pass.covered()
+        tail
     }
 
     /// Lets the host go on.

@@ -125,7 +125,8 @@ fn freeze_each(
     let mut answers = Vec::new(alloc);
     for host in 0..courses.len() {
         courses[host].freeze(snap, host as u8);
-        answers.push(courses[host].ask_each(alloc, asks)?)?;
+        let given = courses[host].ask_each(alloc, asks)?;
+        answers.push(given)?;
         turns_above(snap, courses, host, pace)?;
     }
     Ok(answers)
@@ -136,6 +137,8 @@ fn reply_each(snap: &mut Snap, hosts: u8)
     requires hosts { hosts ≡ length snap.old.tails }
     requires time { is_under_way snap.old ≡ true }
     requires frozen { AllFrozen snap.old }
+    ensures tails { snap.new.tails ≡ snap.old.tails }
+    ensures marks { snap.new.frozen ≡ snap.old.frozen }
     ensures state { snap.new ≡ fold after snap.old (map Reply (range_with_len 0 hosts)) }
 {
     for host in 0..hosts {
@@ -165,6 +168,7 @@ fn cover_left(snap: &mut Snap, courses: &mut [Course]) -> Result<(), Untaken>
     requires few { AreFew (counts_of (tasks_of courses.old)) }
     requires hosts { AreIn snap.old courses.old }
     requires free { (host : ℕ) → is_frozen snap.old host ≡ false }
+    requires within { (host : ℕ) → host < length courses.old → tail_of snap.old host ≤ rows_at (counts_of (tasks_of courses.old)) host }
     ensures done { OnOk result (AreDone (tasks_of courses.old) courses.new) }
     ensures state { OnOk result (snap.new ≡ fold after snap.old (flat_map (λ host. replicate (rows_at (counts_of (tasks_of courses.old)) host - tail_of snap.old host) (Cover host)) (range_with_len 0 (length courses.old)))) }
     ensures nodes { IfErr result (λ why. why ≡ untaken.Nodes → Any NeedsMore (tasks_of courses.old)) }
@@ -204,10 +208,10 @@ pub fn take_snapshot(
     thaw_each(&mut snap, courses);
     cover_left(&mut snap, courses)?;
     match snap.cut() {
-        Some(cut) => Ok(Snapshot {
-            cut: cut.to_vec(alloc)?,
-            answers,
-        }),
+        Some(tails) => {
+            let cut = Vec::from_slice(alloc, tails)?;
+            Ok(Snapshot { cut, answers })
+        }
         // It was released.
         None => unreachable!(),
     }

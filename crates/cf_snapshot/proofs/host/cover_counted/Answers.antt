@@ -1,5 +1,6 @@
 use Rattle.std.proofs.Common.{arith}
 use Rattle.cf_snapshot.proofs.Hosting.{placed, alone_then, covered, used_for}
+use Rattle.cf_snapshot.proofs.Lacking.{enough_ok, lacking}
 use Rattle.cf_snapshot.proofs.host.cover_counted.Goals as goal
 
 pub settle-requires-clause-of : goal.settle-requires-clause-of
@@ -33,3 +34,16 @@ pub returns-clause-nodes : goal.returns-clause-nodes
 returns-clause-nodes g c =
     used_for c.args.log.now.shape c.args.row.now c.args.pass.now c.append-answer.new.pass c.settle.new.pass c.append-answer.result
     c.append-answer.ensures.answer c.settle.ensures.books
+
+pub returns-clause-enough : goal.returns-clause-enough
+returns-clause-enough g c =
+    let a = c.append-answer.ensures in
+    let s = c.settle.ensures in
+    let now = alone_then c.args.log.now c.args.row.now c.args.pass.now c.append-answer.new.pass c.settle.new.pass c.append-answer.result c.requires.alone
+    a.goes_on a.rest a.answer s.goes_on s.books s.fit s.alone s.full in
+    enough_ok c.args.log.now c.settle.new.pass c.append-answer.result c.shape-lawful.ensures.lawful now (s.paths now.one now.rest) s.bounds
+
+pub returns-clause-lacks : goal.returns-clause-lacks
+returns-clause-lacks g c =
+    lacking c.args.log.now c.args.row.now c.args.pass.now c.append-answer.new.pass c.append-answer.result c.shape-lawful.ensures.lawful
+    c.append-answer.ensures.answer

@@ -1,6 +1,7 @@
-use Rattle.std.proofs.Common.{◌∙◌, true, IfOk, ap, subst}
+use Rattle.std.proofs.Common.{◌≡◌, ◌∙◌, true, Err, IfOk, ap, subst}
 use Rattle.cf_snapshot.specs.declared.event.SnapEvent.TheVariants.{Cover}
-use Rattle.cf_snapshot.specs.Hosts.{HostValue, IsEvent}
+use Rattle.cf_snapshot.specs.Hosts.{HostValue, IsEvent, LacksNodes}
+use Rattle.cf_append.specs.declared.appends.AppendFault.TheVariants.{NodesFull}
 use Rattle.cf_snapshot.proofs.Hosting.{host_with}
 use Rattle.cf_snapshot.proofs.Standing.{covered_event}
 use Rattle.cf_snapshot.proofs.host.Host.cover.Goals as goal
@@ -17,3 +18,8 @@ returns-clause-event c =
     c.cover_counted.ensures.answer in
     subst (λ (m : HostValue). IfOk c.cover_counted.result
     (λ _. IsEvent Cover (λ _. true) m (host_with shape inside.is_frozen q.seen q.books))) c.self.view_is event
+
+pub returns-clause-lacks : goal.returns-clause-lacks
+returns-clause-lacks c =
+    subst (λ (m : HostValue). c.cover_counted.result ≡ Err NodesFull → LacksNodes m.shape c.args.row.now m.used) c.self.view_is
+    c.cover_counted.ensures.lacks
