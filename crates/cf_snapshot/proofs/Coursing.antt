@@ -1,11 +1,11 @@
 -- A host that covers its rows.
 use Rattle.std.proofs.Common.{◌≡◌, ◌∙◌, ℕ, zero, suc, ◌+◌, ◌<◌, ◌≤◌, inl, inr, Bool, All, List, [], ◌∷◌, ◌++◌, length, map, take, fold, get_or, replicate, Some, slice_get, Result, Ok, Err, refl, sym, ap, ap₂, subst, arith}
 use Rattle.std.proofs.lemmas.Bool.{cases_Bool}
-use Rattle.std.proofs.lemmas.List.{length-map, map-append, take_more, get_or_default}
+use Rattle.std.proofs.lemmas.List.{length-map, map-append, take_more}
 use Rattle.std.proofs.lemmas.Option.{slice_get-get_or}
 use Rattle.std.proofs.lemmas.List.Sums.{fold-append}
 use Rattle.cf_append.specs.declared.appends.AppendFault.{AppendFault}
-use Rattle.cf_append.specs.declared.appends.AppendFault.TheVariants.{Full, NodesFull}
+use Rattle.cf_append.specs.declared.appends.AppendFault.TheVariants.{NodesFull}
 use Rattle.cf_lemmas.proofs.Lists.{has_left}
 use Rattle.cf_plain.specs.Answered.{answer_on}
 use Rattle.cf_plain.specs.Asks.{rows_in, eval, eval_rows}
@@ -19,11 +19,10 @@ use Rattle.cf_segments.specs.Needed.{IsNeeded}
 use Rattle.cf_shape.specs.Lanes.{ShapeValue}
 use Rattle.cf_shape.specs.Nodes.{distinct}
 use Rattle.cf_words.specs.Words.{Spot}
-use Rattle.cf_snapshot.specs.Courses.{CourseValue, IsCourse, StandsIn, course_of, answers_on}
-use Rattle.cf_snapshot.specs.Hosts.{HostValue, AreEnough, AreNeeded, HasCovered, HasEnough, HasUsedFor, StandsFor}
+use Rattle.cf_snapshot.specs.Courses.{IsCourse, answers_on}
+use Rattle.cf_snapshot.specs.Hosts.{HostValue, AreEnough, AreNeeded, HasCovered, HasEnough, HasUsedFor}
 use Rattle.cf_snapshot.specs.Snapshots.{SnapValue, IsSnapshot, IsOf, is_lawful, changed, after}
 use Rattle.cf_snapshot.specs.declared.event.SnapEvent.{SnapEvent}
-use Rattle.cf_snapshot.specs.declared.event.SnapEvent.TheVariants.{Cover}
 use Rattle.cf_snapshot.proofs.Lawful.{taken, passed_over}
 use Rattle.cf_snapshot.proofs.Sound.{lens_kept}
 

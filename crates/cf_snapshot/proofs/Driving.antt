@@ -1,7 +1,7 @@
 -- The states of a snapshot over hosts that cover their rows.
-use Rattle.std.proofs.Common.{◌≡◌, ◌∙◌, ℕ, zero, suc, ◌+◌, ◌-◌, ◌*◌, ◌/◌, ◌%◌, ◌^◌, ◌<◌, ◌≤◌, Bool, true, false, nat_lt, All, Any, List, [], ◌∷◌, ◌++◌, length, map, set, min, fold, get_or, replicate, inl, inr, refl, sym, ap, subst, arith, add-zero, append_assoc, append-nil}
+use Rattle.std.proofs.Common.{◌≡◌, ◌∙◌, ℕ, zero, suc, ◌+◌, ◌-◌, ◌*◌, ◌/◌, ◌%◌, ◌^◌, ◌<◌, ◌≤◌, Bool, true, false, nat_lt, All, Any, List, [], ◌++◌, length, set, min, fold, get_or, replicate, inl, inr, refl, sym, ap, subst, arith, add-zero, append_assoc, append-nil}
 use Rattle.std.specs.List.{flat_map, range_with_len}
-use Rattle.std.proofs.Math.Nat.{min-le_left, min-le_right, div-add-mod, mod-lt, lt_of_mul-lt-mul_left}
+use Rattle.std.proofs.Math.Nat.{min-le_left, div-add-mod, mod-lt, lt_of_mul-lt-mul_left}
 use Rattle.std.proofs.lemmas.Bool.{cases_lt, lt-ltb, ltb-true}
 use Rattle.std.proofs.lemmas.List.{length-map, length-set, map-set, set-get_or, set-set, get_or_default, get_or-map, get_or-set_same}
 use Rattle.std.proofs.lemmas.List.Sums.{fold-append}

@@ -1,6 +1,6 @@
 -- The release of the hosts, and what they cover after it.
-use Rattle.std.proofs.Common.{◌≡◌, ◌∙◌, ℕ, zero, suc, ◌+◌, ◌-◌, ◌^◌, ◌<◌, ◌≤◌, Bool, true, false, not, All, List, [], ◌∷◌, ◌++◌, length, map, set, take, fold, get_or, replicate, inl, inr, refl, sym, ap, subst, arith, add-zero}
-use Rattle.std.specs.List.{flat_map, range_with_len}
+use Rattle.std.proofs.Common.{◌≡◌, ◌∙◌, ℕ, zero, suc, ◌+◌, ◌<◌, ◌≤◌, Bool, true, false, List, [], ◌∷◌, ◌++◌, length, map, set, take, fold, get_or, inl, inr, refl, sym, ap, subst, arith, add-zero}
+use Rattle.std.specs.List.{range_with_len}
 use Rattle.std.proofs.lemmas.Bool.{cases_eq, cases_lt, lt-ltb}
 use Rattle.std.proofs.lemmas.List.{get_or-set_same, get_or-set_other, get_or_append_left, get_or_past, get_or_push, get_or-map, ext_get_or, length-append, length-map}
 use Rattle.std.proofs.lemmas.List.Sums.{fold-append}
@@ -12,9 +12,9 @@ use Rattle.cf_shape.specs.Nodes.{distinct}
 use Rattle.cf_snapshot.specs.Courses.{CourseValue, TaskValue, AreAnswered, AreDone, AreIn, answers_on, tasks_of, counts_of}
 use Rattle.cf_snapshot.specs.Laws.{AllFrozen}
 use Rattle.cf_snapshot.specs.Plans.{in_cut, rows_at}
-use Rattle.cf_snapshot.specs.Snapshots.{SnapValue, is_host, tail_of, is_frozen, is_under_way, is_lawful, changed, after}
+use Rattle.cf_snapshot.specs.Snapshots.{SnapValue, is_host, tail_of, is_frozen, is_under_way, is_lawful, after}
 use Rattle.cf_snapshot.specs.declared.event.SnapEvent.{SnapEvent}
-use Rattle.cf_snapshot.specs.declared.event.SnapEvent.TheVariants.{Reply, Thaw}
+use Rattle.cf_snapshot.specs.declared.event.SnapEvent.TheVariants.{Reply}
 use Rattle.cf_snapshot.specs.declared.take.Pace.{Pace}
 use Rattle.cf_snapshot.proofs.Lawful.{taken}
 

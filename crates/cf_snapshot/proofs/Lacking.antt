@@ -1,5 +1,5 @@
 -- The nodes that a host lacks, or has.
-use Rattle.std.proofs.Common.{◌≡◌, ◌∙◌, ℕ, zero, suc, ◌*◌, ◌<◌, ◌≤◌, inl, inr, List, ◌∷◌, ◌++◌, length, get_or, Some, None, slice_get, Result, Ok, Err, IfOk, refl, sym, ap, subst, arith}
+use Rattle.std.proofs.Common.{◌≡◌, ◌∙◌, ℕ, zero, suc, ◌*◌, inl, inr, List, ◌++◌, length, get_or, Some, None, slice_get, Result, Ok, Err, IfOk, sym, ap, subst, arith}
 use Rattle.cf_append.specs.Appends.{Rests, HasAppendAnswer}
 use Rattle.cf_append.specs.declared.appends.AppendFault.{AppendFault}
 use Rattle.cf_append.specs.declared.appends.AppendFault.TheVariants.{Full, NodesFull}
@@ -15,12 +15,11 @@ use Rattle.cf_row.specs.declared.row.Entry.{Entry}
 use Rattle.cf_segments.proofs.Nodes.{few_enough, too_many}
 use Rattle.cf_segments.proofs.Pigeons.{from_map, in_either}
 use Rattle.cf_segments.specs.Needed.{HasNodes, IsNeeded, IsOut}
-use Rattle.cf_shape.specs.Lanes.{ShapeValue, IsShape}
-use Rattle.cf_shape.specs.Nodes.{distinct}
+use Rattle.cf_shape.specs.Lanes.{IsShape}
 use Rattle.cf_table.specs.Moves.{HasPaths}
 use Rattle.cf_table.specs.Values.{LogValue, PassValue, book_of}
 use Rattle.cf_words.specs.Words.{Spot}
-use Rattle.cf_snapshot.specs.Hosts.{AreEnough, AreNeeded, IsAlone, LacksNodes}
+use Rattle.cf_snapshot.specs.Hosts.{AreEnough, IsAlone, LacksNodes}
 
 -- the one book of a pass at rest
 one_book : (P : Book → Type 0) (p : Pass) → Rests p → P (book_of p) → (k : ℕ) (c : Book) → Holds p k c → P c

@@ -1,13 +1,12 @@
 -- A whole snapshot: from the first turn to the last row.
-use Rattle.std.proofs.Common.{◌≡◌, ◌∙◌, ℕ, zero, suc, ◌+◌, ◌-◌, ◌*◌, ◌^◌, ◌<◌, ◌≤◌, Bool, true, false, All, List, [], ◌∷◌, ◌++◌, length, map, fold, get_or, replicate, Some, None, cond, refl, sym, ap, ap₂, subst, arith}
+use Rattle.std.proofs.Common.{◌≡◌, ◌∙◌, ℕ, zero, suc, ◌+◌, ◌-◌, ◌*◌, ◌^◌, ◌<◌, ◌≤◌, Bool, true, false, All, List, [], ◌∷◌, ◌++◌, length, map, fold, replicate, Some, refl, sym, ap, ap₂, subst, arith}
 use Rattle.std.specs.List.{flat_map, range_with_len}
 use Rattle.std.proofs.Math.Nat.{min-le_left}
 use Rattle.std.proofs.lemmas.List.{length-replicate}
 use Rattle.std.proofs.lemmas.List.Sums.{fold-append}
 use Rattle.cf_snapshot.specs.Courses.{CourseValue, AreFew, AreIdle, AreIn, counts_of, freezing_state, going_state, tasks_of}
-use Rattle.cf_snapshot.specs.Laws.{AllFrozen, HasCut}
-use Rattle.cf_snapshot.specs.Plans.{rows_at, turns_round, turns_of_host, freeze_host, freezing, releasing, cover_left, events_of, in_cut, cut_by}
-use Rattle.cf_snapshot.specs.Snapshots.{SnapValue, IsOf, is_frozen, is_under_way, is_lawful, changed, tail_of, after, at_start, state_after, cut_of}
+use Rattle.cf_snapshot.specs.Plans.{rows_at, turns_round, turns_of_host, freezing, releasing, cover_left, events_of, in_cut, cut_by}
+use Rattle.cf_snapshot.specs.Snapshots.{SnapValue, IsOf, is_frozen, is_under_way, is_lawful, tail_of, after, at_start, state_after, cut_of}
 use Rattle.cf_snapshot.specs.declared.event.SnapEvent.{SnapEvent}
 use Rattle.cf_snapshot.specs.declared.event.SnapEvent.TheVariants.{Cover, Begin, Reply, Release, Thaw}
 use Rattle.cf_snapshot.specs.declared.take.Pace.{Pace}
@@ -63,7 +62,7 @@ module _ (pace : Pace) (counts : List ℕ) (few : AreFew counts) where
         ap (λ (x : SnapValue). length x.tails) is ∙ f.sound.lens.tails,
       )
 
-  replied : SnapValue
+  abbrev replied : SnapValue
   replied = fold after (freezing_state pace counts hosts) (map (λ x. Reply x) (range_with_len 0 hosts))
 
   all_replied : Replying pace.turn counts pace.turns few.some low hosts replied

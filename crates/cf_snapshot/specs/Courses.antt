@@ -1,15 +1,13 @@
 -- Hosts with the rows that they cover, and what a snapshot over them answers.
-use Rattle.std.specs.Prelude.{◌≡◌, ℕ, ◌+◌, ◌-◌, ◌*◌, ◌/◌, ◌<◌, ◌≤◌, Bool, false, true, List, [], ◌∷◌, All, fold, length, map, take, slice_index_or, Vec}
+use Rattle.std.specs.Prelude.{◌≡◌, ℕ, ◌+◌, ◌-◌, ◌<◌, ◌≤◌, Bool, false, true, List, All, fold, length, map, take, slice_index_or, Vec}
 use Rattle.std.specs.List.{flat_map, range_with_len}
 use Rattle.std.specs.Global.{Global}
 use Rattle.cf_row.specs.Row.{RowValue, Fits}
 use Rattle.cf_plain.specs.Asks.{Suits, rows_in, eval_rows}
 use Rattle.cf_plain.specs.declared.ask.Ask.{Ask}
 use Rattle.cf_plain.specs.declared.answer.Answer.{Answer}
-use Rattle.cf_segments.specs.Needed.{IsNeeded}
 use Rattle.cf_shape.specs.Lanes.{ShapeValue}
 use Rattle.cf_shape.specs.Nodes.{distinct}
-use Rattle.cf_words.specs.Words.{Spot}
 use Rattle.cf_snapshot.specs.Hosts.{HostValue, AreNeeded, HasEnough}
 use Rattle.cf_snapshot.specs.Plans.{turns_round, turn_of_host, turns_of_host, freeze_host, in_cut}
 use Rattle.cf_snapshot.specs.Snapshots.{SnapValue, IsSnapshot, is_host, tail_of, is_frozen, after, state_after}

@@ -1,4 +1,7 @@
 // Snapshots of hosts that cover rows by turns, against the cuts and the answers that are worked out.
+ghost use Rattle.std.specs.Prelude.{◌≡◌, ◌<◌, ◌≤◌, All, length, IfOk};
+ghost use Rattle.cf_snapshot.specs.Courses.{IsReady};
+
 use crate::host_tests::{row_of, shape_of};
 use crate::{Course, Pace, Snapshot, Untaken, cut_of_turns, take_snapshot};
 use cf_plain::{Answer, Ask, Body, suits};
@@ -27,23 +30,42 @@ const CASES: [Case; 9] = [
     ),
 ];
 
-// A host for each count, whose rows have the keys from 0 on.
+// A host whose rows have the keys from 0 on, and to whose log the questions suit.
+fn open_course<R: Abort>(
+    rt: &R,
+    alloc: Global,
+    count: u8,
+    nodes: u32,
+    asks: &[Ask],
+) -> Result<Course, Memory>
+    ensures { IfOk result (IsReady asks.now) }
+{
+    let shape = shape_of(rt, alloc, 128, nodes)?;
+    let mut rows = Vec::new(alloc);
+    for key in 0..count {
+        rows.push(row_of(alloc, key)?)?;
+    }
+    assert!(rt; rows.iter().all(|row| fits(shape.schema(), row)));
+    assert!(rt; rows.len() <= 128 && rows.len() <= shape.capacity() as usize);
+    assert!(rt; asks.iter().all(|ask| suits(&shape, ask)));
+    Course::open(alloc, shape, rows)
+}
+
+// A host for each count.
 fn courses_of<R: Abort>(
     rt: &R,
     alloc: Global,
     counts: &[u8],
     nodes: u32,
-) -> Result<Vec<Course>, Memory> {
+    asks: &[Ask],
+) -> Result<Vec<Course>, Memory>
+    ensures ready { IfOk result (λ courses. All (IsReady asks.now) courses.items) }
+    ensures size { IfOk result (λ courses. length courses.items ≡ length counts.now) }
+{
     let mut courses = Vec::new(alloc);
     for count in counts {
-        let shape = shape_of(rt, alloc, 128, nodes)?;
-        let mut rows = Vec::new(alloc);
-        for key in 0..*count {
-            rows.push(row_of(alloc, key)?)?;
-        }
-        assert!(rt; rows.iter().all(|row| fits(shape.schema(), row)));
-        assert!(rt; rows.len() <= shape.capacity() as usize);
-        courses.push(Course::open(alloc, shape, rows)?)?;
+        let course = open_course(rt, alloc, *count, nodes, asks)?;
+        courses.push(course)?;
     }
     Ok(courses)
 }
@@ -68,11 +90,14 @@ fn taken<R: Abort>(
     counts: &[u8],
     nodes: u32,
     pace: Pace,
-) -> Result<Result<Snapshot, Untaken>, Memory> {
-    let mut courses = courses_of(rt, alloc, counts, nodes)?;
+) -> Result<Result<Snapshot, Untaken>, Memory>
+    requires counts { (0 < length counts.now) × (length counts.now ≤ 16) }
+    requires turn { (1 ≤ pace.turn) × (pace.turn ≤ 4096) }
+{
     let mut asks = Vec::new(alloc);
     asks.push(Ask::Find(0, 0, 0xff))?;
     asks.push(Ask::Find(0, 0, 7))?;
+    let mut courses = courses_of(rt, alloc, counts, nodes, &asks)?;
     let taken = take_snapshot(alloc, &mut courses, &asks, pace);
     Ok(taken)
 }
@@ -81,6 +106,8 @@ fn taken<R: Abort>(
 fn hosts_are_cut_and_asked(rt: HostRuntime) -> Result<(), Fail> {
     let alloc = rt.alloc();
     for (counts, turns, turn, cut) in CASES {
+        assert!(rt; !counts.is_empty() && counts.len() <= 16);
+        assert!(rt; turn >= 1 && turn <= 4096);
         match taken(&rt, alloc, counts, 16, Pace { turns, turn })? {
             Ok(snapshot) => {
                 assert_eq!(rt; snapshot.cut.as_slice(), cut);

@@ -1,5 +1,5 @@
-use Rattle.std.proofs.Common.{◌≡◌, ◌∙◌, ◌++◌, ◌∷◌, [], List, length, map, take, get_or, sym, ap, ap₂, subst, arith}
-use Rattle.std.proofs.lemmas.List.{map-append, take_more, get_or_read}
+use Rattle.std.proofs.Common.{◌∙◌, ◌++◌, ◌∷◌, [], List, map, take, get_or, sym, ap, subst, arith}
+use Rattle.std.proofs.lemmas.List.{map-append, take_more}
 use Rattle.cf_plain.specs.Answered.{answer_on}
 use Rattle.cf_plain.specs.Asks.{Suits}
 use Rattle.cf_plain.specs.declared.answer.Answer.{Answer}

@@ -1,10 +1,9 @@
-use Rattle.std.proofs.Common.{◌≡◌, ◌∙◌, ℕ, ◌-◌, ◌^◌, ◌≤◌, ◌<◌, Bool, false, List, length, map, set, fold, get_or, replicate, sym, ap, subst, arith}
-use Rattle.std.proofs.lemmas.List.{get_or_default, get_or-map, length-map}
-use Rattle.cf_snapshot.specs.Courses.{CourseValue, TaskValue, tasks_of, counts_of}
+use Rattle.std.proofs.Common.{◌∙◌, ℕ, ◌-◌, ◌^◌, ◌≤◌, ◌<◌, Bool, false, List, length, set, fold, get_or, replicate, sym, ap, arith}
+use Rattle.cf_snapshot.specs.Courses.{CourseValue, tasks_of, counts_of}
 use Rattle.cf_snapshot.specs.Plans.{rows_at}
-use Rattle.cf_snapshot.specs.Snapshots.{SnapValue, after, tail_of}
+use Rattle.cf_snapshot.specs.Snapshots.{after, tail_of}
 use Rattle.cf_snapshot.specs.declared.event.SnapEvent.TheVariants.{Cover}
-use Rattle.cf_snapshot.proofs.Driving.{as_many, count_many, flat_step, old_is, stand_old, all_old, there_old, rows_few, kept, task_old, in_covered, covered_state}
+use Rattle.cf_snapshot.proofs.Driving.{as_many, flat_step, old_is, stand_old, all_old, rows_few, kept, task_old, in_covered, covered_state}
 use Rattle.cf_snapshot.proofs.Ending.{covering_more, all_done}
 use Rattle.cf_snapshot.proofs.take.cover_left.Goals as goal
 

@@ -1,9 +1,6 @@
-use Rattle.std.proofs.Common.{◌≡◌, ◌∙◌, ℕ, ◌+◌, ◌<◌, true, Any, Err, List, ◌++◌, ◌∷◌, [], length, set, take, get_or, sym, ap, subst, arith, rules}
+use Rattle.std.proofs.Common.{◌≡◌, ◌∙◌, ℕ, ◌+◌, ◌<◌, true, Any, Err, List, length, set, take, get_or, sym, ap, subst, arith, rules}
 use Rattle.std.proofs.lemmas.List.{get_or-set_same, length-map, set-set}
-use Rattle.std.specs.Global.{Global}
-use Rattle.std.specs.Prelude.{Vec}
 use Rattle.cf_plain.specs.Asks.{Suits}
-use Rattle.cf_plain.specs.declared.answer.Answer.{Answer}
 use Rattle.cf_snapshot.specs.Courses.{CourseValue, TaskValue, AreAnswered, AreFew, AreIn, NeedsMore, answers_on, tasks_of, counts_of, passing_state}
 use Rattle.cf_snapshot.specs.Plans.{in_cut}
 use Rattle.cf_snapshot.specs.Snapshots.{SnapValue, after}
@@ -211,7 +208,7 @@ loop-host-preserved c =
     let many : length courses2 ≡ length counts = sym (count_many courses2) ∙ ap (λ (ts : List TaskValue). length (counts_of ts)) tasks in
     let cut = in_cut c.args.pace.turn counts c.args.pace.turns h in
     let given_is : (d : TaskValue) → c.in_ok-given.given.items
-        ≡ answers_on (get_or (tasks_of first) h d).shape (take cut (get_or (tasks_of first) h d).rows) c.args.asks.now =
+    ≡ answers_on (get_or (tasks_of first) h d).shape (take cut (get_or (tasks_of first) h d).rows) c.args.asks.now =
     λ d. c.in_ok-given.ensures.answers
     ∙ ap (λ (x : CourseValue). answers_on x.task.shape (take x.covered x.task.rows) c.args.asks.now) (same ∙ c.freeze.ensures.course)
     ∙ ap (λ (n : ℕ). answers_on old.task.shape (take n old.task.rows) c.args.asks.now) (sym stand.tail ∙ fr.2)

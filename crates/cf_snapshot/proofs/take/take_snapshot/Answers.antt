@@ -196,7 +196,7 @@ returns-clause-value c =
     let cut = has_cut pace counts few last whole_is in
     let e : Some c.in-Some.tails.now ≡ Some (cut_by pace.turn counts pace.turns) = c.in-Some.ensures ∙ cut in
     let same : c.in-Some.tails.now ≡ cut_by pace.turn counts pace.turns = cc e in
-    c.in_ok-cut.ensures.items ∙ same
+    c.in_ok-cut-in-Some.ensures.items ∙ same
 
 pub returns-clause-cut : goal.returns-clause-cut
 returns-clause-cut c =
@@ -227,6 +227,6 @@ returns-clause-cut c =
     let cut = has_cut pace counts few last whole_is in
     let e : Some c.in-Some.tails.now ≡ Some (cut_by pace.turn counts pace.turns) = c.in-Some.ensures ∙ cut in
     let same : c.in-Some.tails.now ≡ cut_by pace.turn counts pace.turns = cc e in
-    subst (λ (n : ℕ). HasCut n (events_of pace.turn counts pace.turns) c.in_ok-cut.cut.items) (count_many first)
-    (subst (HasCut (length counts) (events_of pace.turn counts pace.turns)) (sym (c.in_ok-cut.ensures.items ∙ same))
+    subst (λ (n : ℕ). HasCut n (events_of pace.turn counts pace.turns) c.in_ok-cut-in-Some.cut.items) (count_many first)
+    (subst (HasCut (length counts) (events_of pace.turn counts pace.turns)) (sym (c.in_ok-cut-in-Some.ensures.items ∙ same))
     (plans_have_cuts pace.turn counts pace.turns few.some (few_all counts few)))

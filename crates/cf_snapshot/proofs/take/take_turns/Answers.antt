@@ -1,7 +1,7 @@
-use Rattle.std.proofs.Common.{◌≡◌, ◌∙◌, ℕ, ◌%◌, ◌*◌, ◌<◌, Any, Err, List, length, get_or, min, sym, ap, subst, arith, rules}
+use Rattle.std.proofs.Common.{◌≡◌, ◌∙◌, ℕ, ◌%◌, ◌*◌, ◌<◌, Err, length, get_or, min, sym, ap, arith, rules}
 use Rattle.std.proofs.Math.Nat.{mod-lt}
-use Rattle.cf_snapshot.specs.Courses.{CourseValue, NeedsMore, tasks_of, counts_of}
-use Rattle.cf_snapshot.proofs.Driving.{count_many, going_at, going_low, turns_enough, turns_more, old_is, stand_old, all_old, there_old, kept, any_old, turned_in}
+use Rattle.cf_snapshot.specs.Courses.{CourseValue, tasks_of, counts_of}
+use Rattle.cf_snapshot.proofs.Driving.{count_many, going_at, going_low, turns_enough, turns_more, stand_old, all_old, there_old, kept, any_old, turned_in}
 use Rattle.cf_snapshot.proofs.take.take_turns.Goals as goal
 
 -- the host whose turn it is

@@ -1,4 +1,4 @@
-use Rattle.std.proofs.Common.{◌≡◌, ◌∙◌, ◌<◌, false, List, Bool, length, get_or, sym, ap, arith}
+use Rattle.std.proofs.Common.{◌≡◌, ◌∙◌, ◌<◌, false, length, get_or, sym, ap, arith}
 use Rattle.cf_snapshot.specs.Courses.{CourseValue}
 use Rattle.cf_snapshot.specs.declared.event.SnapEvent.TheVariants.{Thaw}
 use Rattle.cf_snapshot.proofs.Driving.{as_many, stands_at, in_marked, tasks_set, thawed_state}

@@ -1,4 +1,4 @@
-use Rattle.std.proofs.Common.{◌≡◌, ◌∙◌, ◌+◌, ◌≤◌, ◌<◌, length, get_or, sym, ap, arith}
+use Rattle.std.proofs.Common.{◌∙◌, ◌+◌, ◌≤◌, ◌<◌, length, get_or, sym, ap, arith}
 use Rattle.cf_snapshot.specs.Courses.{CourseValue, tasks_of, counts_of}
 use Rattle.cf_snapshot.proofs.Driving.{passing_free, passing_low, passing_more, stand_old, all_old, there_old, kept, turned_in}
 use Rattle.cf_snapshot.proofs.take.turns_above.Goals as goal
