@@ -11,7 +11,12 @@ use std::process::Abort;
 use std::test::Fail;
 
 // A schema of times and of numbers of one byte, by which the one lane files all rows.
-fn shape_of<R: Abort>(rt: &R, alloc: Global, capacity: u32, nodes: u32) -> Result<Shape, Memory>
+pub(crate) fn shape_of<R: Abort>(
+    rt: &R,
+    alloc: Global,
+    capacity: u32,
+    nodes: u32,
+) -> Result<Shape, Memory>
     ensures { IfOk result (λ shape. shape.writers ≡ 1) }
 {
     let mut attrs = Vec::new(alloc);
@@ -35,7 +40,7 @@ fn shape_of<R: Abort>(rt: &R, alloc: Global, capacity: u32, nodes: u32) -> Resul
 }
 
 // A row of that key.
-fn row_of(alloc: Global, key: u8) -> Result<Row, Memory> {
+pub(crate) fn row_of(alloc: Global, key: u8) -> Result<Row, Memory> {
     let mut values = Vec::new(alloc);
     values.push(Value::Num(7))?;
     values.push(Value::Num(u64::from(key)))?;

@@ -17,6 +17,8 @@ mod plan_tests;
 mod snap;
 mod take;
 #[cfg(test)]
+mod take_tests;
+#[cfg(test)]
 mod tests;
 
 pub use course::{Course, Untaken};
