@@ -1,4 +1,4 @@
-//! Steps of the model, tried: by tables of events and answers. There is no code here but tests.
+//! Steps of the model, tried. There is no code here but tests.
 #![tactic(auto)]
 
 #[cfg(test)]

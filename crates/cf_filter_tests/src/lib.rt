@@ -1,4 +1,4 @@
-//! Expressions and values, tried: by tables of texts. There is no code here but tests.
+//! Expressions and values, tried. There is no code here but tests.
 #![tactic(auto)]
 
 #[cfg(test)]

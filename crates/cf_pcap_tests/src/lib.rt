@@ -1,4 +1,4 @@
-//! Captures in pcap, tried: by tables of streams and how they are cut. There is no code here but tests.
+//! Captures in pcap, tried. There is no code here but tests.
 #![tactic(auto)]
 
 #[cfg(test)]

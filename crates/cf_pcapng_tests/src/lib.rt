@@ -1,4 +1,4 @@
-//! Captures in pcapng, tried: by tables of blocks and how they are cut. There is no code here but tests.
+//! Captures in pcapng, tried. There is no code here but tests.
 #![tactic(auto)]
 
 #[cfg(test)]

@@ -1,4 +1,4 @@
-//! Scans, tried: of drawn entries and of a log. There is no code here but tests.
+//! Scans, tried. There is no code here but tests.
 #![tactic(auto)]
 
 #[cfg(test)]

@@ -1,4 +1,4 @@
-//! Setups, tried: by tables of lines and their faults. There is no code here but tests.
+//! Setups, tried. There is no code here but tests.
 #![tactic(auto)]
 
 #[cfg(test)]
