@@ -110,7 +110,7 @@ impl Quad {
 
     /// The quad of both lists of numbers together.
     pub fn merge(self, other: Quad) -> Quad
-        requires few { self.count + other.count ≤ 2 ^ 20 }
+        requires few { self.count + other.count < 2 ^ 32 }
         ensures both { result ≡ both self other }
         ensures merged { (xs ys : List ℕ) → self ≡ quad_of xs → other ≡ quad_of ys → result ≡ quad_of (xs ++ ys) }
         ensures count { result.count ≡ self.count + other.count }

@@ -303,7 +303,7 @@ below p m most a (suc n) le =
     ]
 
 -- the places in rows behind others can be counted on
-places_can : (passes : RowValue → Bool) (xs ys : List RowValue) → length xs + length ys ≤ 2 ^ 20 → All (λ place. length xs + place < 2 ^ 32) (places passes ys)
+places_can : (passes : RowValue → Bool) (xs ys : List RowValue) → length xs + length ys < 2 ^ 32 → All (λ place. length xs + place < 2 ^ 32) (places passes ys)
 places_can passes xs ys few =
     All-from_recursion (λ place. length xs + place < 2 ^ 32) (places passes ys)
     (below (λ place. passes (row_at ys place)) (length xs) (2 ^ 32) 0 (length ys) (omega (arith, few)))
@@ -311,12 +311,12 @@ places_can passes xs ys few =
 taken_few : (f : RowValue → ℕ) (p : RowValue → Bool) (rows : List RowValue) → length (map f (filter p rows)) ≤ length rows
 taken_few f p rows = omega (arith, length-map (filter p rows) f, length-filter p rows, count_by-le-length p rows)
 
-totals_can : (f : RowValue → ℕ) (p : RowValue → Bool) (xs ys : List RowValue) → length xs + length ys ≤ 2 ^ 20
-    → length (map f (filter p xs)) + length (map f (filter p ys)) ≤ 2 ^ 20
+totals_can : (f : RowValue → ℕ) (p : RowValue → Bool) (xs ys : List RowValue) → length xs + length ys < 2 ^ 32
+    → length (map f (filter p xs)) + length (map f (filter p ys)) < 2 ^ 32
 totals_can f p xs ys few = omega (arith, few, taken_few f p xs, taken_few f p ys)
 
-groups_can : (shape : ShapeValue) (lane : ℕ) (xs ys : List RowValue) → length xs + length ys ≤ 2 ^ 20
-    → numbers_in (groups shape lane xs ++ groups shape lane ys) ≤ 2 ^ 20
+groups_can : (shape : ShapeValue) (lane : ℕ) (xs ys : List RowValue) → length xs + length ys < 2 ^ 32
+    → numbers_in (groups shape lane xs ++ groups shape lane ys) < 2 ^ 32
 groups_can shape lane xs ys few =
     omega (
       arith,
@@ -327,7 +327,7 @@ groups_can shape lane xs ys few =
     )
 
 -- findings in so few rows can be joined
-pub findings_can_join : (shape : ShapeValue) (ask : Ask) (xs ys : List RowValue) → length xs + length ys ≤ 2 ^ 20
+pub findings_can_join : (shape : ShapeValue) (ask : Ask) (xs ys : List RowValue) → length xs + length ys < 2 ^ 32
     → CanJoin (length xs) (finding_in shape ask xs) (finding_in shape ask ys)
 findings_can_join shape (asks.List expr) xs ys few = places_can (counts_for shape (asks.List expr)) xs ys few
 findings_can_join shape (asks.Find lane low high) xs ys few = places_can (counts_for shape (asks.Find lane low high)) xs ys few

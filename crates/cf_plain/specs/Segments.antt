@@ -50,11 +50,11 @@ joined n (findings.Groups gs) (findings.Groups hs) = findings.Groups (merged (gs
 joined n finding other = finding
 
 -- What is found can be joined in the numbers of the program: each place that is counted on is below 2^32, and the quads are of
--- at most 2^20 numbers together.
+-- fewer than 2^32 numbers together.
 abbrev pub CanJoin : ℕ → Finding → Finding → Type 0
 CanJoin n (findings.Places xs) (findings.Places ys) = All (λ place. n + place < 2 ^ 32) ys
-CanJoin n (findings.Total p) (findings.Total q) = p.count + q.count ≤ 2 ^ 20
-CanJoin n (findings.Groups gs) (findings.Groups hs) = numbers_in (gs ++ hs) ≤ 2 ^ 20
+CanJoin n (findings.Total p) (findings.Total q) = p.count + q.count < 2 ^ 32
+CanJoin n (findings.Groups gs) (findings.Groups hs) = numbers_in (gs ++ hs) < 2 ^ 32
 CanJoin n finding other = Unit {0}
 
 -- the marks or the heaviest of some groups, as the question wants
@@ -78,9 +78,9 @@ abbrev pub FindingsJoin : Type 0
 FindingsJoin = (shape : ShapeValue) (ask : Ask) (xs ys : List RowValue)
     → joined (length xs) (finding_in shape ask xs) (finding_in shape ask ys) ≡ finding_in shape ask (xs ++ ys)
 
--- What it finds in rows and in those behind them, at most 2^20 in all, can be joined.
+-- What it finds in rows and in those behind them, fewer than 2^32 in all, can be joined.
 abbrev pub FindingsCanJoin : Type 0
-FindingsCanJoin = (shape : ShapeValue) (ask : Ask) (xs ys : List RowValue) → length xs + length ys ≤ 2 ^ 20
+FindingsCanJoin = (shape : ShapeValue) (ask : Ask) (xs ys : List RowValue) → length xs + length ys < 2 ^ 32
     → CanJoin (length xs) (finding_in shape ask xs) (finding_in shape ask ys)
 
 -- The groups of several lists of rows, merged, are those of all the rows.

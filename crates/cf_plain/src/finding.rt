@@ -104,7 +104,7 @@ fn places_then(places: Places, base: u32, more: Places) -> Result<Places, Memory
 
 // The groups of both, with those of one key merged: in one pass if both ascend by key, as the groups that a question finds do.
 fn merge_both(alloc: Global, groups: Groups, more: Groups) -> Result<Groups, Memory>
-    requires few { numbers_in (groups ++ more) ≤ 2 ^ 20 }
+    requires few { numbers_in (groups ++ more) < 2 ^ 32 }
     ensures { IfOk result (λ both. both ≡ merged (groups ++ more)) }
 {
     let (left, right) = (groups.as_slice(), more.as_slice());
