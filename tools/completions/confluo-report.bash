@@ -14,7 +14,7 @@ _confluo_report() {
         json) options="--setup --capture --indent" ;;
         csv) options="--setup --capture --raw" ;;
         prometheus) options="--setup --label --lists --textfile" ;;
-        stream) options="--setup --json --quiet --most --prometheus --label --exec --exec-limit --exec-seconds --again" ;;
+        stream) options="--setup --json --quiet --most --prometheus --label --exec --exec-limit --exec-seconds --again --silence --beats --tcpdump" ;;
         merge) options="--setup --tagged" ;;
         plot) options="--setup --tagged --out --width --dotted --most" ;;
         packets) options="--ask --out --into" ;;
@@ -26,12 +26,12 @@ _confluo_report() {
         --status) mapfile -t COMPREPLY < <(compgen -W "1 2 3 4 5 6 7 8 9" -- "$word"); return ;;
         --into) mapfile -t COMPREPLY < <(compgen -d -- "$word"); return ;;
         --exec) mapfile -t COMPREPLY < <(compgen -c -- "$word"); return ;;
-        --most | --indent | --width | --label | --command | --ask | --exec-limit | --exec-seconds | --again | --capacity | --live) return ;;
+        --most | --indent | --width | --label | --command | --ask | --exec-limit | --exec-seconds | --again | --silence | --capacity | --live) return ;;
         --writers) mapfile -t COMPREPLY < <(compgen -W "1 2 4 8 15" -- "$word"); return ;;
         --segments) mapfile -t COMPREPLY < <(compgen -W "1 2 4 16" -- "$word"); return ;;
         --nodes) mapfile -t COMPREPLY < <(compgen -W "1024 8192 65536" -- "$word"); return ;;
         --schema) mapfile -t COMPREPLY < <(compgen -W "packet6 packet" -- "$word"); return ;;
-        --setup | --capture | --out | --textfile | --prometheus) mapfile -t COMPREPLY < <(compgen -f -- "$word"); return ;;
+        --setup | --capture | --out | --textfile | --prometheus | --tcpdump) mapfile -t COMPREPLY < <(compgen -f -- "$word"); return ;;
     esac
     if [ "${word:0:1}" = - ]; then
         mapfile -t COMPREPLY < <(compgen -W "$options --help" -- "$word")

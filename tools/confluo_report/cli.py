@@ -11,6 +11,7 @@ from typing import Callable, Mapping, Sequence
 
 from . import ask as asking
 from .addresses import Ranked
+from .alerting import Commands
 from .ask_exports import answers_csv, answers_json
 from .captures import CaptureFault
 from .check import check
@@ -19,10 +20,12 @@ from .details import Details, details_of
 from .errors import Complaint
 from .explain import Case, explain, read_bytes
 from .explain_capture import REASONS
+from .incoming import Incoming
 from .exports import csv_text, json_text
 from .matching import must_match
 from .merge import Merged, Named, is_merged, merge, merged_lines, parse_merged, split_reports
 from .metrics import labels_of, metrics_text, write_at_once
+from .outputs import JsonLines, Output, Several, WordLines
 from .packets import copy_packets
 from .plot import drawing_of, plot
 from .questions import write_setup
@@ -31,18 +34,11 @@ from .reports import Report, Snapshot, is_told, parse, parse_report, refusal_of
 from .setups import Setup, SetupFault, parse_setup
 from .run import HELP, run
 from .show import Viewer, asks_of, merged_shown, report_lines, snapshot_lines
-from .stream import (
-    OWN_TROUBLE,
-    Again,
-    Commands,
-    Incoming,
-    JsonLines,
-    Output,
-    Textfile,
-    WordLines,
-    stream,
-)
+from .states import Again, Forgotten, Silence
+from .stream import OWN_TROUBLE, stream
 from .tables import style_for
+from .tcpdump import Notes
+from .textfile import Textfile
 from .unparsed import notice
 from .version import version
 
@@ -254,25 +250,33 @@ def _stream(words: Words) -> int:
     setup = _setup_of(words.setup)
     if words.exec_limit < 1 or words.exec_seconds < 1:
         raise Complaint("--exec-limit and --exec-seconds are at least 1")
+    notes = Notes(words.tcpdump) if words.tcpdump else None
+    output = _outputs(words, setup, notes)
+    incoming = Incoming(_shown(words.report), setup, words.beats)
+    if words.report == "-":
+        return stream(sys.stdin.fileno(), incoming, output, notes)
+    with open(words.report, "rb", buffering=0) as file:
+        return stream(file.fileno(), incoming, output, notes)
+
+
+def _outputs(words: Words, setup: Setup | None, notes: Notes | None) -> Output:
+    """Where the stream goes. Metrics count all alerts; the other outputs have those that are not held back."""
     commands = Commands(words.exec, words.exec_limit, words.exec_seconds, setup) if words.exec else None
     outputs: list[Output] = [commands] if commands else []
-    if words.prometheus:
-        labels = labels_of(words.label)
-        outputs.append(Textfile(words.prometheus, labels, setup, commands))
     if words.json:
-        outputs.append(JsonLines(sys.stdout, setup, words.setup))
+        outputs.append(JsonLines(sys.stdout, setup, words.setup, words.beats))
     elif not words.quiet:
         viewer = Viewer(setup, {}, style_for(sys.stdout), words.most)
-        outputs.append(WordLines(sys.stdout, viewer, words.setup))
+        outputs.append(WordLines(sys.stdout, viewer, words.setup, words.beats))
     if words.again:
-        # Metrics count all alerts; the other outputs have those that are not held back.
-        others = [it for it in outputs if not isinstance(it, Textfile)]
-        outputs = [Again(others, words.again), *(it for it in outputs if isinstance(it, Textfile))]
-    incoming = Incoming(_shown(words.report), setup)
-    if words.report == "-":
-        return stream(sys.stdin.fileno(), incoming, outputs)
-    with open(words.report, "rb", buffering=0) as file:
-        return stream(file.fileno(), incoming, outputs)
+        outputs = [Again(outputs, words.again)]
+    if words.prometheus:
+        counts = notes.counts if notes else None
+        file = Textfile(words.prometheus, labels_of(words.label), setup, commands, counts)
+        file.seen.is_silent = False if words.silence else None
+        outputs.append(file)
+    outputs.append(Forgotten())
+    return Silence(outputs, words.silence) if words.silence else Several(outputs)
 
 
 def _add_run(commands: argparse._SubParsersAction) -> Callable[[Words], int]:
@@ -417,6 +421,19 @@ def _add_stream(commands: argparse._SubParsersAction) -> Callable[[Words], int]:
         default=0,
         metavar="S",
         help="after an alert hold back those of the same trigger for S seconds, and say how many; 0: none (0)",
+    )
+    parser.add_argument(
+        "--silence",
+        type=_count,
+        default=0,
+        metavar="S",
+        help="say once that no packet came for S seconds, and once that they come again; needs `watch --beat`; 0: never (0)",
+    )
+    parser.add_argument("--beats", action="store_true", help="also show the beats of `watch --beat`")
+    parser.add_argument(
+        "--tcpdump",
+        metavar="FILE",
+        help="a pipe with tcpdump's standard error: its counts are metrics too, the rest is handed on",
     )
     parser.set_defaults(trouble=OWN_TROUBLE)
     return _stream

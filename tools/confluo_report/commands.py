@@ -19,6 +19,7 @@ OPTIONS = {
     "after": (0, 2**32 - 1),
     "turn": (1, 4096),
     "every": (0, 2**32 - 1),
+    "beat": (0, 2**32 - 1),
 }
 SCHEMAS = ("packet", "packet6")
 DEFAULTS = {"writers": 4, "capacity": 65536, "segments": 1, "nodes": 1024, "live": 0, "turn": 1}
@@ -65,7 +66,7 @@ FORMS = {
         "confluo snapshot --setup questions.setup --after 100 host0.pcap host1.pcap",
     ),
     "watch": Form(
-        ("setup", "capacity", "segments", "nodes", "every"),
+        ("setup", "capacity", "segments", "nodes", "every", "beat"),
         ("setup",),
         1,
         1,

@@ -142,7 +142,8 @@ def _usage() -> list[str]:
         "    confluo dump [--schema packet|packet6] [--truncated] CAPTURE",
         "    confluo snapshot --setup FILE --after A [--turn T] [--capacity N] [--nodes M]",
         "        [--truncated] CAPTURE ..",
-        "    confluo watch --setup FILE [--capacity N] [--segments G] [--nodes M] [--every E] [--truncated] CAPTURE",
+        "    confluo watch --setup FILE [--capacity N] [--segments G] [--nodes M] [--every E] [--beat B]",
+        "        [--truncated] CAPTURE",
     ]
 
 

@@ -9,8 +9,23 @@ from typing import Any, Iterator, Mapping, Sequence
 
 from .addresses import Ranked
 from .merge import Joined, Merged
-from .reports import Ask, Body, Fired, Found, Host, Live, Pair, Quad, Report, RoundAlert, Snapshot, Told
-from .setups import Question, Setup
+from .reports import (
+    Ask,
+    Body,
+    Fired,
+    Found,
+    Host,
+    Live,
+    Pair,
+    Quad,
+    Report,
+    RoundAlert,
+    RoundBeat,
+    RoundTotal,
+    Snapshot,
+    Told,
+)
+from .setups import SECOND, Question, Setup
 from .values import key_text, utc
 
 FORMAT = "confluo-report/1"
@@ -74,6 +89,11 @@ def told_object(it: Told, setup: Setup | None = None) -> dict[str, Any]:
     if isinstance(it, RoundAlert):
         found = {"trigger": it.trigger, "bucket": it.bucket, "value": it.value, "prefix": it.prefix}
         return {"kind": "alert", **found, **_time(setup, it.bucket)}
+    if isinstance(it, RoundBeat):
+        found = {"prefix": it.prefix, "seconds": it.seconds, "time": utc(it.seconds * SECOND)}
+        return {"kind": "beat", **found}
+    if isinstance(it, RoundTotal):
+        return {"kind": "total", "name": it.name, "count": it.count, "sum": it.sum, "prefix": it.prefix}
     answer = body_object(it.body, setup, setup.question(it.name) if setup else None)
     return {"kind": "live", "name": it.name, "first": it.first, "prefix": it.prefix, "answer": answer}
 
@@ -223,6 +243,12 @@ class _Table:
         for told in read.told:
             if isinstance(told, RoundAlert):
                 yield ("alert", "", told.trigger, "", told.prefix, "", self.bucket(told.bucket), told.value)
+            elif isinstance(told, RoundBeat):
+                time = utc(told.seconds * SECOND) if self.setup else told.seconds
+                yield ("at", "", "", "", told.prefix, "", time, "")
+            elif isinstance(told, RoundTotal):
+                for name, value in (("count", told.count), ("sum", told.sum)):
+                    yield ("total", "", told.name, "", told.prefix, "", name, value)
             else:
                 prefix = f"{told.first}..{told.prefix}"
                 yield from self.body(("live", "", told.name, told.body.kind, prefix), told.body)

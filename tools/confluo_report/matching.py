@@ -5,7 +5,7 @@ from __future__ import annotations
 from typing import Sequence
 
 from .errors import Complaint
-from .reports import Alert, Ask, Fired, Report, RoundAlert, Snapshot, Told, Top
+from .reports import Alert, Ask, Fired, Report, RoundAlert, RoundBeat, RoundTotal, Snapshot, Told, Top
 from .setups import Setup
 
 
@@ -79,6 +79,10 @@ def must_be_told(it: Told, setup: Setup, source: str) -> None:
     if isinstance(it, RoundAlert):
         if not setup.trigger(it.trigger):
             raise Complaint(f"{source} is not of this setup, which has no trigger `{it.trigger}`")
+        return
+    if isinstance(it, RoundTotal) and not setup.lane(it.name, "aggregate"):
+        raise Complaint(f"{source} is not of this setup, which has no aggregate `{it.name}`")
+    if isinstance(it, (RoundBeat, RoundTotal)):
         return
     question = setup.question(it.name)
     if it.name not in setup.lives or not question or question.kind != it.body.kind:

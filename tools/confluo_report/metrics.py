@@ -12,7 +12,7 @@ from typing import Callable, Iterable
 
 from .errors import Complaint
 from .merge import Merged
-from .reports import Body, Fired, Found, Quad, Report, RoundAlert, Snapshot
+from .reports import Body, Fired, Found, Quad, Report, RoundAlert, RoundBeat, RoundLive, RoundTotal, Snapshot
 from .setups import Setup
 from .values import key_text
 
@@ -20,6 +20,10 @@ LABEL = re.compile(r"[a-zA-Z_][a-zA-Z0-9_]*")
 EXACT = 2**53
 HELP = {
     "confluo_records": "Records of the capture.",
+    "confluo_records_total": "Records that had come when the last line was written.",
+    "confluo_aggregate_records_total": "Records that the aggregate's filter selects, at the last beat.",
+    "confluo_aggregate_sum_total": "What the aggregate adds up over these records, modulo 2^53.",
+    "confluo_last_packet_seconds": "The time of the last packet at the last beat, in seconds since 1970.",
     "confluo_cut_records": "Records of all hosts in the cut.",
     "confluo_host_records": "Records of the host in the cut.",
     "confluo_found_records": "How many records the question found.",
@@ -36,12 +40,16 @@ HELP = {
     "confluo_window_record": "The first record that the answers are on, by its number.",
     "confluo_told_alert_value": "The value in a time bucket in which the trigger began to fire.",
     "confluo_stream_running": "1 while the stream is read, 0 after its end.",
-    "confluo_stream_records_total": "Records that had come when the last line was written.",
     "confluo_stream_alerts_total": "Alerts of the trigger since the start.",
-    "confluo_stream_alert_bucket": "The time bucket of the trigger's last alert.",
+    "confluo_stream_alert_bucket_number": "The time bucket of the trigger's last alert.",
+    "confluo_stream_alert_seconds": "When the time bucket of the trigger's last alert begins, in seconds since 1970.",
     "confluo_stream_alert_value": "The value of the trigger's last alert.",
     "confluo_stream_commands_total": "Commands run for alerts, by how they ended, or passed over.",
     "confluo_stream_fault": "The code of the fault that ended the stream, 0 for one without a code.",
+    "confluo_stream_silent": "1 while no packet has come for the seconds of --silence, else 0.",
+    "confluo_captured_packets_total": "Packets that tcpdump has handed on, by its own count.",
+    "confluo_received_packets_total": "Packets that tcpdump's filter has let through, by its own count.",
+    "confluo_dropped_packets_total": "Packets that tcpdump has not seen, dropped by the kernel or the interface.",
 }
 STAGES = {"live": "Asked while records were loaded: ", "new": "New in the live answer: "}
 
@@ -128,15 +136,35 @@ def add_body(
             families.add(f"{front}top_value", it.value, **labels, key=keys(str(labels["ask"]), it.key))
 
 
-def _add_report(families: Families, report: Report, triggers: Iterable[str], keys: Keys, lists: bool) -> None:
+def add_beat(
+    families: Families, beat: RoundBeat, totals: Iterable[RoundTotal], setup: Setup | None = None
+) -> None:
+    """The samples of a beat. With the setup, an aggregate's have the names of its filter and of what it measures."""
+    families.add("confluo_last_packet_seconds", beat.seconds)
+    for it in totals:
+        lane = setup.lane(it.name, "aggregate") if setup else None
+        labels: dict[str, object] = {"aggregate": it.name}
+        if setup and lane and lane.measure is not None:
+            labels |= {"filter": lane.over, "measure": setup.schema[lane.measure].name}
+        families.add("confluo_aggregate_records_total", it.count, **labels)
+        # A value holds no more exactly; rate() passes over the step back as over a restart.
+        families.add("confluo_aggregate_sum_total", it.sum % EXACT, **labels)
+
+
+def _add_report(families: Families, report: Report, setup: Setup | None, lists: bool) -> None:
+    keys = keys_of(setup)
     families.add("confluo_records", report.records)
     if report.truncated is not None:
         families.add("confluo_truncated_records", report.truncated)
     if report.window is not None:
         families.add("confluo_window_record", report.window)
+    beats = [it for it in report.told if isinstance(it, RoundBeat)]
+    if beats:
+        totals = [it for it in report.told if isinstance(it, RoundTotal) and it.prefix == beats[-1].prefix]
+        add_beat(families, beats[-1], totals, setup)
     for ask in report.asks:
         add_body(families, "", ask.body, keys, lists, ask=ask.name)
-    counts = dict.fromkeys(triggers, 0)
+    counts = dict.fromkeys((it.name for it in setup.triggers) if setup else (), 0)
     for it in report.alerts:
         counts[it.trigger] = counts.get(it.trigger, 0) + 1
     for name, count in counts.items():
@@ -158,7 +186,7 @@ def _add_loading(families: Families, report: Report, keys: Keys) -> None:
         if isinstance(told, RoundAlert):
             labels = {"trigger": told.trigger, "line": line, "prefix": told.prefix, "bucket": told.bucket}
             families.add("confluo_told_alert_value", told.value, **labels)
-        else:
+        elif isinstance(told, RoundLive):
             labels = {"ask": told.name, "line": line, "first": told.first, "prefix": told.prefix}
             add_body(families, "live_", told.body, keys, True, **labels)
     writers: Counter[int] = Counter()
@@ -205,7 +233,7 @@ def metrics_text(
     elif isinstance(read, Merged):
         _add_merged(families, read, keys, lists)
     else:
-        _add_report(families, read, [it.name for it in setup.triggers] if setup else (), keys, lists)
+        _add_report(families, read, setup, lists)
     return families.text()
 
 

@@ -122,7 +122,25 @@ class RoundLive:
     body: Body
 
 
-Told = Union[RoundAlert, RoundLive]
+@dataclass(frozen=True)
+class RoundBeat:
+    """A beat of `watch`: `prefix` records had come, the last one at that second since 1970."""
+
+    prefix: int
+    seconds: int
+
+
+@dataclass(frozen=True)
+class RoundTotal:
+    """A total of the beat above: of all `prefix` records, how many the aggregate counts, and their sum modulo 2^64."""
+
+    name: str
+    count: int
+    sum: int
+    prefix: int
+
+
+Told = Union[RoundAlert, RoundLive, RoundBeat, RoundTotal]
 
 
 @dataclass(frozen=True)
@@ -191,6 +209,8 @@ FORMS = {
     "window": re.compile(rf"window ({NUMBER})"),
     "round alert": re.compile(rf"alert ({NAME}) ({NUMBER}) ({NUMBER}) @({NUMBER})"),
     "round live": re.compile(rf"live ({NAME}) @({NUMBER})\.\.({NUMBER}) (.*)"),
+    "at": re.compile(rf"at ({NUMBER}) ({NUMBER})"),
+    "total": re.compile(rf"total ({NAME}) count ({NUMBER}) sum ({NUMBER})"),
 }
 QUAD = re.compile(
     rf"(measure|total) count ({NUMBER}) sum ({NUMBER}) least ({NUMBER}|-) greatest ({NUMBER}|-)"
@@ -199,9 +219,12 @@ LISTED = re.compile(rf"(list|find|between) ({NUMBER}):((?: {NUMBER})*)")
 PAIRED = re.compile(rf"(fired|top) ({NUMBER}):((?: {NUMBER}={NUMBER})*)")
 
 
+TOLD = ("alert", "live", "at", "total")
+
+
 def is_told(line: str) -> bool:
     """Whether the line is one of a round of `watch`, or begins like one."""
-    return line.startswith(("alert ", "live "))
+    return line.partition(" ")[0] in TOLD and " " in line
 
 
 def refusal_of(text: str) -> Refusal | None:
@@ -272,6 +295,8 @@ def _shown_form(word: str) -> str:
         "window": "`window F`",
         "round alert": "`alert TRIGGER BUCKET VALUE @T`",
         "round live": "`live NAME @F..T ..`",
+        "at": "`at T S`",
+        "total": "`total NAME count C sum U`",
     }[word]
 
 
@@ -412,16 +437,45 @@ class Rounds:
     def __init__(self) -> None:
         # The window of the last line.
         self.first = self.prefix = 0
+        # The records of the last beat, and of each aggregate the last count.
+        self.beat, self.counts = 0, dict[str, int]()
+        # The aggregates of the beat so far; None where no total may follow.
+        self.names: set[str] | None = None
 
     def take(self, lines: _Lines) -> Told:
         """The next line, which is one of a round."""
-        if lines.word() == "alert":
+        word = lines.word()
+        if word == "total":
+            return self._total(lines)
+        self.names = None
+        if word == "at":
+            return self._beat(lines)
+        if word == "alert":
             name, bucket, value, prefix = lines.take("round alert")
             self._move(lines, self.first, int(prefix))
             return RoundAlert(name, int(bucket), int(value), self.prefix)
         name, first, prefix, text = lines.take("round live")
         self._move(lines, int(first), int(prefix))
         return RoundLive(name, self.first, self.prefix, _body(lines, text, self.prefix, True, self.first))
+
+    def _beat(self, lines: _Lines) -> RoundBeat:
+        prefix, seconds = map(int, lines.take("at"))
+        self._move(lines, self.first, prefix)
+        if prefix <= self.beat:
+            lines.fail(f"a beat after more records than the {self.beat} of the one before", back=1)
+        self.beat, self.names = prefix, set()
+        return RoundBeat(prefix, seconds)
+
+    def _total(self, lines: _Lines) -> RoundTotal:
+        name, count, total = lines.take("total")
+        if self.names is None or name in self.names:
+            lines.fail("`at T S`, the first line of a beat, before each aggregate once", back=1)
+            raise AssertionError
+        if not self.counts.get(name, 0) <= int(count) <= self.beat:
+            lines.fail(f"a count from {self.counts.get(name, 0)}, the last one, to {self.beat}", back=1)
+        self.names.add(name)
+        self.counts[name] = int(count)
+        return RoundTotal(name, int(count), int(total), self.beat)
 
     def _move(self, lines: _Lines, first: int, prefix: int) -> None:
         if prefix < self.prefix or not self.first <= first <= prefix:
@@ -435,7 +489,7 @@ class Rounds:
 
 def _report(lines: _Lines) -> Report:
     told, rounds = [], Rounds()
-    while lines.word() in ("alert", "live"):
+    while lines.word() in TOLD:
         told.append(rounds.take(lines))
     if lines.word() != "records":
         lines.fail("a further line of a round of `watch`, or `records K`, the first line of its final part")
@@ -507,7 +561,7 @@ def parse(text: str, source: str = "report") -> Report | Snapshot:
     _must_be_text(text, source)
     lines = _Lines(text, source)
     readers: dict[str, Callable[[_Lines], Report | Snapshot]]
-    readers = {"records": _report, "cut": _snapshot, "alert": _report, "live": _report}
+    readers = {"records": _report, "cut": _snapshot, **dict.fromkeys(TOLD, _report)}
     reader = readers.get(lines.word())
     if not reader:
         lines.fail("`records K`, the first line of a report, or `cut K`, that of a snapshot")
@@ -547,6 +601,10 @@ def told_text(it: Told) -> str:
     """The line of a round as `watch` writes it."""
     if isinstance(it, RoundAlert):
         return f"alert {it.trigger} {it.bucket} {it.value} @{it.prefix}"
+    if isinstance(it, RoundBeat):
+        return f"at {it.prefix} {it.seconds}"
+    if isinstance(it, RoundTotal):
+        return f"total {it.name} count {it.count} sum {it.sum}"
     return f"live {it.name} @{it.first}..{it.prefix} {body_text(it.body)}"
 
 

@@ -51,6 +51,8 @@ class Lane:
     select: Expression
     key: int | None = None
     measure: int | None = None
+    # Of an aggregate, the name of its filter.
+    over: str = ""
 
 
 @dataclass(frozen=True)
@@ -395,7 +397,7 @@ def _aggregate(it: _Statement) -> None:
     it.must_be_measurable(3, place)
     it.must_have_room("lane", len(it.setup.lanes))
     select = over.select if over else Expression("*", ((),))
-    it.setup.lanes.append(Lane(name, "aggregate", select, None, place))
+    it.setup.lanes.append(Lane(name, "aggregate", select, None, place, it.word(2).text))
 
 
 def _tally(it: _Statement) -> None:

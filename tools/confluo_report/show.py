@@ -20,11 +20,13 @@ from .reports import (
     Quad,
     Report,
     RoundAlert,
+    RoundBeat,
+    RoundTotal,
     Snapshot,
     Told,
     Top,
 )
-from .setups import Lane, Question, Setup, Trigger
+from .setups import SECOND, Lane, Question, Setup, Trigger
 from .tables import Style, marks, table
 from .values import clock, grouped, key_text, unit, units, utc, value_text
 
@@ -382,11 +384,31 @@ def _window_text(report: Report) -> str:
 
 
 def _told(viewer: Viewer, told: Sequence[Told]) -> list[str]:
-    lines = ["", viewer.style.title(f"While the {viewer.things} came")] if told else []
-    for it in told:
+    """What the rounds said, and of their beats the totals of the last."""
+    said = [it for it in told if not isinstance(it, (RoundBeat, RoundTotal))]
+    lines = ["", viewer.style.title(f"While the {viewer.things} came")] if said else []
+    for it in said:
         front, *rest = told_lines(viewer, it)
         lines += [f"  {front}", *(f"  {line}" for line in rest)]
-    return lines
+    beat = next((it for it in reversed(told) if isinstance(it, RoundBeat)), None)
+    totals = [it for it in told if isinstance(it, RoundTotal) and beat and it.prefix == beat.prefix]
+    return lines + (_totals(viewer, beat, totals) if beat and totals else [])
+
+
+def _totals(viewer: Viewer, beat: RoundBeat, totals: Sequence[RoundTotal]) -> list[str]:
+    setup = viewer.setup
+    rows = []
+    for it in totals:
+        lane = setup.lane(it.name, "aggregate") if setup else None
+        about = [f"{part_text(setup, 'sum', lane)}, of {select_text(lane)}"] if setup and lane else []
+        rows.append([it.name, grouped(it.count), grouped(it.sum), *about])
+    head = ["aggregate", viewer.things, "sum", *([""] if setup else [])]
+    title = viewer.style.title("Totals")
+    return [
+        "",
+        f"{title}  after {grouped(beat.prefix)} {viewer.things}",
+        *table(head, rows, viewer.style, "lrr"),
+    ]
 
 
 def bucket_text(setup: Setup | None, bucket: int) -> str:
@@ -407,6 +429,14 @@ def told_lines(viewer: Viewer, it: Told) -> list[str]:
         fires = f" (fires at {condition_text(setup, trigger)})" if setup and trigger else ""
         return [
             f"{viewer.style.high('alert')} {viewer.style.title(it.trigger)}  {where}: {value}{fires}, {after}"
+        ]
+    if isinstance(it, RoundBeat):
+        return [f"beat  {after}, the last of {utc(it.seconds * SECOND)}"]
+    if isinstance(it, RoundTotal):
+        lane = viewer.setup.lane(it.name, "aggregate") if viewer.setup else None
+        total = part_text(viewer.setup, "sum", lane) if viewer.setup and lane else "sum"
+        return [
+            f"total {viewer.style.title(it.name)}  {grouped(it.count)} {viewer.things}, {total} {grouped(it.sum)}"
         ]
     about = f"{heading(viewer, it.name, it.body)}{count_text(viewer, it.body)}"
     span = after if it.first == 0 else f"{after} on those from number {it.first}"

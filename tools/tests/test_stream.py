@@ -1,7 +1,9 @@
 """The text of `watch` as it comes: words, JSON lines, metrics and commands; and its whole text in the other commands."""
 
 import array
+import contextlib
 import fcntl
+import io
 import json
 import os
 import pathlib
@@ -14,13 +16,18 @@ import termios
 import time
 import unittest
 
-from support import ROOT, TOOLS, tool
+from support import REPORT, ROOT, SNAPSHOT, TOOLS, tool
 
 from confluo_report.commands import WordsFault, parse_words
 from confluo_report.errors import Complaint
-from confluo_report.reports import RoundAlert, lines_of, parse
-from confluo_report.stream import Again, Ending, Held, Incoming, Output
+from confluo_report.incoming import Ending, Incoming
+from confluo_report.outputs import Held, Output, Silent, WordLines, json_line
+from confluo_report.reports import RoundAlert, RoundBeat, RoundTotal, lines_of, parse
 from confluo_report.setups import parse_setup
+from confluo_report.show import Viewer
+from confluo_report.states import Again, Forgotten, Silence
+from confluo_report.tcpdump import Notes
+from confluo_report.textfile import Textfile
 
 SETUP = """\
 schema packet
@@ -75,7 +82,22 @@ live h @0..225 top 2: 167772161=120 167772162=70
 records 300
 window 0
 """
-WHOLE = (ONE, TWO, NARROW, CUT, EMPTY, KINDS)
+# With `--beat 1`, in two reads.
+BEATS = """\
+alert t 1 60 @1
+at 1 1
+total a count 1 sum 60
+alert t 2 100 @2
+live q @0..2 list 2: 0 1
+at 2 2
+total a count 2 sum 160
+records 2
+window 0
+ask q list 2: 0 1
+alert t 1 60
+alert t 2 100
+"""
+WHOLE = (ONE, TWO, NARROW, CUT, EMPTY, KINDS, BEATS)
 BAD = (
     ("alert t 1 60 @1\n", "ends after line 1"),
     ("alert t 1 60\n", "`alert TRIGGER BUCKET VALUE @T`"),
@@ -90,6 +112,15 @@ BAD = (
     ("records 2\nwindow 3\n", "at most 2 records"),
     ("records 2\nwindow 1\nask q list 1: 0\n", "from 1 and below 2"),
     ("records 2\nwindow 0\norder 0*2\n", "in the order records, window"),
+    ("at 1\n", "`at T S`"),
+    ("at 1 1\nat 1 1\n", "a beat after more records than the 1 of the one before"),
+    ("live q @0..2 list 0:\nat 1 1\n", "a window that is none before 0..2"),
+    ("total a count 1 sum 60\n", "`at T S`, the first line of a beat"),
+    ("at 1 1\nalert t 1 60 @1\ntotal a count 1 sum 60\n", "`at T S`, the first line of a beat"),
+    ("at 1 1\ntotal a count 1 sum 60\ntotal a count 1 sum 60\n", "before each aggregate once"),
+    ("at 1 1\ntotal a count 2 sum 60\n", "a count from 0, the last one, to 1"),
+    ("at 2 1\ntotal a count 2 sum 9\nat 3 1\ntotal a count 1 sum 9\n", "a count from 2, the last one, to 3"),
+    ("at 1 1\ntotal a count 1 sum -\n", "`total NAME count C sum U`"),
     (FAULT, "a refusal: capture: record 1 code 5"),
 )
 
@@ -117,7 +148,7 @@ class Texts(Folder):
                 parse(text, "r")
 
     def test_other_commands_read_it(self) -> None:
-        for text in (ONE, TWO, NARROW, CUT, EMPTY):
+        for text in (ONE, TWO, NARROW, CUT, EMPTY, BEATS):
             for command in ("show", "json", "csv", "prometheus"):
                 ended = tool(command, "--setup", self.setup, stdin=text)
                 self.assertEqual((ended.status, ended.err), (0, ""), (command, text))
@@ -128,6 +159,13 @@ class Texts(Folder):
         rows = tool("csv", stdin=NARROW).out.splitlines()
         for row in ("alert,,t,,1,,1,60", "live,,q,list,1..2,0,1,", "window,,,,,,,1", "alert,,t,,,,2,100"):
             self.assertIn(row, rows)
+        rows = tool("csv", stdin=BEATS).out.splitlines()
+        for row in ("at,,,,2,,2,", "total,,a,,2,,count,2", "total,,a,,2,,sum,160"):
+            self.assertIn(row, rows)
+        self.assertIn(
+            "Totals  after 2 packets\n  aggregate  packets  sum\n  a                2  160  sum of len, of all packets\n",
+            tool("show", "--setup", self.setup, stdin=BEATS).out,
+        )
         self.assertIn("confluo_window_record 1\n", tool("prometheus", "--brief", stdin=NARROW).out)
         self.assertIn("not merged", tool("merge", self.file("a", ONE), self.file("b", ONE)).err)
         other = self.file("o", SETUP.replace("trigger t", "trigger u"))
@@ -142,16 +180,19 @@ class Texts(Folder):
         for text in WHOLE:
             jsonschema.validate(json.loads(tool("json", stdin=text).out), schema)
         twice = "alert t 1 60 @1\nalert t 2 60 @2\nrecords 2\nwindow 0\n"
+        words = ("stream", "--json", "--beats", "--again", "60")
         for text in (*WHOLE, FAULT, twice):
-            for line in tool("stream", "--json", "--again", "60", self.file("w", text)).out.splitlines():
+            for line in tool(*words, self.file("w", text)).out.splitlines():
                 jsonschema.validate(json.loads(line), schema)
+        for is_over in (False, True):
+            jsonschema.validate(json.loads(json_line(Silent(2, 60, is_over))), schema)
 
     def test_refusals(self) -> None:
         for line, said in (
             ("capture: record 1 code 5", "stopped in the middle (code 5)"),
             ("capture: record 0 code 1", "tcpdump -U -w -"),
             ("capture: record 0 code 3", "tcpdump -i any -y LINUX_SLL -U -w -"),
-            ("full: more than 4294967295 records", "Start it again"),
+            ("full: more than 9007199254740991 records", "More than 9007199254740991 records came"),
             ("nodes: more than 29 nodes", "256 nodes are enough"),
         ):
             self.assertIn(said, tool("explain", stdin=f"alert t 1 60 @1\n{line}\n").out)
@@ -165,13 +206,16 @@ class Texts(Folder):
         for text, why in (
             ("watch --setup s --segments 17 c", "above 1048576"),
             ("watch --setup s --every 4294967296 c", "from 0 to 4294967295"),
+            ("watch --setup s --beat 4294967296 c", "from 0 to 4294967295"),
+            ("run --setup s --beat 1 c", "not an option of `run`"),
             ("watch --setup s --writers 1 c", "not an option of `watch`"),
             ("watch c", "--setup is missing"),
         ):
             with self.assertRaisesRegex(WordsFault, re.escape(why)):
                 parse_words(text.split())
         command = parse_words("watch --setup s --capacity 5 --truncated c".split())
-        self.assertEqual([command.number(it) for it in ("segments", "nodes", "every")], [4, 65536, 4096])
+        options = ("segments", "nodes", "every", "beat")
+        self.assertEqual([command.number(it) for it in options], [4, 65536, 4096, 0])
 
 
 class Streams(Folder):
@@ -201,6 +245,25 @@ class Streams(Folder):
         self.assertIn("Alerts\n  trigger  bucket  value\n  t        2         120\n", grown)
         self.assertEqual(self.stream(ONE, "--quiet"), (0, "", ""))
 
+    def test_beats_are_shown_if_asked_for(self) -> None:
+        wanted = [
+            "beat  after 2 packets, the last of 1970-01-01 00:00:02Z",
+            "total a  2 packets, sum of len 160",
+        ]
+        plain = "".join(f"{it}\n" for it in BEATS.splitlines() if not it.startswith(("at ", "total ")))
+        shown = [self.stream(it, "--setup", self.setup)[1] for it in (BEATS, plain)]
+        self.assertEqual(shown[0], shown[1])
+        lines = self.stream(BEATS, "--setup", self.setup, "--beats")[1].splitlines()
+        self.assertEqual([it for it in lines if it.startswith(("beat", "total"))][2:], wanted)
+        found = [json.loads(it) for it in self.stream(BEATS, "--json", "--beats")[1].splitlines()]
+        kinds = ["alert", "beat", "total", "alert", "live", "beat", "total", "report"]
+        self.assertEqual([it["kind"] for it in found], kinds)
+        beat = {"prefix": 1, "seconds": 1, "time": "1970-01-01 00:00:01Z"}
+        self.assertEqual(found[1], {"format": "confluo-report/1", "kind": "beat", **beat})
+        total = {"name": "a", "count": 1, "sum": 60, "prefix": 1}
+        self.assertEqual(found[2], {"format": "confluo-report/1", "kind": "total", **total})
+        self.assertNotIn("beat", self.stream(BEATS, "--json")[1])
+
     def test_json_lines(self) -> None:
         _, out, _ = self.stream(TWO, "--json", "--setup", self.setup)
         found = [json.loads(it) for it in out.splitlines()]
@@ -228,6 +291,8 @@ class Streams(Folder):
             ("file: none of that name\n", 9, "file: none"),
             ("alert u 1 60 @1\n", 11, "no trigger `u`"),
             ("live t @0..1 list 1: 0\n", 11, "no `t list` is live"),
+            ("at 1 1\ntotal b count 1 sum 60\n", 11, "no aggregate `b`"),
+            (BEATS[: BEATS.index("records")] + "nodes: more than 29 nodes\n", 7, "nodes: more than 29 nodes"),
             ("nothing\n", 11, "line 1 is not one that `watch` writes"),
             ("alert t 1 60 @1\n\xff\n", 11, "line 2 is not ASCII"),
             ("records 2\nask q list 0:\norder 0*2\n", 11, "a report of `confluo run`"),
@@ -246,6 +311,23 @@ class Streams(Folder):
                 found += incoming.feed(TWO[at : at + size].encode())
             self.assertEqual(found, whole)
             self.assertEqual(incoming.end().report, parse(TWO[TWO.index("records") :]))
+
+    def test_the_last_beat_of_a_piece_is_enough(self) -> None:
+        beats = "".join(f"at {at} 1\ntotal a count {at} sum {at}\n" for at in range(1, 50))
+        last = [RoundBeat(49, 1), RoundTotal("a", 49, 49, 49)]
+        self.assertEqual(list(Incoming("w", None, False).feed(beats.encode())), last)
+        self.assertEqual(len(list(Incoming("w").feed(beats.encode()))), 98)
+        for size in range(1, 100):
+            incoming, found = Incoming("w", None, False), []
+            for at in range(0, len(beats), size):
+                found += incoming.feed(beats[at : at + size].encode())
+            self.assertEqual(found[-2:], last)
+        incoming = Incoming("w", None, False)
+        self.assertEqual(len(list(incoming.feed(f"alert t 1 60 @1\n{beats}".encode()))), 3)
+        with self.assertRaisesRegex(Complaint, "line 101 is not one"):
+            list(incoming.feed(b"at 50 1\nnothing\n"))
+
+    def test_a_line_without_an_end(self) -> None:
         with self.assertRaisesRegex(Complaint, "line 1 has no end"):
             list(Incoming("w").feed(bytes(2**24 + 1)))
 
@@ -256,11 +338,12 @@ class Streams(Folder):
         for line in (
             "# TYPE confluo_stream_alerts_total counter",
             'confluo_stream_running{site="a"} 0',
-            "# TYPE confluo_stream_records_total counter",
-            'confluo_stream_records_total{site="a"} 2',
+            "# TYPE confluo_records_total counter",
+            'confluo_records_total{site="a"} 2',
             'confluo_window_record{site="a"} 1',
             'confluo_stream_alerts_total{site="a",trigger="t"} 2',
-            'confluo_stream_alert_bucket{site="a",trigger="t"} 2',
+            'confluo_stream_alert_bucket_number{site="a",trigger="t"} 2',
+            'confluo_stream_alert_seconds{site="a",trigger="t"} 2',
             'confluo_stream_alert_value{site="a",trigger="t"} 100',
             'confluo_live_found_records{site="a",ask="q",kind="list"} 1',
         ):
@@ -271,6 +354,20 @@ class Streams(Folder):
         self.assertIn('confluo_stream_alerts_total{trigger="t"} 0\n', path.read_text())
         self.stream(f"alert t {2**63} 5 @1\n", "--prometheus", str(path))
         self.assertNotIn("alert_bucket", path.read_text())
+        self.stream(BEATS, "--setup", self.setup, "--prometheus", str(path), "--silence", "60")
+        lines = path.read_text().splitlines()
+        aggregate = '{aggregate="a",filter="f",measure="len"}'
+        for line in (
+            "confluo_last_packet_seconds 2",
+            "# TYPE confluo_aggregate_records_total counter",
+            f"confluo_aggregate_records_total{aggregate} 2",
+            "# TYPE confluo_aggregate_sum_total counter",
+            f"confluo_aggregate_sum_total{aggregate} 160",
+            "confluo_stream_silent 0",
+        ):
+            self.assertIn(line, lines)
+        self.stream(f"at 1 1\ntotal a count 1 sum {2**64 - 1}\n", "--prometheus", str(path))
+        self.assertIn(f'confluo_aggregate_sum_total{{aggregate="a"}} {2**53 - 1}\n', path.read_text())
         status, out, err = self.stream(ONE, "--prometheus", "/no/such/folder/m.prom")
         self.assertEqual(status, 0)
         self.assertIn("cannot be written", err)
@@ -282,12 +379,21 @@ class Streams(Folder):
     )
     def test_promtool_finds_nothing(self) -> None:
         path = pathlib.Path(self.place.name, "m.prom")
+        said = self.file(
+            "n", "tcpdump: 2 packets captured, 3 packets received by filter, 1 packet dropped by kernel\n"
+        )
+        words = ("--prometheus", str(path), "--exec", "true", "--silence", "60", "--tcpdump", said)
         for text in (*WHOLE, FAULT):
-            self.stream(text, "--prometheus", str(path), "--exec", "true")
-            done = subprocess.run(
-                ["promtool", "check", "metrics"], input=path.read_bytes(), capture_output=True
-            )
-            self.assertEqual((done.returncode, done.stdout + done.stderr), (0, b""))
+            self.stream(text, "--setup", self.setup, *words)
+            self.must_be_good(path.read_bytes())
+            if text != FAULT:
+                self.must_be_good(tool("prometheus", "--lists", stdin=text).out.encode())
+        self.must_be_good(tool("prometheus", "--lists", "--label", "host=a", stdin=REPORT).out.encode())
+        self.must_be_good(tool("prometheus", "--lists", stdin=SNAPSHOT).out.encode())
+
+    def must_be_good(self, metrics: bytes) -> None:
+        done = subprocess.run(["promtool", "check", "metrics"], input=metrics, capture_output=True)
+        self.assertEqual((done.returncode, done.stdout + done.stderr), (0, b""))
 
 
 class Shown(Output):
@@ -301,6 +407,9 @@ class Shown(Output):
 
     def held(self, it: Held) -> None:
         self.found.append((it.trigger, it.count, it.last.bucket, it.is_over))
+
+    def silent(self, it: Silent) -> None:
+        self.found.append((it.prefix, it.seconds, it.is_over))
 
 
 class Holding(unittest.TestCase):
@@ -326,7 +435,7 @@ class Holding(unittest.TestCase):
             again.pause()
         told = [1, 3, ("t", 2, 4, False), 5, ("u", 0, 3, True), ("t", 0, 5, True)]
         self.assertEqual(shown.found, told)
-        self.assertFalse(again.is_busy())
+        self.assertIsNone(again.rest())
 
     def test_what_is_held_at_the_end_is_told(self) -> None:
         shown = Shown()
@@ -335,6 +444,100 @@ class Holding(unittest.TestCase):
             again.told(RoundAlert("t", bucket, 60, bucket))
         again.end(Ending())
         self.assertEqual(shown.found, [1, ("t", 1, 2, False)])
+
+
+class Watching(Folder):
+    """Silence, buckets that were forgotten, and what tcpdump says."""
+
+    def test_silence_is_told_once_and_its_end_too(self) -> None:
+        now, shown = [0.0], Shown()
+        silence = Silence([shown], 10, lambda: now[0])
+        # When, and how many records have come; None: nothing waits to be read.
+        for time_now, prefix in (
+            (9, None),
+            (10, None),
+            (30, None),
+            (31, 5),
+            (40, None),
+            (40.5, 5),
+            (41, None),
+            (60, None),
+            (75, 6),
+            (84, 7),
+            (93, None),
+        ):
+            now[0] = time_now
+            if prefix is None:
+                silence.idle()
+            else:
+                silence.told(RoundAlert("t", prefix, 60, prefix))
+        ends = [(0, 10, False), (0, 31, True), 5, 5, (5, 10, False), (5, 44, True), 6, 7]
+        self.assertEqual(shown.found, ends)
+        self.assertEqual(silence.rest(), 1)
+
+    def test_silence_goes_everywhere(self) -> None:
+        path = pathlib.Path(self.place.name, "m.prom")
+        file = Textfile(str(path), {}, None)
+        lines = io.StringIO()
+        words = WordLines(lines, Viewer(None), None)
+        for it in (Silent(225, 60, False), Silent(225, 83, True)):
+            for output in (file, words):
+                output.silent(it)
+            file.close()
+            self.assertIn(f"confluo_stream_silent {int(not it.is_over)}\n", path.read_text())
+        words.pause()
+        self.assertEqual(
+            lines.getvalue(),
+            "silence  no packet for 60 seconds, after 225 packets\n"
+            "silence  over: packets come again, after 225 packets and 83 seconds without one\n",
+        )
+        found = {"kind": "silence", "over": False, "seconds": 60, "prefix": 225}
+        self.assertEqual(
+            json.loads(json_line(Silent(225, 60, False))), {"format": "confluo-report/1", **found}
+        )
+
+    def test_a_bucket_that_was_forgotten(self) -> None:
+        for buckets, warnings in (
+            (range(5000), 0),
+            ([1, 2, 1], 1),
+            ([1, 2, 1, 1, 2], 1),
+            ([*range(5000), 0], 1),
+        ):
+            text = "".join(f"alert t {it} 60 @{at}\n" for at, it in enumerate(buckets, 1))
+            ended = tool("stream", "--quiet", self.file("w", text))
+            self.assertEqual(ended.err.count("`watch` had forgotten this bucket"), warnings)
+        forgotten = Forgotten()
+        for at in range(3 * 8192):
+            forgotten.told(RoundAlert("t", at, 60, at))
+        self.assertEqual(len(forgotten.seen["t"]), 8192)
+
+    def test_counts_of_tcpdump(self) -> None:
+        line = "{} packets captured, {} packets received by filter, {} packet dropped by kernel"
+        text = (
+            "tcpdump: listening on eth0, link-type EN10MB (Ethernet), snapshot length 128 bytes\n"
+            f"tcpdump: {line.format(5, 6, 0)}\ntcpdump: {line.format(9, 10, 1)}\ntcpdump: {line.format(11, 12, 1)}\n"
+            "13 packets captured\n14 packets received by filter\n1 packet dropped by kernel\n2 packets dropped by interface\n"
+        )
+        path, said = pathlib.Path(self.place.name, "m.prom"), io.StringIO()
+        notes = Notes(self.file("n", text))
+        with contextlib.redirect_stderr(said):
+            while notes.fd is not None:
+                notes.read()
+        Textfile(str(path), {}, None, counts=notes.counts).close()
+        for line in (
+            "confluo_captured_packets_total 13",
+            "confluo_received_packets_total 14",
+            'confluo_dropped_packets_total{by="kernel"} 1',
+            'confluo_dropped_packets_total{by="interface"} 2',
+        ):
+            self.assertIn(f"{line}\n", path.read_text())
+        # What is no count is handed on, and so are counts with packets that were dropped since.
+        told = [it.partition(": ")[2] for it in said.getvalue().splitlines()]
+        self.assertEqual(
+            [it[:28] for it in told],
+            ["tcpdump: listening on eth0, ", "tcpdump: 9 packets captured,", "tcpdump: 2 packets dropped b"],
+        )
+        self.assertIn("cannot be read", tool("stream", "--tcpdump", "/no/such", stdin=ONE).err)
 
 
 class AsAProcess(Folder):
@@ -384,6 +587,32 @@ class AsAProcess(Folder):
         self.assertEqual(process.wait(20), 0)
         self.assertIn("running 0", path.read_text())
         self.assertEqual(process.stderr.read(), b"")
+
+    def test_silence_in_a_stream(self) -> None:
+        out = pathlib.Path(self.place.name, "out")
+        command = f'echo "$CONFLUO_KIND $CONFLUO_OVER $CONFLUO_RECORDS" >> {out}'
+        process = self.start("--silence", "1", "--exec", command)
+        self.send(process, "at 5 1\n")
+        self.assertEqual(self.line(process), "silence  no packet for 1 second, after 5 packets\n")
+        self.send(process, "at 6 2\n")
+        self.assertIn("silence  over: packets come again, after 5 packets and ", self.line(process))
+        self.until(lambda: out.exists() and len(out.read_text().splitlines()) == 2)
+        self.assertEqual(out.read_text().splitlines(), ["silence 0 5", "silence 1 5"])
+
+    def test_a_pipe_of_tcpdump(self) -> None:
+        pipe, path = pathlib.Path(self.place.name, "n"), pathlib.Path(self.place.name, "m.prom")
+        os.mkfifo(pipe)
+        process = self.start("--quiet", "--prometheus", str(path), "--tcpdump", str(pipe))
+        for number in (1, 2):
+            # Each time tcpdump begins anew.
+            with pipe.open("w") as out:
+                out.write(
+                    f"tcpdump: {number} packets captured, 3 packets received by filter, 0 packets dropped by kernel\n"
+                )
+            wanted = f"confluo_captured_packets_total {number}\n"
+            self.until(lambda: path.exists() and wanted in path.read_text())
+        process.stdin.close()
+        self.assertEqual(process.wait(20), 10)
 
     def test_a_reader_that_is_gone(self) -> None:
         process = self.start()
