@@ -2,12 +2,12 @@
 # `make run` proves and builds the program and prints the report of the example capture. The libraries are proved side by side.
 # `make test` is the gate (`rt ci`, which proves from nothing, side by side too), and then the checks of what is not Rattle:
 # `make check-tools` (Python, shell), `make check-twin` (C), `make check-bindings` (the library, in C, Rust and Python) and
-# `make check-packages` (the Debian packages in an empty system).
+# `make check-packages` (the Debian packages in an empty system) and `make check-units` (the systemd units in a system that is booted).
 # `make incidents` compares the documents and the reports of examples/incidents with what the built program prints ($CONFLUO, if set).
 # `make install PREFIX=..` copies the built program, confluo-report, manual pages, completions, systemd units, examples, and the library
 # if `make -C bindings archive` has built it.
 # `make deb` makes Debian packages of them, build/NAME_VERSION_ARCHITECTURE.deb.
-.PHONY: run try test check-tools check-twin check-bindings check-packages incidents install deb built
+.PHONY: run try test check-tools check-twin check-bindings check-packages check-units incidents install deb built
 
 PREFIX ?= /usr/local
 PYTHON ?= python3
@@ -26,7 +26,7 @@ try:
 
 test:
 	rt ci
-	@$(MAKE) --no-print-directory check-tools check-twin check-bindings check-packages
+	@$(MAKE) --no-print-directory check-tools check-twin check-bindings check-packages check-units
 
 check-tools:
 	@if command -v $(PYTHON) > /dev/null; then cd tools/tests && $(PYTHON) -B -m unittest discover; \
@@ -46,6 +46,10 @@ check-bindings:
 # Needs root and debootstrap, which fetches packages. Where they are not at hand it says so and ends well.
 check-packages:
 	@tools/deb/check.sh
+
+# Needs root, systemd-nspawn and debootstrap. Where they are not at hand, or a container does not boot, it says so and ends well.
+check-units:
+	@tools/systemd/check.sh
 
 built:
 	@test -x $(PROGRAM) || { echo "There is no $(PROGRAM) yet: make run builds it"; exit 1; }

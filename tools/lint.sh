@@ -25,7 +25,7 @@ else
     lacks black black
 fi
 if command -v shellcheck > /dev/null; then
-    shellcheck ./*.sh deb/*.sh deb/*.p*inst deb/*.p*rm ../bench/*.sh ../bindings/tests/*.sh || status=1
+    shellcheck ./*.sh deb/*.sh systemd/*.sh deb/*.p*inst deb/*.p*rm ../bench/*.sh ../bindings/tests/*.sh || status=1
 else
     lacks shellcheck shellcheck
 fi

@@ -35,7 +35,7 @@ from .setups import Setup, SetupFault, parse_setup
 from .run import HELP, run
 from .show import Viewer, asks_of, merged_shown, report_lines, snapshot_lines
 from .states import Again, Forgotten, Silence
-from .stream import OWN_TROUBLE, stream
+from .stream import OWN_TROUBLE, STATUSES, stream
 from .tables import style_for
 from .tcpdump import Notes
 from .textfile import Textfile
@@ -247,7 +247,12 @@ def _check(words: Words) -> int:
 
 
 def _stream(words: Words) -> int:
-    setup = _setup_of(words.setup)
+    try:
+        setup = _setup_of(words.setup)
+    except Complaint as complaint:
+        # As `watch` ends with it: a service must not try it again.
+        _trouble(str(complaint))
+        return STATUSES["setup" if os.path.exists(words.setup) else "file"]
     if words.exec_limit < 1 or words.exec_seconds < 1:
         raise Complaint("--exec-limit and --exec-seconds are at least 1")
     notes = Notes(words.tcpdump) if words.tcpdump else None

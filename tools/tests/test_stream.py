@@ -302,6 +302,9 @@ class Streams(Folder):
                 self.assertEqual(found[0], status)
                 self.assertIn(said, found[2])
         self.assertIn("(code 5)", self.stream(FAULT)[1])
+        faulty = self.file("f", "schema packet\nfilter f len=\n")
+        self.assertEqual(self.stream("", "--setup", faulty)[0], 2)
+        self.assertEqual(self.stream("", "--setup", "/no/such")[0], 9)
 
     def test_pieces_change_nothing(self) -> None:
         whole = list(Incoming("w").feed(TWO.encode()))

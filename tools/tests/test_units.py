@@ -47,22 +47,33 @@ class Units(unittest.TestCase):
             self.assertIn(line, capture)
             self.assertIn(line, watch)
 
-    def test_the_watch_has_its_words(self) -> None:
-        """The line of the unit, run by a shell over programs that say which words they have."""
+    def run_line(self, unit: pathlib.Path, **options: str) -> str:
+        """The ExecStart of the unit, run by a shell as written over programs that say which words they have: what they said."""
         folder = pathlib.Path(self.place.name)
-        for name in ("confluo", "confluo-report"):
+        for name in ("confluo", "confluo-report", "tcpdump"):
             (folder / name).write_text(f'#!/bin/sh\nprintf "%s|" "$0" "$@" >> {folder}/words\n')
             (folder / name).chmod(0o755)
-        text = UNITS[1].read_text().replace("@BIN@", str(folder)).replace("\\\n", "")
+        text = unit.read_text().replace("@BIN@", str(folder)).replace("\\\n", "")
         line = next(it for it in text.splitlines() if it.startswith("ExecStart="))
-        words = shlex.split(line.removeprefix("ExecStart=").replace("$$", "$").replace("%i", "br-12"))
-        options = {"WATCH": "--segments 8", "STREAM": "--exec 'mail -s \"two words\" root'"}
+        line = line.replace("/usr/bin/tcpdump", f"{folder}/tcpdump").replace("/run/confluo", str(folder))
+        line = line.removeprefix("ExecStart=").replace("$CAPTURE", options.pop("CAPTURE", ""))
+        words = shlex.split(line.replace("$$", "$").replace("%i", "br-12"))
         subprocess.run(words, env=os.environ | options, check=True, timeout=60)
-        for found in (
-            "watch|--setup|/etc/confluo/br-12.setup|--segments|8|/run/confluo/br-12/packets.pcap|",
-            '|--label|interface=br-12|--exec|mail -s "two words" root|',
+        return (folder / "words").read_text().replace(str(folder), "")
+
+    def test_the_watch_has_its_words(self) -> None:
+        found = self.run_line(UNITS[1], WATCH="--segments 8", STREAM="--exec 'mail -s \"two words\" root'")
+        for words in (
+            "watch|--setup|/etc/confluo/br-12.setup|--segments|8|/br-12/packets.pcap|",
+            "|--label|interface=br-12|--tcpdump|/br-12/tcpdump.said|",
+            '|--exec|mail -s "two words" root|',
         ):
-            self.assertIn(found, (folder / "words").read_text())
+            self.assertIn(words, found)
+
+    def test_the_capture_has_its_words(self) -> None:
+        (pathlib.Path(self.place.name) / "br-12").mkdir()
+        found = self.run_line(UNITS[0], COUNTS="0.1", CAPTURE="not port 22")
+        self.assertEqual(found, "/tcpdump|-U|-n|-i|br-12|-s|128|-B|8192|-w|/br-12/packets.pcap|not|port|22|")
 
     def test_a_refusal_that_stays_is_not_tried_again(self) -> None:
         found = re.search(r"(?m)^RestartPreventExitStatus=(.*)$", UNITS[1].read_text())
