@@ -34,6 +34,7 @@ EXAMPLES = [
     "incidents/*.report",
 ]
 EXAMPLES += ["formats/*.md", "formats/*.dump", "formats/*.pcap*", "dual_stack/*.md", "dual_stack/*.pcap"]
+EXAMPLES += ["monitoring/*"]
 LINK = re.compile(r"(!?)\[([^\]]*)\]\(([^)\s]+)\)")
 
 
