@@ -76,6 +76,7 @@ install: built
 	$(PYTHON) tools/install_documents.py $(SHARE)/doc/confluo
 	@if test -f "$(LIBRARY)"; then $(MAKE) --no-print-directory -C bindings install PREFIX=$(PREFIX) DESTDIR=$(abspath $(DESTDIR)); \
 	else echo "install: the library is left out, make -C bindings archive builds it"; fi
+	@test -n "$(DESTDIR)" || echo "install: for the units, run once: systemd-sysusers confluo.conf && systemctl daemon-reload"
 
 deb: built
 	$(PYTHON) tools/deb/build.py --program $(PROGRAM)

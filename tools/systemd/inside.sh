@@ -71,6 +71,7 @@ systemctl start $watch
 await "no packet is counted" 'has_more confluo_records_total 0'
 await "tcpdump counts no packets" 'has_more confluo_captured_packets_total 0'
 grep -q "^confluo_dropped_packets_total{interface=\"$name\",by=\"kernel\"} 0$" $metrics || fail "drops are no metric"
+setpriv --reuid 65534 --clear-groups cat $metrics > /dev/null || fail "node_exporter may not read the metrics"
 await "a command has no alert" 'journalctl -o cat -t fired | grep -q "^any alert$"'
 say "packets, drops and a command are seen"
 
