@@ -48,6 +48,7 @@ FORMS = {
         1,
         1,
         "confluo run --setup questions.setup capture.pcap",
+        ("truncated", "long"),
     ),
     "synth": Form(
         ("setup", "seed", "count", "writers", "capacity", "segments", "nodes"),
@@ -74,11 +75,16 @@ FORMS = {
         defaults={"segments": 4, "nodes": 65536, "every": 4096},
     ),
 }
-
-
-def default_of(name: str, option: str) -> int:
-    """What an option of the command is where it is not given."""
-    return FORMS[name].defaults.get(option, DEFAULTS.get(option, 0))
+# `run --long`.
+LONG = Form(
+    ("setup", "writers", "capacity", "nodes"),
+    ("setup",),
+    1,
+    4096,
+    "confluo run --long --setup questions.setup first.pcap second.pcap",
+    ("truncated", "long"),
+    {"nodes": 65536},
+)
 
 
 @dataclass
@@ -90,13 +96,27 @@ class Command:
     captures: list[str] = field(default_factory=list)
 
     @property
+    def form(self) -> Form:
+        """What the command takes."""
+        return LONG if self.is_long else FORMS[self.name]
+
+    @property
+    def is_long(self) -> bool:
+        """Whether it is a `run` of captures of any length."""
+        return self.name == "run" and "long" in self.options
+
+    @property
     def may_be_cut(self) -> bool:
         """Whether a capture that is cut off is answered about."""
         return "truncated" in self.options
 
     def number(self, option: str) -> int:
         """The option's number, or its default."""
-        return int(self.options.get(option, default_of(self.name, option)))
+        return int(self.options.get(option, self.default(option)))
+
+    def default(self, option: str) -> int:
+        """What an option of the command is where it is not given."""
+        return self.form.defaults.get(option, DEFAULTS.get(option, 0))
 
 
 class WordsFault(Exception):
@@ -168,7 +188,12 @@ def _must_be_in_range(form: Form, command: Command) -> None:
         valid = text.isascii() and text.isdigit() and (text == "0" or text[0] != "0")
         if not valid or not low <= int(text) <= high:
             why = f"--{name} is a decimal number from {low} to {high} without sign and leading zero, and not `{text}`"
-            raise WordsFault(why, f"{form.example} --{name} {default_of(command.name, name) or low}")
+            raise WordsFault(why, f"{form.example} --{name} {command.default(name) or low}")
+    for name in command.options:
+        if name not in (*form.options, *form.flags):
+            raise WordsFault(
+                f"`run --long` has no --{name}: it keeps what it finds, and no log", form.example
+            )
     capacity, segments = command.number("capacity"), command.number("segments")
     if command.name != "watch" and segments > 1 and capacity % 4096:
         why = f"with more than one segment --capacity is a multiple of 4096, and not {capacity}"
@@ -185,6 +210,7 @@ def parse_words(words: list[str]) -> Command:
         raise WordsFault(f"{first}; the commands are {', '.join(FORMS)}", FORMS["run"].example)
     form, command = FORMS[words[0]], Command(words[0])
     _gather(form, words[1:], command)
+    form = command.form
     _must_be_complete(form, command)
     _must_be_in_range(form, command)
     return command

@@ -5,7 +5,7 @@ from __future__ import annotations
 import os
 import pathlib
 import shlex
-from dataclasses import dataclass, field
+from dataclasses import dataclass, field, replace
 
 from .captures import MAGICS, CaptureFault, Reading
 from .commands import Command, WordsFault, parse_words
@@ -138,6 +138,7 @@ def _usage() -> list[str]:
         "",
         "    confluo run --setup FILE [--writers W] [--capacity N] [--segments G] [--nodes M] [--live R]",
         "        [--truncated] CAPTURE",
+        "    confluo run --long --setup FILE [--writers W] [--capacity N] [--nodes M] [--truncated] CAPTURE ..",
         "    confluo synth --setup FILE --seed S --count C [--writers W] [--capacity N] [--segments G] [--nodes M]",
         "    confluo dump [--schema packet|packet6] [--truncated] CAPTURE",
         "    confluo snapshot --setup FILE --after A [--turn T] [--capacity N] [--nodes M]",
@@ -263,6 +264,12 @@ def _again(case: Case, options: str) -> list[str]:
 
 def explain_full(refusal: Refusal, case: Case) -> list[str]:
     """Status 6."""
+    command = case.command()
+    if command and command.is_long:
+        return [
+            f"The captures have more than {refusal.place} records together (status 6).",
+            "Ask about fewer of them at a time, and merge the reports: `confluo-report merge`.",
+        ]
     if case.is_watch:
         return [
             f"More than {refusal.place} records came, and they have no numbers (status 6).",
@@ -311,6 +318,10 @@ def explain_nodes(refusal: Refusal, case: Case) -> list[str]:
         f"The keys of indexes, filters, aggregates and tallies need more tree nodes than {refusal.place} (status 7)."
     ]
     command = case.command()
+    if command and command.is_long:
+        capacity = max(command.number("capacity") // 4, 1)
+        options = f"--long --nodes 65536 --capacity {capacity}"
+        return lines + ["Smaller segments have fewer different keys:", *_again(case, options)]
     capacity = command.number("capacity") if command else 65536
     need = _need(case, capacity)
     if need is None:
@@ -334,6 +345,9 @@ def explain(refusal: Refusal | None, status: int | None, case: Case) -> list[str
                 "there is no refusal's line; a run without one ends with status 0, 4, 5 or 8: give --status N"
             )
         return {4: explain_reading, 8: explain_memory}.get(status, lambda _: explain_writing())(case)
+    if refusal.capture:
+        # One of several captures is meant.
+        case = replace(case, captures=case.captures[refusal.capture - 1 :][:1])
     if status is not None and KINDS.get(status) != refusal.kind:
         raise Complaint(f"the line is that of a refused {refusal.kind}, and status {status} is another")
     if refusal.kind == "setup":

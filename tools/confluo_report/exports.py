@@ -166,6 +166,8 @@ def _watched(read: Report, setup: Setup | None) -> dict[str, Any]:
 
 
 def _truncated(read: Report | Host) -> dict[str, Any]:
+    if isinstance(read, Report) and read.cuts:
+        return {"cuts": [{"capture": it.key, "records": it.value} for it in read.cuts]}
     return {} if read.truncated is None else {"truncated": read.truncated}
 
 
@@ -276,6 +278,8 @@ class _Table:
                 yield ("order", "", "", "", "", place, stretch.writer, stretch.count)
         if read.truncated is not None:
             yield ("truncated", "", "", "", "", "", "", read.truncated)
+        for it in read.cuts:
+            yield ("truncated", it.key, "", "", "", "", "", it.value)
 
 
 def csv_text(

@@ -156,6 +156,8 @@ def _add_report(families: Families, report: Report, setup: Setup | None, lists: 
     families.add("confluo_records", report.records)
     if report.truncated is not None:
         families.add("confluo_truncated_records", report.truncated)
+    for cut in report.cuts:
+        families.add("confluo_truncated_records", cut.value, capture=cut.key)
     if report.window is not None:
         families.add("confluo_window_record", report.window)
     beats = [it for it in report.told if isinstance(it, RoundBeat)]

@@ -147,8 +147,9 @@ Told = Union[RoundAlert, RoundLive, RoundBeat, RoundTotal]
 class Report:
     """What `run` prints, or `synth`, whose report has no order, or `watch`.
 
-    `truncated` is the number of whole records of a capture that is cut off. Of `watch`, `window` is the number of
-    the first record that the answers are on, and `told` is what its rounds said.
+    `truncated` is the number of whole records of a capture that is cut off; of `run --long` over several captures `cuts` has the
+    places of such captures, from 1, each with that number. Of `watch`, `window` is the number of the first record that the answers
+    are on, and `told` is what its rounds said.
     """
 
     records: int
@@ -159,6 +160,7 @@ class Report:
     truncated: int | None = None
     window: int | None = None
     told: tuple[Told, ...] = ()
+    cuts: tuple[Pair, ...] = ()
 
 
 @dataclass(frozen=True)
@@ -181,11 +183,15 @@ class Snapshot:
 
 @dataclass(frozen=True)
 class Refusal:
-    """A refusal's line: `kind` is its first word, `place` its line, record or number, `code` its code."""
+    """A refusal's line: `kind` is its first word, `place` its line, record or number, `code` its code.
+
+    `capture` is the place, from 1, of the capture that is meant, where several were given to `run --long`.
+    """
 
     kind: str
     place: int = 0
     code: int = 0
+    capture: int = 0
 
 
 REFUSALS = (
@@ -195,6 +201,10 @@ REFUSALS = (
     ("full", re.compile(rf"full: more than ({NUMBER}) records")),
     ("nodes", re.compile(rf"nodes: more than ({NUMBER}) nodes")),
     ("file", re.compile(r"file: none of that name")),
+)
+REFUSALS_OF_ONE = (
+    ("capture", re.compile(rf"capture ({NUMBER}): record ({NUMBER}) code ({NUMBER})")),
+    ("file", re.compile(rf"capture ({NUMBER}): none of that name")),
 )
 FORMS = {
     "records": re.compile(rf"records ({NUMBER})"),
@@ -206,6 +216,7 @@ FORMS = {
     "cut": re.compile(rf"cut ({NUMBER})"),
     "host": re.compile(rf"host ({NUMBER}) @({NUMBER})"),
     "truncated:": re.compile(rf"truncated: record ({NUMBER})"),
+    "truncated: capture": re.compile(rf"truncated: capture ({NUMBER}) record ({NUMBER})"),
     "window": re.compile(rf"window ({NUMBER})"),
     "round alert": re.compile(rf"alert ({NAME}) ({NUMBER}) ({NUMBER}) @({NUMBER})"),
     "round live": re.compile(rf"live ({NAME}) @({NUMBER})\.\.({NUMBER}) (.*)"),
@@ -236,6 +247,11 @@ def refusal_of(text: str) -> Refusal | None:
         found = form.fullmatch(last)
         if found:
             return Refusal(kind, *map(int, found.groups()))
+    for kind, form in REFUSALS_OF_ONE:
+        found = form.fullmatch(last)
+        if found and not before:
+            capture, *more = map(int, found.groups())
+            return Refusal(kind, *more, capture=capture)
     return None
 
 
@@ -292,6 +308,7 @@ def _shown_form(word: str) -> str:
         "cut": "`cut K`",
         "host": "`host H @C`",
         "truncated:": "`truncated: record K`",
+        "truncated: capture": "`truncated: capture F record K`",
         "window": "`window F`",
         "round alert": "`alert TRIGGER BUCKET VALUE @T`",
         "round live": "`live NAME @F..T ..`",
@@ -424,6 +441,16 @@ def _truncated(lines: _Lines, least: int, most: int | None, wanted: str) -> int 
     return whole
 
 
+def _cuts(lines: _Lines, records: int) -> tuple[Pair, ...]:
+    """The captures of several that are cut off."""
+    cuts: list[Pair] = []
+    while lines.at < len(lines.lines) and lines.lines[lines.at].startswith("truncated: capture"):
+        cuts.append(Pair(*map(int, lines.take("truncated: capture"))))
+        if cuts[-1].key <= (cuts[-2].key if len(cuts) > 1 else 0) or sum(it.value for it in cuts) > records:
+            lines.fail(f"captures in ascending order, from 1, with at most {records} records", back=1)
+    return tuple(cuts)
+
+
 def _must_end(lines: _Lines, wanted: str) -> None:
     if lines.at < len(lines.lines):
         lines.fail(wanted)
@@ -502,9 +529,10 @@ def _report(lines: _Lines) -> Report:
     order = _order(lines, records)
     if lives and order is None:
         lines.fail("a further `live` line, or `order W*K ..`")
+    cuts = _cuts(lines, records) if order is None else ()
     truncated = _truncated(lines, records, records, f"`truncated: record {records}`, the report's records")
     _must_end(lines, "a further line of a report, in the order records, ask, alert, live, order, truncated")
-    return Report(records, asks, alerts, lives, order, truncated)
+    return Report(records, asks, alerts, lives, order, truncated, cuts=cuts)
 
 
 def _final_part(lines: _Lines, records: int, rounds: Rounds, told: tuple[Told, ...]) -> Report:
@@ -635,3 +663,5 @@ def lines_of(read: Report | Snapshot) -> Iterator[str]:
 def _truncated_lines(read: Report | Host) -> Iterator[str]:
     if read.truncated is not None:
         yield f"truncated: record {read.truncated}"
+    for it in read.cuts if isinstance(read, Report) else ():
+        yield f"truncated: capture {it.key} record {it.value}"

@@ -369,6 +369,10 @@ def _order(report: Report) -> list[str]:
 def report_lines(viewer: Viewer, report: Report) -> list[str]:
     """The whole report."""
     lines = [f"{grouped(report.records)} {viewer.things}{_window_text(report)}{_cut_text(viewer, report)}"]
+    lines += [
+        f"Capture {it.key} is cut off after {grouped(it.value)}: what came then is missing"
+        for it in report.cuts
+    ]
     for ask in report.asks:
         lines += ask_lines(viewer, ask.name, ask.body)
     lines += _alerts(viewer, report.alerts)

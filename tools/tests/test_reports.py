@@ -1,5 +1,6 @@
 """Reports are read exactly, and what is not a report is refused in words."""
 
+import json
 import re
 import unittest
 
@@ -43,6 +44,10 @@ BAD = (
     ("records 4\ntruncated: record 4\norder 0*4\n", "line 3"),
     ("records 4\ntruncated: 4\n", "line 2"),
     ("records 4\ntruncated: record 4\ntruncated: record 4\n", "line 3"),
+    ("records 4\ntruncated: capture 2 record 1\ntruncated: capture 1 record 1\n", "ascending order"),
+    ("records 4\ntruncated: capture 0 record 1\n", "from 1"),
+    ("records 4\ntruncated: capture 1 record 3\ntruncated: capture 2 record 2\n", "at most 4 records"),
+    ("records 4\norder 0*4\ntruncated: capture 1 record 3\n", "line 3"),
     ("cut 2\nhost 0 @2\ntruncated: record 1\n", "at least the host's 2"),
     ("cut 2\n", "ends after line 1"),
     ("cut 2\nhost 1 @2\n", "host 0"),
@@ -51,10 +56,16 @@ BAD = (
 )
 
 
+# Of `run --long` over three captures, the second and the third of which are cut off.
+LONG = (
+    "records 4\nask a list 1: 3\nalert t 1 90\ntruncated: capture 2 record 1\ntruncated: capture 3 record 0\n"
+)
+
+
 class Reports(unittest.TestCase):
     def test_stored_reports_come_back_to_the_byte(self) -> None:
         texts = [it.read_text() for it in EXAMPLES.rglob("*.report")]
-        texts += [REPORT, SNAPSHOT, CUT_REPORT, CUT_SNAPSHOT]
+        texts += [REPORT, SNAPSHOT, CUT_REPORT, CUT_SNAPSHOT, LONG]
         self.assertGreater(len(texts), 9)
         for text in texts:
             self.assertEqual("".join(f"{it}\n" for it in lines_of(parse(text))), text)
@@ -85,8 +96,22 @@ class Reports(unittest.TestCase):
         ):
             found = refusal_of(line + "\n")
             assert found
-            self.assertEqual((found.kind, found.place, found.code), (kind, place, code))
+            self.assertEqual((found.kind, found.place, found.code, found.capture), (kind, place, code, 0))
+        for line, wanted in (
+            ("capture 2: record 7 code 5", ("capture", 7, 5, 2)),
+            ("capture 2: none of that name", ("file", 0, 0, 2)),
+        ):
+            found = refusal_of(line + "\n")
+            assert found
+            self.assertEqual((found.kind, found.place, found.code, found.capture), wanted)
         self.assertIsNone(refusal_of("setup: line 2 code x\n"))
+
+    def test_captures_of_several_that_are_cut_off(self) -> None:
+        self.assertIn("Capture 2 is cut off after 1: what came then is missing", tool("show", stdin=LONG).out)
+        cuts = [{"capture": 2, "records": 1}, {"capture": 3, "records": 0}]
+        self.assertEqual(json.loads(tool("json", stdin=LONG).out)["cuts"], cuts)
+        self.assertIn("truncated,2,,,,,,1\n", tool("csv", stdin=LONG).out)
+        self.assertIn('confluo_truncated_records{capture="2"} 1\n', tool("prometheus", stdin=LONG).out)
 
     def test_a_snapshot_is_no_report(self) -> None:
         self.assertIsInstance(parse(SNAPSHOT), Snapshot)

@@ -208,12 +208,21 @@ class Texts(Folder):
             ("watch --setup s --every 4294967296 c", "from 0 to 4294967295"),
             ("watch --setup s --beat 4294967296 c", "from 0 to 4294967295"),
             ("run --setup s --beat 1 c", "not an option of `run`"),
+            ("run --long --setup s --segments 2 c", "`run --long` has no --segments"),
+            ("run --setup s --long --live 0 c", "`run --long` has no --live"),
+            ("synth --setup s --seed 1 --count 1 --long", "not an option of `synth`"),
+            ("run --setup s a b", "takes one capture"),
+            ("run --long --setup s", "the capture is missing"),
             ("watch --setup s --writers 1 c", "not an option of `watch`"),
             ("watch c", "--setup is missing"),
         ):
             with self.assertRaisesRegex(WordsFault, re.escape(why)):
                 parse_words(text.split())
         command = parse_words("watch --setup s --capacity 5 --truncated c".split())
+        long = parse_words("run --setup s a --long --capacity 5 b".split())
+        self.assertEqual(
+            (long.captures, long.number("nodes"), long.number("capacity")), (["a", "b"], 65536, 5)
+        )
         options = ("segments", "nodes", "every", "beat")
         self.assertEqual([command.number(it) for it in options], [4, 65536, 4096, 0])
 
