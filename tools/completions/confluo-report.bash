@@ -18,7 +18,7 @@ _confluo_report() {
         merge) options="--setup --tagged" ;;
         plot) options="--setup --tagged --out --width --dotted --most" ;;
         packets) options="--ask --out --into" ;;
-        ask) options="--setup-only --report --json --csv --most --schema --truncated --out" ;;
+        ask) options="--setup-only --report --json --csv --most --schema --truncated --as-one --out" ;;
         check) options="--capture" ;;
         *) options="" ;;
     esac

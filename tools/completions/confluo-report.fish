@@ -55,3 +55,4 @@ complete -c confluo-report -n "__fish_seen_subcommand_from ask" -l setup-only -d
 complete -c confluo-report -n "__fish_seen_subcommand_from ask" -l report -d "Print the bare report"
 complete -c confluo-report -n "__fish_seen_subcommand_from ask" -l schema -x -a "packet6 packet" -d "The schema"
 complete -c confluo-report -n "__fish_seen_subcommand_from run ask" -l truncated -d "Also about captures that are cut off"
+complete -c confluo-report -n "__fish_seen_subcommand_from ask" -l as-one -d "Captures end to end, of any length"

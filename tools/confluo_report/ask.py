@@ -9,11 +9,11 @@ import shutil
 import sys
 import tempfile
 from dataclasses import dataclass, field, replace
-from typing import Iterator, Mapping, Sequence
+from typing import Iterable, Iterator, Mapping, Sequence
 
 from . import program
 from .addresses import Again, Answer, Asker, Ranked, both_families, whole_addresses
-from .details import details_of, dumped_values
+from .details import details_of, details_of_all, dumped_values, split_rows
 from .errors import Complaint
 from .explain import Case, explain
 from .expressions import Attribute
@@ -40,6 +40,10 @@ from .unparsed import Unparsed, unparsed_line
 from .values import grouped
 
 FIRST_NODES = 8192
+# A segment of `run --long` is not made smaller below this.
+LEAST_CAPACITY = 64
+# What several captures are called that are asked as one.
+ALL = "all captures"
 FINDING = ("list", "find", "between")
 OTHERS = "\nconfluo-report: "
 # A folder for setups, and the captures.
@@ -55,17 +59,26 @@ class Job:
     schema: str = "packet6"
     may_be_cut: bool = False
     faults: list[str] = field(default_factory=list)
+    # The captures, end to end, are asked as one.
+    as_one: bool = False
 
     @property
     def is_several(self) -> bool:
-        return len(self.captures) > 1
+        """Whether there are several reports."""
+        return len(self.captures) > 1 and not self.as_one
 
     def setup_text(self) -> str:
         """The setup of the questions as they are asked."""
         return write_setup(self.queries, self.schema, self.is_several)
 
 
-def job_of(words: Sequence[str], schema: str, needs_capture: bool, may_be_cut: bool = False) -> Job:
+def job_of(
+    words: Sequence[str],
+    schema: str,
+    needs_capture: bool,
+    may_be_cut: bool = False,
+    as_one: bool = False,
+) -> Job:
     """Sorts the words into captures and questions; a Complaint where none of these can be asked."""
     texts = [it for it in words if is_question(it)]
     captures = [it for it in words if not is_question(it)]
@@ -80,7 +93,9 @@ def job_of(words: Sequence[str], schema: str, needs_capture: bool, may_be_cut: b
         raise Complaint("there is no capture to ask about")
     if captures.count("-") > 1:
         raise Complaint("standard input is given twice")
-    job = Job(captures, [], schema, may_be_cut)
+    if as_one and schema.startswith("records"):
+        raise Complaint("--as-one is for captures of packets: CSV files are asked one by one")
+    job = Job(captures, [], schema, may_be_cut, as_one=as_one)
     attributes = _attributes_of(schema)
     for it in texts:
         try:
@@ -143,7 +158,23 @@ def run_raising(setup_path: str, capture: str, may_be_cut: bool = False) -> str:
             return ran.text
         refusal = refusal_of(ran.text)
         sizes = _raised(sizes, refusal.kind) if refusal else None
-    raise Complaint(_refused(ran, setup_path, capture))
+    raise Complaint(_refused(ran, setup_path, [capture]))
+
+
+def run_long(setup_path: str, captures: Sequence[str], may_be_cut: bool) -> str:
+    """The report on all captures as one; segments are made smaller as long as their nodes are too few."""
+    capacity = MOST_CAPACITY
+    while True:
+        words = ["run", "--long", "--setup", setup_path, "--writers", "1", "--capacity", str(capacity)]
+        ran = program.run_over_all(words + ["--truncated"] * may_be_cut, captures)
+        if ran.status == 0:
+            return ran.text
+        refusal = refusal_of(ran.text)
+        if refusal and refusal.kind == "words":
+            raise Complaint("--as-one needs a confluo that knows `run --long`, and this one does not")
+        if not refusal or refusal.kind != "nodes" or capacity < LEAST_CAPACITY:
+            raise Complaint(_refused(ran, setup_path, captures))
+        capacity //= 4
 
 
 def _named(setup_path: str, name: str, capture: str, may_be_cut: bool) -> Named:
@@ -152,15 +183,28 @@ def _named(setup_path: str, name: str, capture: str, may_be_cut: bool) -> Named:
     except Complaint as complaint:
         if name != "-":
             raise
-        shown = str(complaint).replace(capture, "standard input", 1).replace(capture, "CAPTURE")
-        raise Complaint(shown) from complaint
+        raise Complaint(_without_copy(str(complaint), capture)) from complaint
 
 
-def _refused(ran: program.Ran, setup_path: str, capture: str) -> str:
+def _without_copy(text: str, copy: str) -> str:
+    """The text with standard input in place of its copy."""
+    return text.replace(copy, "standard input", 1).replace(copy, "CAPTURE")
+
+
+def _all_as_one(job: Job, setup_path: str, captures: Sequence[str]) -> Named:
+    try:
+        return Named(ALL, parse_report(run_long(setup_path, captures, job.may_be_cut), ALL))
+    except Complaint as complaint:
+        if "-" not in job.captures:
+            raise
+        raise Complaint(_without_copy(str(complaint), captures[job.captures.index("-")])) from complaint
+
+
+def _refused(ran: program.Ran, setup_path: str, captures: Sequence[str]) -> str:
     refusal = refusal_of(ran.text)
     if refusal is None and ran.status not in (4, 5, 8):
-        return f"{capture}: confluo ended with status {ran.status} and no refusal"
-    case = Case(setup_path, [capture], is_ask=True)
+        return f"{', '.join(captures)}: confluo ended with status {ran.status} and no refusal"
+    case = Case(setup_path, list(captures), is_ask=True)
     return "\n".join(explain(refusal, None if refusal else ran.status, case))
 
 
@@ -195,6 +239,8 @@ def _asked(queries: Sequence[Query]) -> dict[str, int]:
 def _reports(job: Job, text: str, folder: pathlib.Path, captures: Sequence[str]) -> list[Named]:
     path = folder / "questions.setup"
     path.write_text(text, encoding="ascii")
+    if job.as_one:
+        return [_all_as_one(job, str(path), captures)]
     return [_named(str(path), name, it, job.may_be_cut) for name, it in zip(job.captures, captures)]
 
 
@@ -231,7 +277,7 @@ def fired_in(joined: Joined) -> list[Fired]:
 def answers(job: Job, style: Style, most: int, out: str | None = None) -> list[str]:
     """The lines to print; the packets of the one question that finds some go into the new capture `out`."""
     found = [it for it in job.queries if it.verb in FINDING]
-    if out is not None and (len(found) != 1 or job.is_several or out == "-"):
+    if out is not None and (len(found) != 1 or len(job.captures) > 1 or out == "-"):
         raise Complaint("--out FILE takes the packets of one list, find or between in one capture")
     with files_of(job) as files:
         answered = _answered(job, files, style, most)
@@ -278,10 +324,15 @@ def _answer(job: Job, queries: list[Query], files: Files, style: Style, most: in
         setup = valid(text)
     named = _reports(job, text, folder, captures)
     merged = merge(named, setup, _asked(queries))
+    if named[0].report.cuts:
+        cuts = tuple((job.captures[it.key - 1], it.value) for it in named[0].report.cuts)
+        merged = replace(merged, truncated=cuts)
     has_found = most is not None and any(it.verb in FINDING for it in queries)
     viewers = [
-        Viewer(setup, _details(it.report, setup, path, most or 0) if has_found else {}, style, most or 0)
-        for it, path in zip(named, captures)
+        Viewer(
+            setup, _details(job, it.report, setup, paths, most or 0) if has_found else {}, style, most or 0
+        )
+        for it, paths in zip(named, [captures] if job.as_one else [[it] for it in captures])
     ]
     answered = Answered(merged, queries, viewers, named, {})
     for at, it in enumerate(queries):
@@ -317,10 +368,13 @@ def _values(job: Job, query: Query, expression: str, files: Files) -> dict[int, 
     valid(text)
     names = (query.key, f"{query.key}_low", query.measure)
     parts: dict[int, list[int]] = {}
-    for named, capture in zip(_reports(job, text, *files), files[1]):
-        (body,) = [it.body for it in named.report.asks]
-        assert isinstance(body, Found)
-        for high, low, value in dumped_values(capture, set(body.rows), job.may_be_cut, names):
+    bodies = [it.body for named in _reports(job, text, *files) for it in named.report.asks]
+    rows: Iterable[set[int]] = (set(it.rows) for it in bodies if isinstance(it, Found))
+    if job.as_one:
+        (all_rows,) = rows
+        rows = split_rows(files[1], sorted(all_rows), job.may_be_cut)
+    for its, capture in zip(rows, files[1]):
+        for high, low, value in dumped_values(capture, its, job.may_be_cut, names):
             address = (high << 64) + low
             known = parts.setdefault(address, [0, 0, value, value])
             known[:] = known[0] + 1, known[1] + value, min(known[2], value), max(known[3], value)
@@ -350,14 +404,16 @@ def _answer_of(joined: Joined, part: str) -> Answer:
     return Answer(joined.body, joined.note)
 
 
-def _details(report: Report, setup: Setup, path: str, most: int) -> Mapping[int, str]:
-    return details_of(report.asks, report.records, setup, path, most, report.truncated).lines
+def _details(job: Job, report: Report, setup: Setup, paths: Sequence[str], most: int) -> Mapping[int, str]:
+    if len(paths) > 1:
+        return details_of_all(report.asks, report.records, setup, paths, most, job.may_be_cut).lines
+    return details_of(report.asks, report.records, setup, paths[0], most, report.truncated).lines
 
 
 def _shown(job: Job, answered: Sequence[Answered]) -> list[str]:
     first = answered[0]
     viewer, merged = first.viewers[0], first.merged
-    of = f" of {len(job.captures)} captures" if job.is_several else ""
+    of = f" of {len(job.captures)} captures" if len(job.captures) > 1 else ""
     lines = [f"{grouped(merged.records)} {viewer.things}{of}"]
     for name, whole in merged.truncated:
         lines.append(f"{name} is cut off after {grouped(whole)} {viewer.things}: what came then is missing")

@@ -214,7 +214,7 @@ def _packets(words: Words) -> int:
 
 
 def _ask(words: Words) -> int:
-    job = asking.job_of(words.words, words.schema, not words.setup_only, words.truncated)
+    job = asking.job_of(words.words, words.schema, not words.setup_only, words.truncated, words.as_one)
     if job.faults and (words.setup_only or words.report):
         raise Complaint(OTHERS.join(job.faults))
     if words.setup_only:
@@ -527,6 +527,11 @@ def _add_ask(commands: argparse._SubParsersAction) -> Callable[[Words], int]:
         help="packet without IPv6, or of CSV files: 'records ts:u64,src:u32,len:u16' (packet6)",
     )
     parser.add_argument("--truncated", action="store_true", help="also about captures that are cut off")
+    parser.add_argument(
+        "--as-one",
+        action="store_true",
+        help="ask the captures end to end as one, of any length: needs a confluo with `run --long`",
+    )
     parser.add_argument(
         "--out", metavar="FILE", help="a new capture for the packets of the one list, find or between"
     )

@@ -11,7 +11,7 @@ from ipaddress import IPv4Address
 from typing import Callable, Iterable, Iterator, Mapping, Sequence
 
 from . import program
-from .captures import CaptureFault, Reading
+from .captures import CaptureFault, Reading, frames, opened
 from .errors import Complaint
 from .expressions import Value, value_of
 from .packets import copy_found
@@ -213,6 +213,32 @@ def details_of(
     if setup:
         _must_be_found(setup, asks, {at: it.row() for at, it in packets.items()}, capture)
     return Details({at: it.text() for at, it in packets.items()}, all_)
+
+
+def details_of_all(
+    asks: Sequence[Ask], records: int, setup: Setup, captures: Sequence[str], most: int, may_be_cut: bool
+) -> Details:
+    """The same of captures end to end, whose packets are numbered on."""
+    wanted = {row for ask in asks if isinstance(ask.body, Found) for row in ask.body.rows[: most or None]}
+    packets, first = dict[int, Packet](), 0
+    for capture in captures:
+        reading = Reading(may_be_cut, setup.source)
+        its, found = _dumped(capture, {it - first for it in wanted if it >= first}, reading)
+        packets |= {first + at: it for at, it in its.items()}
+        first += found.packets
+    _must_be_as_many(", ".join(captures), first, records)
+    _must_be_found(setup, asks, {at: it.row() for at, it in packets.items()}, ", ".join(captures))
+    return Details({at: it.text() for at, it in packets.items()})
+
+
+def split_rows(captures: Sequence[str], rows: Sequence[int], may_be_cut: bool) -> Iterator[set[int]]:
+    """Of captures end to end, the rows in each by its own numbers."""
+    first = 0
+    for capture in captures:
+        with opened(capture) as file:
+            count = sum(1 for _ in frames(file, Reading(may_be_cut, "packet6")))
+        yield {it - first for it in rows if first <= it < first + count}
+        first += count
 
 
 def _record_lines(

@@ -2,6 +2,7 @@
 
 from __future__ import annotations
 
+import contextlib
 import os
 import pathlib
 import shutil
@@ -11,6 +12,7 @@ from typing import BinaryIO, Iterator, Sequence
 
 from . import captures
 from .errors import Complaint
+from .progress import printed
 
 HERE = pathlib.Path(__file__).resolve().parent
 PLACES = (HERE.parent.parent / "crates/confluo/out/confluo", HERE.parent.parent.parent / "bin/confluo")
@@ -44,14 +46,27 @@ def program() -> str:
     return found
 
 
-def run(words: Sequence[str], stdin: BinaryIO | None = None) -> Ran:
-    """Runs the program with these words."""
+def run(
+    words: Sequence[str],
+    stdin: BinaryIO | None = None,
+    watched: Sequence[str] = (),
+    fds: Sequence[int] = (),
+) -> Ran:
+    """Runs the program with these words. On a terminal it is said how much of the `watched` files was read; it also has `fds`."""
     named = program()
     try:
-        done = subprocess.run([named, *words], stdin=stdin or subprocess.DEVNULL, stdout=subprocess.PIPE)
+        process = subprocess.Popen(
+            [named, *words], stdin=stdin or subprocess.DEVNULL, stdout=subprocess.PIPE, pass_fds=fds
+        )
     except OSError as error:
         raise Complaint(f"{named} cannot be run: {error.strerror}") from error
-    return Ran(done.returncode, done.stdout.decode("ascii", "replace"))
+    try:
+        text = printed(process, watched)
+    except BaseException:
+        process.kill()
+        process.wait()
+        raise
+    return Ran(process.returncode, text.decode("ascii", "replace"))
 
 
 def lines(words: Sequence[str]) -> Iterator[str]:
@@ -79,6 +94,19 @@ def run_over(words: Sequence[str], path: str) -> Ran:
     """Runs the program over the capture, which comes by a pipe where it is packed or its name is not UTF-8."""
     packer = captures.packer_of(path)
     if packer is None and is_utf8(path):
-        return run([*words, f"./{path}" if path.startswith("-") else path])
+        return run([*words, f"./{path}" if path.startswith("-") else path], watched=[path])
     with captures.opened(path) as pipe:
         return run([*words, "/dev/stdin"], pipe)
+
+
+def run_over_all(words: Sequence[str], paths: Sequence[str]) -> Ran:
+    """Runs the program over these captures, of which those that `run_over` pipes come by pipes too."""
+    with contextlib.ExitStack() as stack:
+        names, fds = list[str](), list[int]()
+        for path in paths:
+            if captures.packer_of(path) is None and is_utf8(path):
+                names.append(f"./{path}" if path.startswith("-") else path)
+                continue
+            fds.append(stack.enter_context(captures.opened(path)).fileno())
+            names.append(f"/dev/fd/{fds[-1]}")
+        return run([*words, *names], watched=paths, fds=fds)

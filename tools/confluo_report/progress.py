@@ -2,9 +2,11 @@
 
 from __future__ import annotations
 
+import os
+import subprocess
 import sys
 import time
-from typing import Iterable, Iterator, TextIO, TypeVar
+from typing import Iterable, Iterator, Sequence, TextIO, TypeVar
 
 STEP = 8192
 REST = 0.5
@@ -29,3 +31,47 @@ def shown(things: Iterable[T], text: str, out: TextIO | None = None) -> Iterator
         if is_there:
             out.write("\r\x1b[K")
             out.flush()
+
+
+def printed(process: subprocess.Popen[bytes], paths: Sequence[str], out: TextIO | None = None) -> bytes:
+    """What the process prints until it ends; meanwhile how much of these files it has read, twice a second."""
+    out = out or sys.stderr
+    if not out.isatty():
+        return process.communicate()[0]
+    is_there = False
+    try:
+        while True:
+            try:
+                return process.communicate(timeout=REST)[0]
+            except subprocess.TimeoutExpired:
+                out.write(f"\r{part_read(process.pid, paths)}\x1b[K")
+                out.flush()
+                is_there = True
+    finally:
+        if is_there:
+            out.write("\r\x1b[K")
+            out.flush()
+
+
+def part_read(pid: int, paths: Sequence[str]) -> str:
+    """How much of the files, which are read one after another, the process has read."""
+    known = [os.path.realpath(it) for it in paths]
+    sizes = [os.path.getsize(it) if os.path.isfile(it) else 0 for it in known]
+    for file, place in _open_files(pid):
+        if file in known and all(sizes):
+            at = known.index(file)
+            read = sum(sizes[:at]) + place
+            return f"confluo has read {100 * read // sum(sizes)}% of {sum(sizes) / 1e6:,.0f} MB"
+    return "confluo runs"
+
+
+def _open_files(pid: int) -> Iterator[tuple[str, int]]:
+    """The files that the process has open, and where it is in them, as Linux says it."""
+    folder = f"/proc/{pid}"
+    try:
+        for fd in os.listdir(f"{folder}/fd"):
+            with open(f"{folder}/fdinfo/{fd}", encoding="ascii") as info:
+                place = next((it.split()[1] for it in info if it.startswith("pos:")), "0")
+            yield os.readlink(f"{folder}/fd/{fd}"), int(place)
+    except OSError:
+        return
