@@ -44,7 +44,7 @@ complete -c confluo-report -n "__fish_seen_subcommand_from stream" -l exec-secon
 complete -c confluo-report -n "__fish_seen_subcommand_from stream" -l again -x -d "Seconds without further alerts of a trigger"
 complete -c confluo-report -n "__fish_seen_subcommand_from stream" -l silence -x -d "Say that no packet came for so many seconds"
 complete -c confluo-report -n "__fish_seen_subcommand_from stream" -l beats -d "Also show beats"
-complete -c confluo-report -n "__fish_seen_subcommand_from stream" -l tcpdump -r -F -d "A pipe with tcpdump's standard error"
+complete -c confluo-report -n "__fish_seen_subcommand_from stream" -l tcpdump -r -F -d "A pipe with what tcpdump says"
 complete -c confluo-report -n $several -l tagged -d "Lines have their tag before them"
 complete -c confluo-report -n "__fish_seen_subcommand_from plot packets ask" -l out -r -F -d "The new file"
 complete -c confluo-report -n "__fish_seen_subcommand_from plot" -l width -x -d "Nanoseconds of a bucket"

@@ -2,6 +2,7 @@
 
 from __future__ import annotations
 
+import contextlib
 import errno
 import os
 import shutil
@@ -21,6 +22,7 @@ CANNOT_WRITE = 5
 HELP = """\
 usage: confluo-report run --setup FILE [--writers W] [--capacity N] [--segments G] [--nodes M] [--live R]
                           [--truncated] CAPTURE
+       confluo-report run --long --setup FILE [--writers W] [--capacity N] [--nodes M] [--truncated] CAPTURE ..
 
 Runs `confluo run` with these words. The report goes to standard output. If the run is refused, nothing goes there: standard error
 says why in words, and the status is confluo's. The capture may be packed by gzip or zstd, and - is standard input.
@@ -28,40 +30,40 @@ says why in words, and the status is confluo's. The capture may be packed by gzi
 """
 
 
-def _run(words: Sequence[str], stdin: BinaryIO | int, out: BinaryIO) -> int:
+def _run(words: Sequence[str], out: BinaryIO, fds: Sequence[int]) -> int:
     """The status; what is printed goes to the file."""
     named = program()
+    stdin = sys.stdin.fileno() if sys.stdin else subprocess.DEVNULL
+    words = ["run", *words]
     try:
-        return subprocess.run([named, *map(os.fsencode, words)], stdin=stdin, stdout=out).returncode
+        return subprocess.run(
+            [named, *map(os.fsencode, words)], stdin=stdin, stdout=out, pass_fds=fds
+        ).returncode
     except OSError as error:
         raise Complaint(f"{named} cannot be run: {error.strerror}") from error
 
 
-def _stdin() -> int:
-    return sys.stdin.fileno() if sys.stdin else subprocess.DEVNULL
-
-
-def _capture_of(words: Sequence[str]) -> str | None:
-    """The capture, where it must come through a pipe."""
+def _piped(words: Sequence[str]) -> list[str]:
+    """The captures that must come through a pipe."""
     try:
         captures = parse_words(["run", *words]).captures
     except WordsFault:
-        return None
-    path = captures[0]
-    if path != "-" and (not os.path.isfile(path) or is_utf8(path) and packer_of(path) is None):
-        return None
-    return path
+        return []
+    return [
+        it
+        for it in captures
+        if it == "-" or os.path.isfile(it) and not (is_utf8(it) and packer_of(it) is None)
+    ]
 
 
 def _run_over(words: Sequence[str], out: BinaryIO) -> int:
-    path = _capture_of(words)
-    if path is None:
-        return _run(["run", *words], _stdin(), out)
-    piped = ["run", *("/dev/stdin" if it == path else it for it in words)]
-    if path == "-":
-        return _run(piped, _stdin(), out)
-    with opened(path) as pipe:
-        return _run(piped, pipe, out)
+    with contextlib.ExitStack() as stack:
+        names, fds = dict[str, str](), list[int]()
+        for path in _piped(words):
+            if path != "-":
+                fds.append(stack.enter_context(opened(path)).fileno())
+            names[path] = "/dev/stdin" if path == "-" else f"/dev/fd/{fds[-1]}"
+        return _run([names.get(it, it) for it in words], out, fds)
 
 
 def run(words: Sequence[str]) -> int:
