@@ -50,7 +50,10 @@ def _drain(output: Output, stopper: Stopper) -> None:
 
 
 def _read(fd: int, incoming: Incoming, output: Output, stopper: Stopper, notes: Notes | None) -> int:
-    if not _pump(fd, incoming, output, stopper, notes):
+    has_ended = _pump(fd, incoming, output, stopper, notes)
+    if notes:
+        notes.finish()
+    if not has_ended:
         return 0
     ending = incoming.end()
     output.end(ending)

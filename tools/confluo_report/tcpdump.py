@@ -4,6 +4,7 @@ from __future__ import annotations
 
 import os
 import re
+import select
 import stat
 from dataclasses import dataclass, field
 
@@ -13,6 +14,8 @@ from .outputs import PIECE, report_trouble
 
 COUNT = re.compile(r"(\d+) packets? (captured|received by filter|dropped by kernel|dropped by interface)")
 MOST_LINE = 65536
+# How long the last words are waited for, in seconds.
+GRACE = 0.2
 
 
 @dataclass
@@ -23,9 +26,9 @@ class Counts:
     is_new: bool = False
 
     def take(self, line: str) -> bool:
-        """Takes the counts of a line; whether it says nothing else, and no more packets were dropped."""
+        """Takes the counts of a line; whether it is one that was asked for while tcpdump runs, and no more packets were dropped."""
         numbers = {what: int(number) for number, what in COUNT.findall(line)}
-        is_plain = bool(numbers) and not any(
+        is_plain = len(numbers) > 1 and not any(
             number > self.found.get(what, 0) for what, number in numbers.items() if what.startswith("dropped")
         )
         self.found |= numbers
@@ -67,6 +70,14 @@ class Notes:
             text = line.decode("utf-8", "replace").strip()
             if text and not self.counts.take(text):
                 report_trouble(text if text.startswith("tcpdump") else f"tcpdump: {text}")
+
+    def finish(self) -> None:
+        """Takes what tcpdump says as it ends, which may come a little later than the end of its packets."""
+        for _ in range(64):
+            if self.fd is None or not select.select([self.fd], [], [], GRACE)[0]:
+                break
+            self.read()
+        self.close()
 
     def close(self) -> None:
         """No more is read."""

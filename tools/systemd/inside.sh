@@ -93,5 +93,6 @@ systemctl stop $watch
 [ "$(of $watch ActiveState)" = inactive ] || fail "a watch that is stopped has failed"
 [ "$(of $capture ActiveState)" = inactive ] || fail "the capture is not stopped with its watch"
 journalctl -o cat -u $watch | grep -q '^[0-9,]* packets' || fail "the final part is not in the journal"
+journalctl -o cat -u $watch | grep -q 'tcpdump: .*packets captured' || fail "the last words of tcpdump are not in the journal"
 say "a stop writes the final part"
 say good

@@ -543,12 +543,11 @@ class Watching(Folder):
             'confluo_dropped_packets_total{by="interface"} 2',
         ):
             self.assertIn(f"{line}\n", path.read_text())
-        # What is no count is handed on, and so are counts with packets that were dropped since.
-        told = [it.partition(": ")[2] for it in said.getvalue().splitlines()]
-        self.assertEqual(
-            [it[:28] for it in told],
-            ["tcpdump: listening on eth0, ", "tcpdump: 9 packets captured,", "tcpdump: 2 packets dropped b"],
-        )
+        # Counts that were asked for are handed on if packets were dropped since; all else is.
+        told = [it.partition(": tcpdump: ")[2][:20] for it in said.getvalue().splitlines()]
+        wanted = ["listening on eth0, l", "9 packets captured, ", "13 packets captured"]
+        wanted += ["14 packets received ", "1 packet dropped by ", "2 packets dropped by"]
+        self.assertEqual(told, wanted)
         self.assertIn("cannot be read", tool("stream", "--tcpdump", "/no/such", stdin=ONE).err)
 
 
@@ -623,8 +622,13 @@ class AsAProcess(Folder):
                 )
             wanted = f"confluo_captured_packets_total {number}\n"
             self.until(lambda: path.exists() and wanted in path.read_text())
-        process.stdin.close()
+        # Its last words come behind its last packet.
+        with pipe.open("w") as out:
+            process.stdin.close()
+            out.write("3 packets captured\n0 packets received by filter\n9 packets dropped by kernel\n")
         self.assertEqual(process.wait(20), 10)
+        self.assertIn('confluo_dropped_packets_total{by="kernel"} 9\n', path.read_text())
+        self.assertIn(b"confluo-report: tcpdump: 9 packets dropped by kernel\n", process.stderr.read())
 
     def test_a_reader_that_is_gone(self) -> None:
         process = self.start()
