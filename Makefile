@@ -2,7 +2,8 @@
 # `make run` proves and builds the program and prints the report of the example capture. The libraries are proved side by side.
 # `make test` is the gate (`rt ci`, which proves from nothing, side by side too), and then the checks of what is not Rattle:
 # `make check-tools` (Python, shell), `make check-twin` (C), `make check-bindings` (the library, in C, Rust and Python) and
-# `make check-packages` (the Debian packages in an empty system) and `make check-units` (the systemd units in a system that is booted).
+# `make check-packages` (the Debian packages in an empty system).
+# `make check-units` watches an interface by the systemd units in a system that is booted in a container; it is not part of the gate.
 # `make incidents` compares the documents and the reports of examples/incidents with what the built program prints ($CONFLUO, if set).
 # `make install PREFIX=..` copies the built program, confluo-report, manual pages, completions, systemd units, examples, and the library
 # if `make -C bindings archive` has built it.
@@ -26,7 +27,7 @@ try:
 
 test:
 	rt ci
-	@$(MAKE) --no-print-directory check-tools check-twin check-bindings check-packages check-units
+	@$(MAKE) --no-print-directory check-tools check-twin check-bindings check-packages
 
 check-tools:
 	@if command -v $(PYTHON) > /dev/null; then cd tools/tests && $(PYTHON) -B -m unittest discover; \

@@ -622,10 +622,10 @@ class AsAProcess(Folder):
                 )
             wanted = f"confluo_captured_packets_total {number}\n"
             self.until(lambda: path.exists() and wanted in path.read_text())
-        # Its last words come behind its last packet.
+        # Its last words are read even if the packets end at the same time.
         with pipe.open("w") as out:
-            process.stdin.close()
             out.write("3 packets captured\n0 packets received by filter\n9 packets dropped by kernel\n")
+        process.stdin.close()
         self.assertEqual(process.wait(20), 10)
         self.assertIn('confluo_dropped_packets_total{by="kernel"} 9\n', path.read_text())
         self.assertIn(b"confluo-report: tcpdump: 9 packets dropped by kernel\n", process.stderr.read())
