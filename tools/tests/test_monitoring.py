@@ -40,7 +40,8 @@ STEPS = {
 ALERTS = {
     "ConfluoTrigger": ((11, 14), (9, 20)),
     "ConfluoSilent": ((23, 24), (5, 19, 27)),
-    "ConfluoStopped": ((31, 38), (29,)),
+    # In minute 46 there is no metric any more.
+    "ConfluoStopped": ((31, 38, 46), (29,)),
     "ConfluoStuck": ((33, 38), (10, 24, 29)),
     "ConfluoDrops": ((16, 24), (14, 28)),
     "ConfluoCommands": ((), (10, 30)),
