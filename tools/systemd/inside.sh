@@ -61,16 +61,21 @@ filter every *
 aggregate sent every len
 trigger any sent count >= 1
 END
+# An older program has no beats.
+beat="--beat 1"
+confluo watch --setup /etc/confluo/$name.setup --beat 1 /dev/null > /dev/null
+[ $? != 1 ] || beat=
 cat > /etc/confluo/$name.env << 'END'
 CAPTURE=not port 22
 COUNTS=1
-WATCH=--truncated --segments 2 --every 1
 STREAM='--exec "logger -t fired \$CONFLUO_TRIGGER \$CONFLUO_KIND"'
 END
+echo "WATCH=--truncated --segments 2 $beat" >> /etc/confluo/$name.env
 systemctl start $watch
 await "no packet is counted" 'has_more confluo_records_total 0'
 await "tcpdump counts no packets" 'has_more confluo_captured_packets_total 0'
 grep -q "^confluo_dropped_packets_total{interface=\"$name\",by=\"kernel\"} 0$" $metrics || fail "drops are no metric"
+[ -z "$beat" ] || await "an aggregate has no total" 'has_more confluo_aggregate_sum_total 0'
 setpriv --reuid 65534 --clear-groups cat $metrics > /dev/null || fail "node_exporter may not read the metrics"
 await "a command has no alert" 'journalctl -o cat -t fired | grep -q "^any alert$"'
 say "packets, drops and a command are seen"
