@@ -91,7 +91,7 @@ def read_bytes(path: str) -> bytes:
 
 def explain_words(case: Case) -> list[str]:
     """Status 1."""
-    lines = ["The words are no command of confluo (status 1)."]
+    lines = ["These words are not a command of confluo (status 1)."]
     if case.words is None:
         lines.append("With --command 'confluo run ..' the words are looked at. The commands are:")
         return lines + _usage()
