@@ -60,12 +60,12 @@ def run(
         )
     except OSError as error:
         raise Complaint(f"{named} cannot be run: {error.strerror}") from error
-    try:
-        text = printed(process, watched)
-    except BaseException:
-        process.kill()
-        process.wait()
-        raise
+    with process:
+        try:
+            text = printed(process, watched)
+        except BaseException:
+            process.kill()
+            raise
     return Ran(process.returncode, text.decode("ascii", "replace"))
 
 

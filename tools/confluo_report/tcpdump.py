@@ -60,7 +60,10 @@ class Notes:
         """Takes what is there."""
         if self.fd is None:
             return
-        piece = os.read(self.fd, PIECE)
+        try:
+            piece = os.read(self.fd, PIECE)
+        except BlockingIOError:
+            return
         *lines, self.rest = (self.rest + piece).split(b"\n")
         if not piece or len(self.rest) > MOST_LINE:
             lines, self.rest = [*lines, self.rest], b""
