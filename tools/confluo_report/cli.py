@@ -445,9 +445,7 @@ def _add_stream(commands: argparse._SubParsersAction) -> Callable[[Words], int]:
 
 
 def _add_several(parser: argparse.ArgumentParser) -> None:
-    parser.add_argument(
-        "--setup", metavar="FILE", help="the setup of the reports; needed if there are tops"
-    )
+    parser.add_argument("--setup", metavar="FILE", help="the setup of the reports; needed if there are tops")
     parser.add_argument(
         "--tagged", action="store_true", help="lines have their tag before them, as of parallel --tag"
     )
