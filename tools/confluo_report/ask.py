@@ -18,7 +18,7 @@ from .errors import Complaint
 from .explain import Case, explain
 from .expressions import Attribute
 from .merge import Joined, Merged, Named, joined_top, merge, merged_lines
-from .nodes import BLOCK, MOST_CAPACITY, MOST_NODES, MOST_RECORDS, Sizes
+from .nodes import FIRST_NODES, MOST_CAPACITY, MOST_RECORDS, Sizes, with_more_nodes
 from .packets import copy_packets
 from .questions import (
     MOST_TOP,
@@ -39,7 +39,6 @@ from .tables import Style
 from .unparsed import Unparsed, unparsed_line
 from .values import grouped
 
-FIRST_NODES = 8192
 # A segment of `run --long` is not made smaller below this.
 LEAST_CAPACITY = 64
 # What several captures are called that are asked as one.
@@ -139,12 +138,7 @@ def _raised(sizes: Sizes, kind: str) -> Sizes | None:
     """Sizes with more room of the kind that was too small, if there are any."""
     if kind == "full" and sizes.segments * sizes.capacity < MOST_RECORDS:
         return Sizes(sizes.capacity, MOST_RECORDS // sizes.capacity, sizes.nodes)
-    if kind == "nodes" and sizes.nodes < MOST_NODES:
-        return Sizes(sizes.capacity, sizes.segments, min(8 * sizes.nodes, MOST_NODES))
-    if kind == "nodes" and sizes.capacity > BLOCK:
-        capacity = sizes.capacity // 2
-        return Sizes(capacity, MOST_RECORDS // capacity, sizes.nodes)
-    return None
+    return with_more_nodes(sizes) if kind == "nodes" else None
 
 
 def run_raising(setup_path: str, capture: str, may_be_cut: bool = False) -> str:

@@ -26,6 +26,10 @@ from .matching import must_match
 from .merge import Merged, Named, is_merged, merge, merged_lines, parse_merged, split_reports
 from .metrics import labels_of, metrics_text, write_at_once
 from .outputs import JsonLines, Output, Several, WordLines
+from .over import Ending, Way, ended_by_signals, over, say_left_out
+from .over_find import find
+from .over_setup import plan_of
+from .over_shown import FORMS
 from .packets import copy_packets
 from .plot import drawing_of, plot
 from .questions import write_setup
@@ -235,6 +239,27 @@ def _ask(words: Words) -> int:
     if job.faults:
         raise Complaint(OTHERS.join(job.faults))
     return 0
+
+
+def _over(words: Words) -> int:
+    setup = _setup_of(words.setup)
+    assert setup
+    if words.jobs == 0:
+        raise Complaint("--jobs is at least 1")
+    plan, found = plan_of(read_bytes(words.setup)), find(words.captures, setup.is_packet)
+    if found.others:
+        print(f"confluo-report: {found.others} other files of the folders are no captures", file=sys.stderr)
+    way = Way(words.jobs, words.scheduler, words.keep_going, words.truncated)
+    try:
+        with ended_by_signals():
+            answered = over(plan, found.captures, way)
+    except Ending as ending:
+        _trouble("interrupted")
+        return ending.status
+    sys.stdout.write(FORMS[words.format](answered, setup, words.most))
+    if words.format != "show":
+        say_left_out(answered)
+    return 1 if answered.left_out else 0
 
 
 def _check(words: Words) -> int:
@@ -553,6 +578,36 @@ def _add_check(commands: argparse._SubParsersAction) -> Callable[[Words], int]:
     return _check
 
 
+def _add_over(commands: argparse._SubParsersAction) -> Callable[[Words], int]:
+    parser = commands.add_parser(
+        "over",
+        help="a setup's answers about many captures as one",
+        description="Asks a setup's questions about many captures by many processes or machines, and puts the answers together, exactly.",
+    )
+    parser.add_argument("--setup", metavar="FILE", required=True, help="the questions")
+    ways = parser.add_mutually_exclusive_group()
+    ways.add_argument(
+        "--jobs", type=_count, metavar="N", help="processes at once; default: one for each processor"
+    )
+    ways.add_argument(
+        "--scheduler", metavar="ADDRESS", help="run on the workers of this Dask scheduler, as tcp://host:8786"
+    )
+    parser.add_argument(
+        "--format", choices=FORMS, default="show", help="tables, or what to write for programs (show)"
+    )
+    parser.add_argument(
+        "--keep-going", action="store_true", help="leave captures out that cannot be answered; status 1"
+    )
+    parser.add_argument("--truncated", action="store_true", help="also about captures that are cut off")
+    parser.add_argument(
+        "--most", type=_count, default=20, metavar="N", help="records shown of each answer; 0: all (20)"
+    )
+    parser.add_argument(
+        "captures", metavar="CAPTURE", nargs="+", help="files, folders with all below them, and patterns"
+    )
+    return _over
+
+
 ADDERS = (
     _add_run,
     _add_show,
@@ -565,12 +620,13 @@ ADDERS = (
     _add_plot,
     _add_packets,
     _add_ask,
+    _add_over,
     _add_check,
 )
 
 
 # Commands that take several files or questions.
-SEVERAL = ("ask", "check", "merge", "packets", "plot")
+SEVERAL = ("ask", "check", "merge", "over", "packets", "plot")
 
 
 def _count(text: str) -> int:

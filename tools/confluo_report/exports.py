@@ -184,7 +184,7 @@ def json_text(
 Cell = object
 
 
-class _Table:
+class Table:
     """The rows of a report; with a setup, times and texts stand in place of buckets and keys."""
 
     def __init__(self, setup: Setup | None, addresses: Addresses | None = None) -> None:
@@ -289,5 +289,5 @@ def csv_text(
     out = io.StringIO()
     writer = csv.writer(out, lineterminator="\n")
     writer.writerow(COLUMNS)
-    writer.writerows(_Table(setup, addresses).rows(read))
+    writer.writerows(Table(setup, addresses).rows(read))
     return out.getvalue()

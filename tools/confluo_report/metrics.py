@@ -24,6 +24,8 @@ HELP = {
     "confluo_aggregate_records_total": "Records that the aggregate's filter selects, at the last beat.",
     "confluo_aggregate_sum_total": "What the aggregate adds up over these records, modulo 2^53.",
     "confluo_last_packet_seconds": "The time of the last packet at the last beat, in seconds since 1970.",
+    "confluo_captures": "Captures that were answered.",
+    "confluo_left_out_captures": "Captures that could not be answered and are left out.",
     "confluo_cut_records": "Records of all hosts in the cut.",
     "confluo_host_records": "Records of the host in the cut.",
     "confluo_found_records": "How many records the question found.",

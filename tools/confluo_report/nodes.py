@@ -13,6 +13,7 @@ BLOCK = 4096
 MOST_RECORDS = 2**20
 MOST_CAPACITY = MOST_NODES = 65536
 MOST_SEGMENTS = 256
+FIRST_NODES = 8192
 Keys = list[set[int]]
 
 
@@ -36,6 +37,16 @@ class Sizes:
         capacity = f"--capacity {self.capacity} " if self.capacity != MOST_CAPACITY else ""
         segments = f"--segments {self.segments} " if self.segments > 1 else ""
         return f"{capacity}{segments}--nodes {self.nodes}"
+
+
+def with_more_nodes(sizes: Sizes) -> Sizes | None:
+    """Sizes with more room for nodes, or smaller segments, each of which has its own; None behind the last."""
+    if sizes.nodes < MOST_NODES:
+        return Sizes(sizes.capacity, sizes.segments, min(8 * sizes.nodes, MOST_NODES))
+    if sizes.capacity > BLOCK:
+        capacity = sizes.capacity // 2
+        return Sizes(capacity, MOST_RECORDS // capacity, sizes.nodes)
+    return None
 
 
 def levels_of(setup: Setup, lane: Lane) -> int:

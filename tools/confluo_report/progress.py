@@ -75,3 +75,39 @@ def _open_files(pid: int) -> Iterator[tuple[str, int]]:
             yield os.readlink(f"{folder}/fd/{fd}"), int(place)
     except OSError:
         return
+
+
+class Parts:
+    """How many of several parts are done, with the bytes a second and the time that is left."""
+
+    def __init__(self, count: int, size: int, out: TextIO | None = None) -> None:
+        self.out = out or sys.stderr
+        self.count, self.size = count, size
+        self.ended = self.read = 0
+        self.begun = self.said = time.monotonic()
+        self.is_there = False
+
+    def __enter__(self) -> Parts:
+        return self
+
+    def __exit__(self, *_: object) -> None:
+        if self.is_there:
+            self.out.write("\r\x1b[K")
+            self.out.flush()
+
+    def done(self, size: int) -> None:
+        """One more part, of that size, is done."""
+        self.ended += 1
+        self.read += size
+        now = time.monotonic()
+        if not self.out.isatty() or now - self.said < REST:
+            return
+        self.said, self.is_there = now, True
+        self.out.write(f"\r\x1b[K{self.text(now - self.begun)}")
+        self.out.flush()
+
+    def text(self, seconds: float) -> str:
+        """What is said after so many seconds."""
+        speed = self.read / seconds if seconds else 0
+        left = f", {(self.size - self.read) / speed:,.0f} s left" if speed else ""
+        return f"{self.ended:,} of {self.count:,} captures, {speed / 1e6:,.1f} MB/s{left}"

@@ -319,7 +319,7 @@ def ask_lines(viewer: Viewer, name: str, body: Body) -> list[str]:
     return ["", f"{viewer.style.title(name)}  {about}", *body_lines(viewer, name, body)]
 
 
-def _alerts(viewer: Viewer, alerts: Sequence[Alert]) -> list[str]:
+def alert_lines(viewer: Viewer, alerts: Sequence[Alert]) -> list[str]:
     if not alerts:
         return []
     setup = viewer.setup
@@ -375,7 +375,7 @@ def report_lines(viewer: Viewer, report: Report) -> list[str]:
     ]
     for ask in report.asks:
         lines += ask_lines(viewer, ask.name, ask.body)
-    lines += _alerts(viewer, report.alerts)
+    lines += alert_lines(viewer, report.alerts)
     return lines + _lives(viewer, report.lives) + _order(report) + _told(viewer, report.told)
 
 
@@ -481,7 +481,7 @@ def merged_shown(viewer: Viewer, merged: Merged) -> list[str]:
         for name, body in it.parts:
             lines += [f"  in {name}{count_text(viewer, body)}", *body_lines(viewer, it.name, body)]
     for name, its in itertools.groupby(merged.alerts, lambda it: it[0]):
-        first, *rest = _alerts(viewer, [alert for _, alert in its])[1:]
+        first, *rest = alert_lines(viewer, [alert for _, alert in its])[1:]
         lines += ["", f"{first} of {name}", *rest]
     return lines
 

@@ -1,0 +1,140 @@
+"""Runs confluo over one capture, with more tree nodes if it asks for them.
+
+A worker of Dask is handed this module by value, so it needs the standard library alone, and what goes in
+and comes out is plain.
+"""
+
+from __future__ import annotations
+
+import os
+import shutil
+import socket
+import subprocess
+import tempfile
+import threading
+from dataclasses import dataclass
+from typing import Any, Optional, Sequence, Tuple
+
+PACKERS = ((b"\x1f\x8b", "gzip"), (b"\x28\xb5\x2f\xfd", "zstd"))
+TOO_FEW_NODES = 7
+# The status, what was printed, and, if there is no status, why confluo did not run to its end.
+Ended = Tuple[Optional[int], str, str]
+
+
+@dataclass(frozen=True)
+class Work:
+    """What is the same for every part: the setup's bytes, the options to try one after another, and the client's program."""
+
+    setup: bytes
+    tries: tuple[tuple[str, ...], ...]
+    program: str | None = None
+
+
+class Stopped(Exception):
+    """No process is started any more."""
+
+
+class Running:
+    """The processes that run now, which are ended all at once."""
+
+    def __init__(self) -> None:
+        self.lock = threading.Lock()
+        self.held: list[subprocess.Popen[bytes]] = []
+        self.is_over = False
+
+    def start(self, words: Sequence[str], **streams: Any) -> subprocess.Popen[bytes]:
+        with self.lock:
+            if self.is_over:
+                raise Stopped
+            process = subprocess.Popen(list(map(os.fsencode, words)), **streams)
+            self.held.append(process)
+            return process
+
+    def wait(self, process: subprocess.Popen[bytes]) -> tuple[int, str]:
+        """Its status, and what it printed if that was not read yet."""
+        out = b"" if process.stdout is None or process.stdout.closed else process.stdout.read()
+        status = process.wait()
+        with self.lock:
+            self.held.remove(process)
+        return status, out.decode("ascii", "replace")
+
+    def stop(self) -> None:
+        with self.lock:
+            self.is_over = True
+            for it in self.held:
+                it.kill()
+
+
+def program_of(known: str | None) -> str | None:
+    """$CONFLUO of this machine, else the client's program if it is here too, else confluo on the path."""
+    there = known if known and shutil.which(known) else None
+    return os.environ.get("CONFLUO") or there or shutil.which("confluo")
+
+
+def _packer_of(capture: str) -> str | None:
+    with open(capture, "rb") as file:
+        head = file.read(4)
+    return next((name for magic, name in PACKERS if head.startswith(magic)), None)
+
+
+def _run_packed(running: Running, words: list[str], capture: str, packer: str) -> Ended:
+    unpacking = running.start([packer, "-dc", capture], stdout=subprocess.PIPE, stderr=subprocess.DEVNULL)
+    assert unpacking.stdout
+    with unpacking.stdout as pipe:
+        process = running.start([*words, "/dev/stdin"], stdin=pipe, stdout=subprocess.PIPE)
+    status, out = running.wait(process)
+    unpacked, _ = running.wait(unpacking)
+    # (confluo may end before its input does: then the packer ends by SIGPIPE)
+    if unpacked not in (0, -13):
+        return None, "", f"{packer} could not unpack it (status {unpacked})"
+    return status, out, ""
+
+
+def _run(running: Running, words: list[str], capture: str) -> Ended:
+    packer = _packer_of(capture)
+    if packer:
+        return _run_packed(running, words, capture, packer)
+    with open(capture, "rb") as file:
+        # By standard input, since confluo refuses names that are not UTF-8.
+        process = running.start([*words, "/dev/stdin"], stdin=file, stdout=subprocess.PIPE)
+    return (*running.wait(process), "")
+
+
+def answer(running: Running, work: Work, capture: str) -> Ended:
+    """How confluo ended over the capture."""
+    program = program_of(work.program)
+    if program is None:
+        return None, "", f"there is no program confluo on {socket.gethostname()}; CONFLUO=FILE names it"
+    ended: Ended = None, "", "there are no options to try"
+    try:
+        with tempfile.TemporaryDirectory(prefix="confluo-report-") as folder:
+            setup = os.path.join(folder, "part.setup")
+            with open(setup, "wb") as file:
+                file.write(work.setup)
+            for options in work.tries:
+                ended = _run(running, [program, "run", "--setup", setup, *options], capture)
+                if ended[0] != TOO_FEW_NODES:
+                    break
+    except OSError as error:
+        return None, "", f"{os.fsdecode(error.filename or program)}: {error.strerror}"
+    return ended
+
+
+def running_of(worker: Any, token: str) -> Running:
+    """The processes of one run of the tool on a worker of Dask, which keeps them."""
+    kept: dict[str, Running] = worker.__dict__.setdefault("confluo_running", {})
+    return kept.setdefault(token, Running())
+
+
+def answer_on_worker(
+    token: str, setup: bytes, tries: Sequence[tuple[str, ...]], program: str | None, capture: str
+) -> Ended:
+    """The same on a worker of Dask."""
+    from distributed import get_worker  # type: ignore[import]
+
+    return answer(running_of(get_worker(), token), Work(setup, tuple(tries), program), capture)
+
+
+def stop_on_worker(token: str, dask_worker: Any) -> None:
+    """Ends what runs on the worker for that run of the tool, and lets nothing more begin."""
+    running_of(dask_worker, token).stop()

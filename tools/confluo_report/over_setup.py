@@ -1,0 +1,176 @@
+"""The setup that each part of a question over many captures runs, and how its reports are added up.
+
+A trigger's threshold is for the sum, so a part tells the value of every bucket. Of a tally a part tells all
+keys. When confluo tells all groups of a lane, `_part_lines` and `Sum` are what changes.
+"""
+
+from __future__ import annotations
+
+import operator
+from dataclasses import dataclass, field
+from itertools import accumulate
+from typing import Callable, Iterator, Mapping
+
+from .errors import Complaint
+from .matching import must_match
+from .merge import joined_quad
+from .reports import Alert, Ask, Body, Fired, Found, Pair, Quad, Report, Top, parse_report
+from .setups import Question, Setup, Trigger, parse_setup
+
+MOST_KEYS = 1000
+FINDING = ("list", "find", "between")
+# Below this no bucket with a record has a part of that kind.
+LEAST = {"count": 1, "sum": 0, "least": 0, "greatest": 0}
+JOINED: Mapping[str, Callable[[int, int], int]] = {
+    "count": operator.add,
+    "sum": operator.add,
+    "least": min,
+    "greatest": max,
+}
+HOLDS: Mapping[str, Callable[[int, int], bool]] = {
+    "==": operator.eq,
+    "!=": operator.ne,
+    "<": operator.lt,
+    "<=": operator.le,
+    ">": operator.gt,
+    ">=": operator.ge,
+}
+
+
+@dataclass(frozen=True)
+class Plan:
+    """A setup, the one that each part runs, and by the names of triggers those that tell their values in a part."""
+
+    setup: Setup
+    text: bytes
+    part: Setup
+    told_by: Mapping[str, str]
+
+
+def plan_of(data: bytes) -> Plan:
+    """The plan for a setup's bytes, which are valid."""
+    setup = parse_setup(data)
+    told_by: dict[str, str] = {}
+    first: dict[tuple[str, str], str] = {}
+    for it in setup.triggers:
+        told_by[it.name] = first.setdefault((it.aggregate.name, it.part), it.name)
+    text = "".join(f"{it}\n" for it in _part_lines(setup, data, set(first.values()))).encode("latin-1")
+    return Plan(setup, text, parse_setup(text), told_by)
+
+
+def _part_lines(setup: Setup, data: bytes, telling: set[str]) -> Iterator[str]:
+    for line in data.decode("latin-1").split("\n"):
+        bare = line.removesuffix("\r").strip(" ")
+        words = bare.split()
+        if not words or bare.startswith("#") or words[0] == "live":
+            continue
+        trigger = setup.trigger(words[1]) if words[0] == "trigger" else None
+        if trigger and trigger.name in telling:
+            part = trigger.part
+            yield f"trigger {trigger.name} {trigger.aggregate.name} {part} >= {LEAST[part]}"
+        elif words[0] == "ask" and words[2] == "top":
+            yield " ".join([*words[:5], str(MOST_KEYS)])
+        elif words[0] != "trigger" and not (words[0] == "ask" and words[2] == "fired"):
+            yield bare
+
+
+@dataclass
+class Sum:
+    """What reports of parts say together. Parts are known by their places; they may be added in any order.
+
+    `values` are of the triggers of parts by bucket, `keys` of the questions for a top by key.
+    """
+
+    records: dict[int, int] = field(default_factory=dict)
+    cuts: dict[int, int] = field(default_factory=dict)
+    found: dict[str, dict[int, tuple[int, ...]]] = field(default_factory=dict)
+    quads: dict[str, Quad] = field(default_factory=dict)
+    values: dict[str, dict[int, int]] = field(default_factory=dict)
+    keys: dict[str, dict[int, int]] = field(default_factory=dict)
+
+    def add(self, other: Sum, plan: Plan) -> None:
+        """Adds the other one to this, which takes the time of the other alone."""
+        self.records |= other.records
+        self.cuts |= other.cuts
+        for name, its in other.found.items():
+            self.found.setdefault(name, {}).update(its)
+        for name, quad in other.quads.items():
+            self.quads[name] = joined_quad([self.quads[name], quad]) if name in self.quads else quad
+        for trigger in plan.part.triggers:
+            _join(self.values, other.values, trigger.name, JOINED[trigger.part])
+        for question in plan.part.asks:
+            if question.kind == "top":
+                _join(self.keys, other.keys, question.name, JOINED[question.part])
+
+
+def _join(
+    ours: dict[str, dict[int, int]],
+    theirs: Mapping[str, Mapping[int, int]],
+    name: str,
+    join: Callable[[int, int], int],
+) -> None:
+    there = ours.setdefault(name, {})
+    for key, value in theirs.get(name, {}).items():
+        there[key] = join(there[key], value) if key in there else value
+
+
+def sum_of(plan: Plan, place: int, text: str, source: str) -> Sum:
+    """What a part's report says; a Complaint where it is none, or does not tell all."""
+    report = parse_report(text, source)
+    must_match(report, plan.part, source)
+    total = Sum({place: report.records})
+    if report.truncated is not None:
+        total.cuts[place] = report.truncated
+    for question, ask in zip(plan.part.asks, report.asks):
+        _take(total, place, question, ask.body)
+    for alert in report.alerts:
+        total.values.setdefault(alert.trigger, {})[alert.bucket] = alert.value
+    return total
+
+
+def _take(total: Sum, place: int, question: Question, body: Body) -> None:
+    if isinstance(body, Found):
+        total.found[question.name] = {place: body.rows} if body.rows else {}
+    elif isinstance(body, Quad):
+        total.quads[question.name] = body
+    elif isinstance(body, Top):
+        if len(body.keys) >= MOST_KEYS:
+            raise Complaint(
+                f"`{question.name}`, {question.text.partition(' ')[0]} of `{question.lane.name if question.lane else ''}`: "
+                f"it has {MOST_KEYS:,} keys or more, and confluo lists no more of them. The sum over all captures "
+                "would not be exact: for that the program must tell all groups"
+            )
+        total.keys[question.name] = {it.key: it.value for it in body.keys}
+
+
+def report_of(plan: Plan, total: Sum) -> Report:
+    """The report over all parts in the order of their places; records are numbered through all of them."""
+    places = sorted(total.records)
+    starts = dict(zip(places, accumulate((total.records[it] for it in places), initial=0)))
+    marks = {it.name: _marks(plan, total, it) for it in plan.setup.triggers}
+    asks = [Ask(it.name, _body(it, total, starts, marks)) for it in plan.setup.asks]
+    alerts = [Alert(name, it.key, it.value) for name, its in marks.items() for it in its]
+    cut = total.cuts.get(places[0]) if len(places) == 1 else None
+    return Report(sum(total.records.values()), tuple(asks), tuple(alerts), truncated=cut)
+
+
+def _marks(plan: Plan, total: Sum, trigger: Trigger) -> tuple[Pair, ...]:
+    values = total.values.get(plan.told_by[trigger.name], {})
+    holds = HOLDS[trigger.operator]
+    return tuple(Pair(*it) for it in sorted(values.items()) if holds(it[1], trigger.number))
+
+
+def _body(
+    question: Question, total: Sum, starts: Mapping[int, int], marks: Mapping[str, tuple[Pair, ...]]
+) -> Body:
+    name = question.name
+    if question.kind in FINDING:
+        by_place = sorted(total.found[name].items())
+        return Found(question.kind, tuple(starts[place] + it for place, rows in by_place for it in rows))
+    if question.kind == "top":
+        ranked = sorted(total.keys[name].items(), key=lambda it: (-it[1], it[0]))
+        return Top(tuple(Pair(*it) for it in ranked[: question.high]))
+    if question.kind == "fired":
+        assert question.trigger
+        return Fired(marks[question.trigger.name])
+    return total.quads[name]

@@ -1,0 +1,446 @@
+"""What is said of many captures is what one run over all of them says."""
+
+import csv
+import io
+import json
+import os
+import pathlib
+import random
+import signal
+import subprocess
+import sys
+import tempfile
+import time
+import unittest
+from unittest import mock
+
+from support import ROOT, TOOLS, confluo, frame, frame6, needs_program, pcap, tool
+
+from confluo_report.errors import Complaint
+from confluo_report.over_find import find, natural
+from confluo_report.over_part import PACKERS
+from confluo_report.over_setup import Sum, plan_of, report_of, sum_of
+from confluo_report.progress import Parts
+from confluo_report.reports import lines_of
+
+SETUP = """\
+# All kinds of questions.
+schema packet
+width 2000000000
+index i src
+filter f dport==80
+aggregate a f len
+tally t src len *
+trigger many a count >= 3
+trigger few a count < 2
+trigger much a sum > 200
+ask l list dport==81
+ask n find i 10.0.0.1 10.0.0.2
+ask w between f 0 1
+ask m measure a 0 9
+ask g fired few
+  ask h top t sum 2
+ask o total len *
+live l
+"""
+PART = """\
+schema packet
+width 2000000000
+index i src
+filter f dport==80
+aggregate a f len
+tally t src len *
+trigger many a count >= 1
+trigger much a sum >= 0
+ask l list dport==81
+ask n find i 10.0.0.1 10.0.0.2
+ask w between f 0 1
+ask m measure a 0 9
+ask h top t sum 1000
+ask o total len *
+"""
+# The reports of two parts, and the one over both.
+REPORTS = (
+    """\
+records 3
+ask l list 1: 1
+ask n find 2: 0 2
+ask w between 1: 0
+ask m measure count 2 sum 120 least 54 greatest 66
+ask h top 2: 167772161=120 167772163=54
+ask o total count 3 sum 174 least 54 greatest 66
+alert many 0 1
+alert many 2 1
+alert much 0 54
+alert much 2 66
+order 0*3
+""",
+    """\
+records 2
+ask l list 0:
+ask n find 1: 1
+ask w between 0:
+ask m measure count 2 sum 154 least 54 greatest 100
+ask h top 2: 167772164=100 167772161=54
+ask o total count 2 sum 154 least 54 greatest 100
+alert many 2 2
+alert much 2 154
+order 0*2
+""",
+)
+BOTH = """\
+records 5
+ask l list 1: 1
+ask n find 3: 0 2 4
+ask w between 1: 0
+ask m measure count 4 sum 274 least 54 greatest 100
+ask g fired 1: 0=1
+ask h top 2: 167772161=174 167772164=100
+ask o total count 5 sum 328 least 54 greatest 100
+alert many 2 3
+alert few 0 1
+alert much 2 220
+"""
+
+
+class Sums(unittest.TestCase):
+    def test_the_setup_of_a_part(self) -> None:
+        self.assertEqual(plan_of(SETUP.encode()).text.decode(), PART)
+        lines = "schema packet\nfilter f *\naggregate a f len\naggregate b f win\n"
+        for triggers, told in (
+            ("a sum > 5;a sum < 3;a least == 9", "a sum >= 0;;a least >= 0"),
+            ("a greatest != 1;b greatest > 1", "a greatest >= 0;b greatest >= 0"),
+            ("b count <= 7", "b count >= 1"),
+        ):
+            text, wanted = (
+                lines + "".join(f"trigger t{at} {it}\n" for at, it in enumerate(its.split(";")) if it)
+                for its in (triggers, told)
+            )
+            self.assertEqual(plan_of(text.encode()).text.decode(), wanted)
+
+    def test_parts_are_added_up_in_any_order(self) -> None:
+        plan = plan_of(SETUP.encode())
+        for order in ((0, 1), (1, 0)):
+            total = Sum()
+            for at in order:
+                total.add(sum_of(plan, at, REPORTS[at], "part"), plan)
+            self.assertEqual("\n".join(lines_of(report_of(plan, total))) + "\n", BOTH)
+
+    def test_a_part_with_too_many_keys_is_refused(self) -> None:
+        plan = plan_of(SETUP.encode())
+        for count, why in ((999, ""), (1000, "1,000 keys or more.*the program must tell all groups")):
+            keys = " ".join(f"{it}=60" for it in range(count))
+            text = REPORTS[1].replace("top 2: 167772164=100 167772161=54", f"top {count}: {keys}")
+            if not why:
+                self.assertEqual(len(sum_of(plan, 0, text, "part").keys["h"]), count)
+                continue
+            with self.assertRaisesRegex(Complaint, why):
+                sum_of(plan, 0, text, "part")
+
+
+class Finding(unittest.TestCase):
+    def test_words_name_captures(self) -> None:
+        with tempfile.TemporaryDirectory() as name:
+            folder = pathlib.Path(name)
+            for path in ("ring/b10.pcap", "ring/b9.pcap", "ring/a/x.pcap0", "ring/.hidden", "one.pcap"):
+                (folder / path).parent.mkdir(parents=True, exist_ok=True)
+                (folder / path).write_bytes(pcap([]))
+            for path, data in (
+                ("ring/notes.txt", b"no capture"),
+                ("ring/c.pcap.gz", PACKERS[0][0] + b"\x08\0"),
+                ("ring/log.gz", PACKERS[0][0] + b"\x08\0"),
+                ("csv/x.csv", b"ts\n1\n"),
+            ):
+                (folder / path).parent.mkdir(parents=True, exist_ok=True)
+                (folder / path).write_bytes(data)
+            ring = ["ring/b9.pcap", "ring/b10.pcap", "ring/c.pcap.gz", "ring/a/x.pcap0"]
+            for words, is_packet, captures, others in (
+                (["one.pcap"], True, ["one.pcap"], 0),
+                (["ring"], True, ring, 2),
+                (["one.pcap", "ring/b*.pcap"], True, ["one.pcap", *ring[:2]], 0),
+                (["**/*.pcap0", "one.pcap", "one.pcap"], True, ["ring/a/x.pcap0", "one.pcap", "one.pcap"], 0),
+                (["csv"], False, ["csv/x.csv"], 0),
+            ):
+                found = find([str(folder / it) for it in words], is_packet)
+                self.assertEqual([os.path.relpath(it, folder) for it in found.captures], captures, words)
+                self.assertEqual(found.others, others, words)
+            for word, why in (
+                ("csv", "has no capture"),
+                ("nothing", "no file of that name"),
+                ("no*", "none that this pattern names"),
+            ):
+                with self.assertRaisesRegex(Complaint, why):
+                    find([str(folder / word)])
+            os.mkfifo(folder / "pipe")
+            for word, why in (("-", "standard input"), (str(folder / "pipe"), "neither a file nor a folder")):
+                with self.assertRaisesRegex(Complaint, why):
+                    find([word])
+
+    def test_numbers_are_ordered_as_numbers(self) -> None:
+        names = ["r10", "r9", "r", "r9b", "q1"]
+        self.assertEqual(sorted(names, key=natural), ["q1", "r", "r9", "r9b", "r10"])
+
+
+class Progress(unittest.TestCase):
+    def test_what_is_said(self) -> None:
+        parts = Parts(200, 8 * 10**9, io.StringIO())
+        parts.done(10**9)
+        self.assertEqual(parts.text(5), "1 of 200 captures, 200.0 MB/s, 35 s left")
+        self.assertEqual(parts.out.getvalue(), "")
+
+
+EXPRESSIONS = (
+    "*",
+    "dport==80",
+    "len>60 || dport==443",
+    "src in 10.0.0.0/30",
+    "flags!=2 && len<=70",
+    "len>99",
+)
+NUMBERS = {"count": 4, "sum": 300, "least": 60, "greatest": 80}
+
+
+def drawn_setup(draw: random.Random) -> str:
+    """A setup with questions of all kinds."""
+    lines = [f"schema {draw.choice(('packet', 'packet6'))}", f"width {draw.choice((10**9, 3 * 10**9))}"]
+    key, top = draw.choice((("src", 167772163), ("dport", 443), ("len", 70), ("etype", 2048)))
+    lines += [f"index i {key}"]
+    lines += [f"filter f{it} {draw.choice(EXPRESSIONS)}" for it in range(2)]
+    lines += [
+        f"aggregate a{it} f{draw.randrange(2)} {draw.choice(('len', 'caplen', 'ttl'))}" for it in range(2)
+    ]
+    lines += [
+        f"tally t{it} {draw.choice(('src', 'dport', 'ts'))} len {draw.choice(EXPRESSIONS)}" for it in range(2)
+    ]
+    triggers = draw.randrange(1, 17)
+    for it in range(triggers):
+        part = draw.choice(tuple(NUMBERS))
+        limit = draw.randrange(NUMBERS[part] * 2)
+        sign = draw.choice(("==", "!=", "<", "<=", ">", ">="))
+        lines.append(f"trigger g{it} a{draw.randrange(2)} {part} {sign} {limit}")
+    low, high = draw.randrange(8), draw.randrange(12)
+    asks = [f"list {it}" for it in draw.sample(EXPRESSIONS, 3)]
+    asks += [f"find i {low} {top}", f"between f0 {low} {high}", f"measure a0 {low} {high}"]
+    asks += [f"fired g{draw.randrange(triggers)}", f"total len {draw.choice(EXPRESSIONS)}"]
+    asks += [f"top t{at} {part} {draw.randrange(1, 9)}" for at in range(2) for part in NUMBERS]
+    draw.shuffle(asks)
+    return "\n".join([*lines, *(f"ask q{at} {it}" for at, it in enumerate(asks))]) + "\n"
+
+
+def drawn_frames(draw: random.Random, count: int) -> list[tuple[int, bytes]]:
+    kinds = (lambda: frame(draw.randrange(9), draw.choice((80, 81, 443)), 54, draw.choice((2, 16))), frame6)
+    return [(draw.randrange(12), draw.choice(kinds)() + bytes(draw.randrange(50))) for _ in range(count)]
+
+
+def final_part(text: str) -> str:
+    return "".join(
+        it for it in text.splitlines(keepends=True) if it.startswith(("records ", "ask ", "alert "))
+    )
+
+
+class Drawn:
+    """A setup and captures in a folder, and what one run over all of these says."""
+
+    def __init__(self, folder: pathlib.Path, seed: int) -> None:
+        draw = random.Random(seed)
+        self.setup = folder / f"{seed}.setup"
+        self.setup.write_text(drawn_setup(draw))
+        parts = [drawn_frames(draw, draw.choice((0, 1, 7, 40))) for _ in range(draw.randrange(1, 6))]
+        self.captures = [folder / f"{seed}_{at}.pcap" for at in range(len(parts))]
+        for path, its in zip(self.captures, parts):
+            path.write_bytes(pcap(its))
+        self.whole = folder / f"{seed}.pcap"
+        self.whole.write_bytes(pcap([it for its in parts for it in its]))
+        self.sizes = [len(its) for its in parts]
+
+    def expected(self) -> str:
+        ran = confluo("run", "--setup", self.setup, "--writers", "1", "--nodes", "65536", self.whole)
+        assert ran.status == 0, ran
+        return final_part(ran.out)
+
+    def numbered(self, read: dict) -> dict[str, list[int]]:
+        """The records that each question found, numbered through all captures, of the JSON."""
+        starts = {str(it): sum(self.sizes[:at]) for at, it in enumerate(self.captures)}
+        return {
+            ask["name"]: [starts[part["capture"]] + it for part in ask["parts"] for it in part["records"]]
+            for ask in read["asks"]
+            if "parts" in ask
+        }
+
+
+def found_by(text: str) -> dict[str, list[int]]:
+    """The records that each question of a report found."""
+    words = [it.split() for it in text.splitlines() if it.startswith("ask ")]
+    return {it[1]: list(map(int, it[4:])) for it in words if it[2] in ("list", "find", "between")}
+
+
+class Case(unittest.TestCase):
+    def setUp(self) -> None:
+        place = tempfile.TemporaryDirectory()
+        self.addCleanup(place.cleanup)
+        self.folder = pathlib.Path(place.name)
+
+
+@needs_program
+class Runs(Case):
+    def test_drawn_captures_are_answered_as_one(self) -> None:
+        for seed in range(12):
+            drawn = Drawn(self.folder, seed)
+            words = ("over", "--setup", drawn.setup, "--jobs", "2", *drawn.captures)
+            ended = tool(*words, "--format", "report")
+            self.assertEqual((ended.status, ended.out, ended.err), (0, drawn.expected(), ""), seed)
+            read = json.loads(tool(*words, "--format", "json").out)
+            self.assertEqual(drawn.numbered(read), found_by(ended.out), seed)
+
+    def captures(self) -> list[pathlib.Path]:
+        """A good one, one that is cut off, and one that is none."""
+        paths = [self.folder / it for it in ("good.pcap", "cut.pcap", "text.pcap")]
+        whole = pcap([(1, frame(1)), (2, frame(2))])
+        for path, data in zip(paths, (whole, whole[:-3], b"hello, world")):
+            path.write_bytes(data)
+        return paths
+
+    def over(self, *words: object, setup: str = SETUP) -> "tuple[int, str, str]":
+        path = self.folder / "s.setup"
+        path.write_text(setup)
+        ended = tool("over", "--setup", path, *words)
+        return (
+            ended.status,
+            ended.out.replace(f"{self.folder}/", ""),
+            ended.err.replace(f"{self.folder}/", ""),
+        )
+
+    def test_a_part_that_fails_is_named(self) -> None:
+        good, cut, text = self.captures()
+        for words, status, out, err in (
+            ((good, cut), 2, "", "cut.pcap: the file ends within a packet or its header"),
+            ((good, cut), 2, "", "at record 1 (status 3)\n--keep-going"),
+            (
+                (text, "--keep-going"),
+                2,
+                "",
+                "no capture could be answered\ntext.pcap: the file is not a capture",
+            ),
+            (
+                (good, text, "--keep-going"),
+                1,
+                "records 2\n",
+                "left out: text.pcap: the file is not a capture",
+            ),
+            ((good, cut, "--truncated"), 0, "truncated: capture 2 record 1\n", ""),
+            ((cut, "--truncated"), 0, "truncated: record 1\n", ""),
+            ((good, good), 0, "records 4\n", ""),
+            ((good, "--jobs", "0"), 2, "", "--jobs is at least 1"),
+            ((good, "--jobs", "1", "--scheduler", "x"), 2, "", "not allowed with"),
+        ):
+            ended = self.over("--format", "report", *words)
+            self.assertEqual(ended[0], status, words)
+            self.assertIn(out, ended[1], words)
+            self.assertIn(err, ended[2], words)
+
+    def test_what_confluo_refuses_is_said_in_words(self) -> None:
+        good = self.captures()[0]
+        for script, why in (
+            (
+                "echo 'full: more than 1048576 records'; exit 6",
+                "it has more than 1048576 records.* (status 6)",
+            ),
+            ("echo 'nodes: more than 65536 nodes'; exit 7", "even in small segments.* (status 7)"),
+            ("echo 'words: not a command'; exit 1", "it is another version (status 1)"),
+            ("echo 'setup: line 3 code 2'; exit 2", "at line 3 with code 2 (status 2)"),
+            ("exit 8", "there was not enough memory (status 8)"),
+            ("kill -9 $$", "confluo was ended by signal 9 (status -9)"),
+            ("echo nonsense", "this is not a report|cannot be read"),
+        ):
+            with mock.patch.dict(os.environ, {"CONFLUO": str(self.script(script))}):
+                status, _, err = self.over(good)
+            self.assertEqual(status, 2)
+            self.assertRegex(err, why.replace("(", r"\(").replace(")", r"\)"))
+
+    def script(self, text: str) -> pathlib.Path:
+        path = self.folder / "confluo.sh"
+        path.write_text(f"#!/bin/sh\n{text}\n")
+        path.chmod(0o755)
+        return path
+
+    def test_formats(self) -> None:
+        good, _, text = self.captures()
+        setup = SETUP.replace("dport==81", "len>9")
+        words = ("--keep-going", good, good, text)
+        shown = self.over(*words, setup=setup)[1].splitlines()
+        for line in (
+            "4 packets of 2 captures",
+            "left out: text.pcap: the file is not a capture: its first bytes are not those of pcap or pcapng, "
+            "at record 0 (status 3)",
+            "l  packets with len>9: 4",
+            "  in good.pcap: 2",
+        ):
+            self.assertIn(line, shown)
+        read = json.loads(self.over(*words, "--format", "json", setup=setup)[1])
+        self.assertEqual(read["captures"], [{"capture": "good.pcap", "records": 2}] * 2)
+        self.assertEqual(read["left_out"][0]["capture"], "text.pcap")
+        self.assertEqual(read["left_out"][0]["status"], 3)
+        self.assertEqual(read["asks"][0]["parts"], [{"capture": "good.pcap", "records": [0, 1]}] * 2)
+        rows = list(csv.reader(io.StringIO(self.over(*words, "--format", "csv", setup=setup)[1])))
+        for row in (
+            ["capture", "good.pcap", "", "", "", "", "", "2"],
+            ["ask", "", "l", "list", "", "", "", "4"],
+            ["ask", "good.pcap", "l", "list", "", "3", "1", ""],
+            ["ask", "", "h", "top", "", "0", "10.0.0.1", "108"],
+        ):
+            self.assertIn(row, rows)
+        metrics = self.over(*words, "--format", "prometheus", setup=setup)[1]
+        for line in (
+            "confluo_captures 2",
+            "confluo_left_out_captures 1",
+            'confluo_found_records{ask="l",kind="list"} 4',
+        ):
+            self.assertIn(f"{line}\n", metrics)
+
+    def test_json_meets_its_schema(self) -> None:
+        try:
+            import jsonschema
+        except ImportError:
+            self.skipTest("the Python package jsonschema is missing: apt-get install python3-jsonschema")
+        good, cut, text = self.captures()
+        schema = json.loads((ROOT / "docs" / "report.schema.json").read_text())
+        for words in ((good,), (good, cut, text, "--keep-going"), (cut, cut, "--truncated")):
+            jsonschema.validate(json.loads(self.over("--format", "json", *words)[1]), schema)
+
+    def test_interrupted_it_leaves_no_process(self) -> None:
+        good, log = self.captures()[0], self.folder / "log"
+        path = self.folder / "s.setup"
+        path.write_text(SETUP)
+        environment = os.environ | {"CONFLUO": str(self.script(f"echo $$ >> {log}; exec sleep 60"))}
+        words = [
+            sys.executable,
+            TOOLS / "confluo-report",
+            "over",
+            "--setup",
+            path,
+            "--jobs",
+            "2",
+            *[good] * 9,
+        ]
+        for number in (signal.SIGINT, signal.SIGTERM):
+            with subprocess.Popen(words, env=environment, stderr=subprocess.PIPE, text=True) as process:
+                ids = wait_for_lines(log, 2)
+                process.send_signal(number)
+                self.assertIn("interrupted", process.communicate(timeout=20)[1])
+            self.assertEqual(process.returncode, 128 + number)
+            self.assertEqual([it for it in ids if is_alive(it)], [])
+            log.unlink()
+
+
+def wait_for_lines(path: pathlib.Path, count: int) -> list[int]:
+    """The numbers in the lines of a file, once there are so many."""
+    for _ in range(600):
+        lines = path.read_text().split() if path.exists() else []
+        if len(lines) >= count:
+            return list(map(int, lines))
+        time.sleep(0.05)
+    raise AssertionError(f"{path} has fewer than {count} lines after half a minute")
+
+
+def is_alive(number: int) -> bool:
+    return pathlib.Path(f"/proc/{number}").exists()
