@@ -46,7 +46,7 @@ def _client(address: str) -> Iterator[Any]:
     # (it writes of lost connections and of what is cancelled, which is told here in other words)
     logging.getLogger("distributed").setLevel(logging.CRITICAL)
     try:
-        client = Client(address, timeout=SECONDS, set_as_default=False)
+        client = Client(address, timeout=SECONDS)
     except (OSError, ValueError) as error:
         raise Complaint(f"no Dask scheduler answers at {address}: {error}") from error
     with client:

@@ -14,12 +14,13 @@ import time
 import unittest
 from unittest import mock
 
-from support import ROOT, TOOLS, confluo, frame, frame6, needs_program, pcap, tool
+from support import EXAMPLES, ROOT, TOOLS, confluo, frame, frame6, needs_program, pcap, tool
 
 from confluo_report.errors import Complaint
 from confluo_report.over_find import find, natural
 from confluo_report.over_part import PACKERS
 from confluo_report.over_setup import Sum, plan_of, report_of, sum_of
+from confluo_report.program import program
 from confluo_report.progress import Parts
 from confluo_report.reports import lines_of
 
@@ -444,3 +445,140 @@ def wait_for_lines(path: pathlib.Path, count: int) -> list[int]:
 
 def is_alive(number: int) -> bool:
     return pathlib.Path(f"/proc/{number}").exists()
+
+
+PYTHONS = (sys.executable, "/usr/bin/python3")
+
+
+def python_with_dask() -> "str | None":
+    """A Python that has Dask's `distributed`, as Debian's for the system's own."""
+    for it in PYTHONS:
+        words = [it, "-c", "import distributed, cloudpickle"]
+        if os.path.exists(it) and subprocess.run(words, capture_output=True).returncode == 0:
+            return it
+    return None
+
+
+def is_installable() -> bool:
+    """Whether apt would find Dask."""
+    try:
+        said = subprocess.run(["apt-cache", "show", "python3-distributed"], capture_output=True)
+    except OSError:
+        return False
+    return said.returncode == 0 and bool(said.stdout)
+
+
+@needs_program
+class Clusters(Case):
+    """By a cluster of two processes, whose program can be held back."""
+
+    python = ""
+
+    @classmethod
+    def setUpClass(cls) -> None:
+        found = python_with_dask()
+        if not found:
+            why = "Dask is missing: apt-get install python3-distributed"
+            if os.environ.get("CI") and is_installable():
+                raise AssertionError(why)
+            raise unittest.SkipTest(why)
+        cls.python = found
+        place = tempfile.TemporaryDirectory()
+        cls.addClassCleanup(place.cleanup)
+        cls.shared = pathlib.Path(place.name)
+        cls.log, cls.held = cls.shared / "log", cls.shared / "held"
+        script = cls.shared / "confluo.sh"
+        script.write_text(
+            f'#!/bin/sh\necho $$ >> {cls.log}\n[ ! -e {cls.held} ] || exec sleep 60\nexec {program()} "$@"\n'
+        )
+        script.chmod(0o755)
+        cls.cluster = subprocess.Popen(
+            [found, "-B", TOOLS / "tests" / "local_cluster.py"],
+            env=os.environ | {"CONFLUO": str(script)},
+            cwd=cls.shared,
+            stdin=subprocess.PIPE,
+            stdout=subprocess.PIPE,
+            stderr=subprocess.PIPE,
+            text=True,
+        )
+        cls.addClassCleanup(cls.cluster.communicate)
+        cls.address, *workers = (cls.cluster.stdout.readline().strip() for _ in range(3))
+        cls.workers = list(map(int, workers))
+
+    def setUp(self) -> None:
+        super().setUp()
+        self.log.unlink(missing_ok=True)
+
+    def start(self, *words: object) -> "subprocess.Popen[str]":
+        """The tool with the scheduler, as it is run."""
+        front = [self.python, "-B", TOOLS / "confluo-report", "over", "--scheduler", self.address]
+        return subprocess.Popen([*front, *words], stdout=subprocess.PIPE, stderr=subprocess.PIPE, text=True)
+
+    def over(self, *words: object) -> "tuple[int, str, str]":
+        with self.start(*words) as process:
+            out, err = process.communicate(timeout=120)
+        return process.returncode, out, err
+
+    def test_drawn_captures_are_answered_as_one(self) -> None:
+        for seed in range(20, 23):
+            drawn = Drawn(self.folder, seed)
+            status, out, err = self.over("--setup", drawn.setup, "--format", "report", *drawn.captures)
+            self.assertEqual((status, out), (0, drawn.expected()), (seed, err))
+            self.assertRegex(err, r"\Aconfluo-report: Dask's dashboard: http://\S+\n\Z")
+
+    def test_a_part_that_fails_is_named(self) -> None:
+        setup, good, bad = (self.folder / it for it in ("s.setup", "good.pcap", "bad.pcap"))
+        setup.write_text(SETUP)
+        good.write_bytes(pcap([(1, frame())]))
+        bad.write_bytes(b"hello, world")
+        words = ("--setup", setup, "--format", "report", good, bad, good)
+        status, out, err = self.over(*words)
+        self.assertEqual((status, out), (2, ""))
+        self.assertIn("bad.pcap: the file is not a capture", err)
+        status, out, err = self.over("--keep-going", *words)
+        self.assertEqual((status, out.splitlines()[0]), (1, "records 2"))
+        self.assertIn("left out: " + str(bad), err)
+
+    def test_a_worker_that_dies_is_tried_again(self) -> None:
+        captures = [it for it in sorted(EXAMPLES.rglob("*.pcap*")) if it.name != "cut_off.pcap"]
+        self.assertGreater(len(captures), 9)
+        repeated = (captures * 200)[:200]
+        setup = self.folder / "s.setup"
+        setup.write_text(SETUP.replace("schema packet\n", "schema packet6\n"))
+        words = ("--setup", setup, "--format", "report", *repeated)
+        with self.start(*words) as process:
+            wait_for_lines(self.log, 40)
+            os.kill(self.workers.pop(), signal.SIGKILL)
+            out, err = process.communicate(timeout=300)
+        self.assertEqual(process.returncode, 0, err)
+        self.assertEqual(out, tool("over", "--jobs", "2", *words).out)
+        self.assertGreater(len(self.log.read_text().split()), 200)
+
+    def test_interrupted_it_leaves_no_process(self) -> None:
+        setup, good = self.folder / "s.setup", self.folder / "good.pcap"
+        setup.write_text(SETUP)
+        good.write_bytes(pcap([(1, frame())]))
+        self.held.touch()
+        self.addCleanup(self.held.unlink)
+        with self.start("--setup", setup, *[good] * 9) as process:
+            ids = wait_for_lines(self.log, 2)
+            process.send_signal(signal.SIGINT)
+            self.assertIn("interrupted", process.communicate(timeout=20)[1])
+        self.assertEqual(process.returncode, 130)
+        self.assertEqual([it for it in ids if is_alive(it)], [])
+
+    def test_a_scheduler_that_is_not_there_is_named(self) -> None:
+        setup, good = self.folder / "s.setup", self.folder / "good.pcap"
+        setup.write_text(SETUP)
+        good.write_bytes(pcap([]))
+        words = ["over", "--setup", setup, "--scheduler", "tcp://127.0.0.1:9", good]
+        ran = subprocess.run(
+            [self.python, "-B", TOOLS / "confluo-report", *words], capture_output=True, text=True
+        )
+        self.assertEqual((ran.returncode, ran.stdout), (2, ""))
+        self.assertIn("no Dask scheduler answers at tcp://127.0.0.1:9", ran.stderr)
+        self.assertEqual(len(ran.stderr.splitlines()), 1)
+
+
+if __name__ == "__main__":
+    unittest.main()
