@@ -13,7 +13,7 @@ from . import over_part
 from .errors import Complaint
 from .over_part import Ended, Work
 
-SECONDS = 20
+SECONDS = 10
 
 
 class ByValue:
@@ -43,8 +43,9 @@ def _client(address: str) -> Iterator[Any]:
         raise Complaint(
             "--scheduler needs Dask: apt-get install python3-distributed, or pip install distributed"
         ) from error
-    # (it writes of lost connections and of what is cancelled, which is told here in other words)
-    logging.getLogger("distributed").setLevel(logging.CRITICAL)
+    # (it logs lost connections and what is cancelled, which is said here in other words)
+    for it in ("distributed", "distributed.client"):
+        logging.getLogger(it).setLevel(logging.CRITICAL)
     try:
         client = Client(address, timeout=SECONDS)
     except (OSError, ValueError) as error:
@@ -62,6 +63,8 @@ def by_scheduler(work: Work, captures: Sequence[str], address: str) -> Iterator[
         token = secrets.token_hex(8)
         try:
             yield from _answers(client, token, work, captures)
+        except OSError as error:
+            raise Complaint(f"the Dask scheduler at {address} is gone: {error}") from error
         finally:
             with contextlib.suppress(Exception):
                 client.run(ByValue(over_part.stop_on_worker), token, on_error="ignore")
@@ -81,7 +84,7 @@ def _answers(client: Any, token: str, work: Work, captures: Sequence[str]) -> It
         for future, ended in as_completed(list(places), with_results=True, raise_errors=False):
             place = places.pop(future)
             if future.status in ("cancelled", "lost"):
-                raise Complaint(f"the Dask scheduler at {client.scheduler.address} is gone")
+                raise ConnectionError("it has dropped the work")
             if future.status == "error":
                 ended = None, "", _words_of(ended)
             yield place, ended

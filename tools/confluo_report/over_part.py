@@ -104,7 +104,7 @@ def answer(running: Running, work: Work, capture: str) -> Ended:
     """How confluo ended over the capture."""
     program = program_of(work.program)
     if program is None:
-        return None, "", f"there is no program confluo on {socket.gethostname()}; CONFLUO=FILE names it"
+        return None, "", "there is no program confluo, and CONFLUO=FILE names none"
     ended: Ended = None, "", "there are no options to try"
     try:
         with tempfile.TemporaryDirectory(prefix="confluo-report-") as folder:
@@ -132,7 +132,8 @@ def answer_on_worker(
     """The same on a worker of Dask."""
     from distributed import get_worker  # type: ignore[import]
 
-    return answer(running_of(get_worker(), token), Work(setup, tuple(tries), program), capture)
+    status, out, why = answer(running_of(get_worker(), token), Work(setup, tuple(tries), program), capture)
+    return status, out, f"{why}, on {socket.gethostname()}" if why else ""
 
 
 def stop_on_worker(token: str, dask_worker: Any) -> None:

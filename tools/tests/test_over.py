@@ -6,6 +6,7 @@ import json
 import os
 import pathlib
 import random
+import shutil
 import signal
 import subprocess
 import sys
@@ -450,10 +451,10 @@ def is_alive(number: int) -> bool:
 PYTHONS = (sys.executable, "/usr/bin/python3")
 
 
-def python_with_dask() -> "str | None":
-    """A Python that has Dask's `distributed`, as Debian's for the system's own."""
+def python_with(modules: str) -> "str | None":
+    """A Python that has them: Debian's packages are for the system's own."""
     for it in PYTHONS:
-        words = [it, "-c", "import distributed, cloudpickle"]
+        words = [it, "-c", f"import {modules}"]
         if os.path.exists(it) and subprocess.run(words, capture_output=True).returncode == 0:
             return it
     return None
@@ -476,7 +477,7 @@ class Clusters(Case):
 
     @classmethod
     def setUpClass(cls) -> None:
-        found = python_with_dask()
+        found = python_with("distributed, cloudpickle")
         if not found:
             why = "Dask is missing: apt-get install python3-distributed"
             if os.environ.get("CI") and is_installable():
@@ -520,7 +521,7 @@ class Clusters(Case):
         return process.returncode, out, err
 
     def test_drawn_captures_are_answered_as_one(self) -> None:
-        for seed in range(20, 23):
+        for seed in (20, 21):
             drawn = Drawn(self.folder, seed)
             status, out, err = self.over("--setup", drawn.setup, "--format", "report", *drawn.captures)
             self.assertEqual((status, out), (0, drawn.expected()), (seed, err))
@@ -578,6 +579,73 @@ class Clusters(Case):
         self.assertEqual((ran.returncode, ran.stdout), (2, ""))
         self.assertIn("no Dask scheduler answers at tcp://127.0.0.1:9", ran.stderr)
         self.assertEqual(len(ran.stderr.splitlines()), 1)
+
+
+FRAMES = """
+import json, pathlib, sys
+from types import SimpleNamespace as Has
+import confluo
+setup, *captures = map(pathlib.Path, sys.argv[1:])
+answered = confluo.over(setup, captures, jobs=2, keep_going=True)
+same = confluo.over(setup.read_text(), list(map(str, captures[:1])))
+try:
+    confluo.over(setup, captures)
+    why = ""
+except RuntimeError as error:
+    why = str(error)
+others = answered.captures, answered.alerts, answered.left_out, same["l"], same.captures
+addresses = [confluo.over.__globals__["_address"](it) for it in ("a", Has(scheduler_address="b"), Has(scheduler=Has(address="c")))]
+rows = lambda frame: json.loads(frame.drop(columns="time", errors="ignore").to_json(orient="values"))
+told = {name: [list(it.columns), rows(it)] for name, it in answered.items()}
+print(json.dumps([told, answered.records, list(map(rows, others)), str(answered["g"]["time"][0]), addresses, why]))
+"""
+
+
+@needs_program
+@unittest.skipUnless(shutil.which("cc"), "cc is missing, with which the library's stand-in is made")
+class Frames(Case):
+    """What `confluo.over` of the Python package answers."""
+
+    def test_frames_by_question(self) -> None:
+        python = python_with("pandas")
+        if not python:
+            self.skipTest("pandas is missing: apt-get install python3-pandas")
+        subprocess.run([TOOLS / "deb" / "stand_in.sh", self.folder], check=True)
+        setup, good, bad = (self.folder / it for it in ("s.setup", "good.pcap", "bad.pcap"))
+        setup.write_text(SETUP.replace("dport==81", "len>9").replace("few a count < 2", "few a count == 2"))
+        good.write_bytes(pcap([(1, frame(1)), (2, frame(2))]))
+        bad.write_bytes(b"hello, world")
+        named = {"CONFLUO_LIBRARY": str(self.folder / "libconfluo.so.0"), "CONFLUO": program()}
+        ran = subprocess.run(
+            [python, "-B", "-c", FRAMES, setup, good, good, bad],
+            env=os.environ | named,
+            cwd=ROOT / "bindings" / "python",
+            capture_output=True,
+            text=True,
+        )
+        self.assertEqual((ran.returncode, ran.stderr), (0, ""))
+        told, records, others, time_of_first, addresses, why = json.loads(ran.stdout)
+        one, two = str(good), str(bad)
+        self.assertEqual(
+            told,
+            {
+                "l": [["capture", "record"], [[one, 0], [one, 1]] * 2],
+                "n": [["capture", "record"], [[one, 0], [one, 1]] * 2],
+                "w": [["capture", "record"], [[one, 0], [one, 1]] * 2],
+                "m": [["count", "sum", "least", "greatest"], [[4, 216, 54, 54]]],
+                "g": [["bucket", "time", "value"], [[0, 2], [1, 2]]],
+                "h": [["key", "text", "value"], [[167772161, "10.0.0.1", 108], [167772162, "10.0.0.2", 108]]],
+                "o": [["count", "sum", "least", "greatest"], [[4, 216, 54, 54]]],
+            },
+        )
+        self.assertEqual((records, time_of_first), (4, "1970-01-01 00:00:00+00:00"))
+        captures, alerts, left_out, alone, counted = others
+        self.assertEqual(captures, [[one, 2, None]] * 2)
+        self.assertEqual(alerts, [["few", 0, 2], ["few", 1, 2]])
+        self.assertEqual([left_out[0][0], left_out[0][2]], [two, 3])
+        self.assertEqual((alone, counted), ([[one, 0], [one, 1]], [[one, 2, None]]))
+        self.assertEqual(addresses, ["a", "b", "c"])
+        self.assertIn("bad.pcap: the file is not a capture", why)
 
 
 if __name__ == "__main__":

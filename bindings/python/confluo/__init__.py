@@ -22,6 +22,7 @@ from .answers import Answer, Kind, Quad
 from .errors import Code, Error, SetupError
 from .log import Appended, Frame, Log, Reader, Room, Row, Writer, check, version
 from .names import Attribute, Lane, Names, Question, Trigger
+from .over import Over, over
 
 __all__ = [
     "Answer",
@@ -34,6 +35,7 @@ __all__ = [
     "Lane",
     "Log",
     "Names",
+    "Over",
     "Quad",
     "Question",
     "Reader",
@@ -43,5 +45,6 @@ __all__ = [
     "Trigger",
     "Writer",
     "check",
+    "over",
     "version",
 ]
