@@ -1,6 +1,6 @@
 # Fish completion for confluo-report.
 
-set -l commands run show explain json csv prometheus stream merge plot packets ask check
+set -l commands run show explain json csv prometheus stream merge plot packets ask over check
 set -l first "not __fish_seen_subcommand_from $commands"
 set -l several "__fish_seen_subcommand_from merge plot"
 
@@ -18,10 +18,11 @@ complete -c confluo-report -n $first -a merge -d "Reports of one setup together"
 complete -c confluo-report -n $first -a plot -d "A picture of reports"
 complete -c confluo-report -n $first -a packets -d "Found packets as a capture"
 complete -c confluo-report -n $first -a ask -d "Questions without a setup"
+complete -c confluo-report -n $first -a over -d "A setup's answers about many captures as one"
 complete -c confluo-report -n $first -a check -d "Whether a setup is valid"
-complete -c confluo-report -n "__fish_seen_subcommand_from run show explain json csv prometheus stream merge plot" -l setup -r -F -d "The setup of the report"
+complete -c confluo-report -n "__fish_seen_subcommand_from run show explain json csv prometheus stream merge plot over" -l setup -r -F -d "The setup of the report"
 complete -c confluo-report -n "__fish_seen_subcommand_from show json csv explain check" -l capture -r -F -d "The capture"
-complete -c confluo-report -n "__fish_seen_subcommand_from show ask stream plot" -l most -x -d "Records or keys shown of each answer"
+complete -c confluo-report -n "__fish_seen_subcommand_from show ask stream plot over" -l most -x -d "Records or keys shown of each answer"
 complete -c confluo-report -n "__fish_seen_subcommand_from explain" -l command -x -d "The command as typed"
 complete -c confluo-report -n "__fish_seen_subcommand_from explain" -l status -x -a "1 2 3 4 5 6 7 8 9" -d "The exit status"
 complete -c confluo-report -n "__fish_seen_subcommand_from run" -l writers -x -a "1 2 4 8 15" -d "Threads that load"
@@ -54,5 +55,9 @@ complete -c confluo-report -n "__fish_seen_subcommand_from packets" -l into -r -
 complete -c confluo-report -n "__fish_seen_subcommand_from ask" -l setup-only -d "Print the setup and run nothing"
 complete -c confluo-report -n "__fish_seen_subcommand_from ask" -l report -d "Print the bare report"
 complete -c confluo-report -n "__fish_seen_subcommand_from ask" -l schema -x -a "packet6 packet" -d "The schema"
-complete -c confluo-report -n "__fish_seen_subcommand_from run ask" -l truncated -d "Also about captures that are cut off"
 complete -c confluo-report -n "__fish_seen_subcommand_from ask" -l as-one -d "Captures end to end, of any length"
+complete -c confluo-report -n "__fish_seen_subcommand_from over" -l jobs -x -d "Captures at once"
+complete -c confluo-report -n "__fish_seen_subcommand_from over" -l scheduler -x -d "Address of a Dask scheduler"
+complete -c confluo-report -n "__fish_seen_subcommand_from over" -l format -x -a "show json csv prometheus report" -d "How answers are written"
+complete -c confluo-report -n "__fish_seen_subcommand_from over" -l keep-going -d "Leave out captures that cannot be answered"
+complete -c confluo-report -n "__fish_seen_subcommand_from run ask over" -l truncated -d "Also about captures that are cut off"

@@ -80,8 +80,13 @@ def _packer_of(capture: str) -> str | None:
 def _run_packed(running: Running, words: list[str], capture: str, packer: str) -> Ended:
     unpacking = running.start([packer, "-dc", capture], stdout=subprocess.PIPE, stderr=subprocess.DEVNULL)
     assert unpacking.stdout
-    with unpacking.stdout as pipe:
-        process = running.start([*words, "/dev/stdin"], stdin=pipe, stdout=subprocess.PIPE)
+    try:
+        with unpacking.stdout as pipe:
+            process = running.start([*words, "/dev/stdin"], stdin=pipe, stdout=subprocess.PIPE)
+    except BaseException:
+        unpacking.kill()
+        running.wait(unpacking)
+        raise
     status, out = running.wait(process)
     unpacked, _ = running.wait(unpacking)
     # (confluo may end before its input does: then the packer ends by SIGPIPE)

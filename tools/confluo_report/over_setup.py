@@ -135,10 +135,10 @@ def _take(total: Sum, place: int, question: Question, body: Body) -> None:
         total.quads[question.name] = body
     elif isinstance(body, Top):
         if len(body.keys) >= MOST_KEYS:
+            lane = question.lane.name if question.lane else ""
             raise Complaint(
-                f"`{question.name}`, {question.text.partition(' ')[0]} of `{question.lane.name if question.lane else ''}`: "
-                f"it has {MOST_KEYS:,} keys or more, and confluo lists no more of them. The sum over all captures "
-                "would not be exact: for that the program must tell all groups"
+                f"`{question.name}` (top of `{lane}`) finds {MOST_KEYS:,} keys or more in it, and confluo lists no more. "
+                "The sum would not be exact: for that the program must tell all groups"
             )
         total.keys[question.name] = {it.key: it.value for it in body.keys}
 

@@ -1,6 +1,7 @@
 """What is said of many captures is what one run over all of them says."""
 
 import csv
+import gzip
 import io
 import json
 import os
@@ -190,6 +191,15 @@ class Progress(unittest.TestCase):
         self.assertEqual(parts.text(5), "1 of 200 captures, 200.0 MB/s, 35 s left")
         self.assertEqual(parts.out.getvalue(), "")
 
+    def test_a_terminal_has_a_line_that_is_cleared(self) -> None:
+        out = io.StringIO()
+        with mock.patch.object(out, "isatty", lambda: True), mock.patch("confluo_report.progress.REST", 0):
+            with Parts(2, 1000, out) as parts:
+                parts.done(400)
+        self.assertRegex(
+            out.getvalue(), r"\A\r\x1b\[K1 of 2 captures, [0-9.]+ MB/s, [0-9]+ s left\r\x1b\[K\Z"
+        )
+
 
 EXPRESSIONS = (
     "*",
@@ -293,6 +303,32 @@ class Runs(Case):
             self.assertEqual((ended.status, ended.out, ended.err), (0, drawn.expected(), ""), seed)
             read = json.loads(tool(*words, "--format", "json").out)
             self.assertEqual(drawn.numbered(read), found_by(ended.out), seed)
+
+    def test_packed_captures_and_files_of_records(self) -> None:
+        whole = pcap([(1, frame(1)), (2, frame(2))])
+        for name, data in (
+            ("a.pcap.gz", gzip.compress(whole)),
+            ("-b\udcff.pcap", whole),
+            ("broken.pcap.gz", gzip.compress(whole)[:-9]),
+            ("x.csv", b"ts,src,len\n0,10.0.0.1,100\n0,10.0.0.2,70\n"),
+            ("y.csv", b"ts,src,len\n0,10.0.0.1,20\n0,10.0.0.3,70\n"),
+        ):
+            (self.folder / name).write_bytes(data)
+        records = "schema records ts:u64,src:u32,len:u32\ntally s src len *\nask h top s sum 2\nask t total len len<=70\n"
+        answers = (
+            "ask h top 2: 167772161=120 167772162=70\nask t total count 3 sum 160 least 20 greatest 70\n"
+        )
+        for setup, words, status, out, err in (
+            (SETUP, ("a.pcap.gz", "-b\udcff.pcap"), 0, "records 4\n", ""),
+            (SETUP, ("broken.pcap.gz",), 2, "", "broken.pcap.gz: gzip could not unpack it (status 1)"),
+            (records, ("x.csv", "y.csv"), 0, f"records 4\n{answers}", ""),
+            (records, (".",), 0, f"records 4\n{answers}", "4 other files"),
+        ):
+            paths = [self.folder / it for it in words]
+            ended = self.over("--format", "report", *paths, setup=setup)
+            self.assertEqual(ended[0], status, (words, ended))
+            self.assertTrue(ended[1].startswith(out), (words, ended))
+            self.assertIn(err, ended[2], words)
 
     def captures(self) -> list[pathlib.Path]:
         """A good one, one that is cut off, and one that is none."""
