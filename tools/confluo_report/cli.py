@@ -249,7 +249,7 @@ def _over(words: Words) -> int:
     plan, found = plan_of(read_bytes(words.setup)), find(words.captures, setup.is_packet)
     if found.others:
         print(f"confluo-report: {found.others} other files of the folders are no captures", file=sys.stderr)
-    way = Way(words.jobs, words.scheduler, words.keep_going, words.truncated)
+    way = Way(words.jobs, words.scheduler, words.keep_going, words.truncated, words.split)
     try:
         with ended_by_signals():
             answered = over(plan, found.captures, way)
@@ -599,6 +599,9 @@ def _add_over(commands: argparse._SubParsersAction) -> Callable[[Words], int]:
         "--keep-going", action="store_true", help="leave captures out that cannot be answered; status 1"
     )
     parser.add_argument("--truncated", action="store_true", help="also about captures that are cut off")
+    parser.add_argument(
+        "--split", action="store_true", help="cut long captures, so that several processes read one"
+    )
     parser.add_argument(
         "--most", type=_count, default=20, metavar="N", help="records shown of each answer; 0: all (20)"
     )

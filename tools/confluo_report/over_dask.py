@@ -7,11 +7,11 @@ import logging
 import pickle
 import secrets
 import sys
-from typing import Any, Callable, Iterator, Sequence
+from typing import Any, Callable, Iterable, Iterator
 
 from . import over_part
 from .errors import Complaint
-from .over_part import Ended, Work
+from .over_part import Ended, Piece, Work
 
 SECONDS = 10
 
@@ -54,15 +54,15 @@ def _client(address: str) -> Iterator[Any]:
         yield client
 
 
-def by_scheduler(work: Work, captures: Sequence[str], address: str) -> Iterator[tuple[int, Ended]]:
-    """The places of the captures with how their runs ended, as they end. If the reader stops, so do the runs."""
+def by_scheduler(work: Work, pieces: Iterable[Piece], address: str) -> Iterator[tuple[int, Ended]]:
+    """The places of the pieces with how their runs ended, as they end. If the reader stops, so do the runs."""
     with _client(address) as client:
         print(f"confluo-report: Dask's dashboard: {client.dashboard_link}", file=sys.stderr)
         if not client.scheduler_info()["workers"]:
             print(f"confluo-report: {address} has no worker yet: waiting", file=sys.stderr)
         token = secrets.token_hex(8)
         try:
-            yield from _answers(client, token, work, captures)
+            yield from _answers(client, token, work, pieces)
         except OSError as error:
             raise Complaint(f"the Dask scheduler at {address} is gone: {error}") from error
         finally:
@@ -70,7 +70,7 @@ def by_scheduler(work: Work, captures: Sequence[str], address: str) -> Iterator[
                 client.run(ByValue(over_part.stop_on_worker), token, on_error="ignore")
 
 
-def _answers(client: Any, token: str, work: Work, captures: Sequence[str]) -> Iterator[tuple[int, Ended]]:
+def _answers(client: Any, token: str, work: Work, pieces: Iterable[Piece]) -> Iterator[tuple[int, Ended]]:
     from distributed import as_completed
 
     function = ByValue(over_part.answer_on_worker)
@@ -78,7 +78,7 @@ def _answers(client: Any, token: str, work: Work, captures: Sequence[str]) -> It
         client.submit(
             function, token, work.setup, work.tries, work.program, it, key=f"confluo-{token}-{at}", pure=False
         ): at
-        for at, it in enumerate(captures)
+        for at, it in enumerate(pieces)
     }
     try:
         for future, ended in as_completed(list(places), with_results=True, raise_errors=False):

@@ -19,6 +19,9 @@ PACKERS = ((b"\x1f\x8b", "gzip"), (b"\x28\xb5\x2f\xfd", "zstd"))
 TOO_FEW_NODES = 7
 # The status, what was printed, and, if there is no status, why confluo did not run to its end.
 Ended = Tuple[Optional[int], str, str]
+# A capture's path, and of a piece of it where that begins and ends, and what is to be read before it.
+Piece = Tuple[str, int, Optional[int], bytes]
+CHUNK = 2**20
 
 
 @dataclass(frozen=True)
@@ -52,7 +55,10 @@ class Running:
 
     def wait(self, process: subprocess.Popen[bytes]) -> tuple[int, str]:
         """Its status, and what it printed if that was not read yet."""
-        out = b"" if process.stdout is None or process.stdout.closed else process.stdout.read()
+        out = b""
+        if process.stdout and not process.stdout.closed:
+            with process.stdout as pipe:
+                out = pipe.read()
         status = process.wait()
         with self.lock:
             self.held.remove(process)
@@ -95,7 +101,34 @@ def _run_packed(running: Running, words: list[str], capture: str, packer: str) -
     return status, out, ""
 
 
-def _run(running: Running, words: list[str], capture: str) -> Ended:
+def _feed(pipe: Any, piece: Piece) -> None:
+    """Writes a piece, until all is written or nobody reads any more."""
+    path, begin, end, front = piece
+    try:
+        with pipe, open(path, "rb") as file:
+            pipe.write(front)
+            file.seek(begin)
+            left = (end or 0) - begin
+            while left and (data := file.read(min(left, CHUNK))):
+                pipe.write(data)
+                left -= len(data)
+    except BrokenPipeError:
+        pass
+
+
+def _run_piece(running: Running, words: list[str], piece: Piece) -> Ended:
+    process = running.start([*words, "/dev/stdin"], stdin=subprocess.PIPE, stdout=subprocess.PIPE)
+    feeding = threading.Thread(target=_feed, args=(process.stdin, piece))
+    feeding.start()
+    status, out = running.wait(process)
+    feeding.join()
+    return status, out, ""
+
+
+def _run(running: Running, words: list[str], piece: Piece) -> Ended:
+    capture, _, end, _ = piece
+    if end is not None:
+        return _run_piece(running, words, piece)
     packer = _packer_of(capture)
     if packer:
         return _run_packed(running, words, capture, packer)
@@ -105,8 +138,8 @@ def _run(running: Running, words: list[str], capture: str) -> Ended:
     return (*running.wait(process), "")
 
 
-def answer(running: Running, work: Work, capture: str) -> Ended:
-    """How confluo ended over the capture."""
+def answer(running: Running, work: Work, piece: Piece) -> Ended:
+    """How confluo ended over the capture, or the piece of it."""
     program = program_of(work.program)
     if program is None:
         return None, "", "there is no program confluo, and CONFLUO=FILE names none"
@@ -117,7 +150,7 @@ def answer(running: Running, work: Work, capture: str) -> Ended:
             with open(setup, "wb") as file:
                 file.write(work.setup)
             for options in work.tries:
-                ended = _run(running, [program, "run", "--setup", setup, *options], capture)
+                ended = _run(running, [program, "run", "--setup", setup, *options], piece)
                 if ended[0] != TOO_FEW_NODES:
                     break
     except OSError as error:
@@ -132,12 +165,12 @@ def running_of(worker: Any, token: str) -> Running:
 
 
 def answer_on_worker(
-    token: str, setup: bytes, tries: Sequence[tuple[str, ...]], program: str | None, capture: str
+    token: str, setup: bytes, tries: Sequence[tuple[str, ...]], program: str | None, piece: Piece
 ) -> Ended:
     """The same on a worker of Dask."""
     from distributed import get_worker  # type: ignore[import]
 
-    status, out, why = answer(running_of(get_worker(), token), Work(setup, tuple(tries), program), capture)
+    status, out, why = answer(running_of(get_worker(), token), Work(setup, tuple(tries), program), piece)
     return status, out, f"{why}, on {socket.gethostname()}" if why else ""
 
 

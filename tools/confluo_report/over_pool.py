@@ -4,9 +4,9 @@ from __future__ import annotations
 
 import os
 from concurrent.futures import FIRST_COMPLETED, Future, ThreadPoolExecutor, wait
-from typing import Iterator, Sequence
+from typing import Iterable, Iterator
 
-from .over_part import Ended, Running, Work, answer
+from .over_part import Ended, Piece, Running, Work, answer
 
 # So many more than run at once are under way: answers that wait to be added up take memory.
 AHEAD = 2
@@ -17,11 +17,11 @@ def processors() -> int:
     return len(os.sched_getaffinity(0))
 
 
-def by_processes(work: Work, captures: Sequence[str], jobs: int) -> Iterator[tuple[int, Ended]]:
-    """The places of the captures with how their runs ended, as they end. If the reader stops, so do the runs."""
+def by_processes(work: Work, pieces: Iterable[Piece], jobs: int) -> Iterator[tuple[int, Ended]]:
+    """The places of the pieces with how their runs ended, as they end. If the reader stops, so do the runs."""
     running = Running()
     under_way: dict[Future[Ended], int] = {}
-    left = iter(enumerate(captures))
+    left = iter(enumerate(pieces))
     pool = ThreadPoolExecutor(jobs, "confluo")
     try:
         while True:

@@ -150,8 +150,7 @@ def report_of(plan: Plan, total: Sum) -> Report:
     marks = {it.name: _marks(plan, total, it) for it in plan.setup.triggers}
     asks = [Ask(it.name, _body(it, total, starts, marks)) for it in plan.setup.asks]
     alerts = [Alert(name, it.key, it.value) for name, its in marks.items() for it in its]
-    cut = total.cuts.get(places[0]) if len(places) == 1 else None
-    return Report(sum(total.records.values()), tuple(asks), tuple(alerts), truncated=cut)
+    return Report(sum(total.records.values()), tuple(asks), tuple(alerts))
 
 
 def _marks(plan: Plan, total: Sum, trigger: Trigger) -> tuple[Pair, ...]:

@@ -78,11 +78,11 @@ def _open_files(pid: int) -> Iterator[tuple[str, int]]:
 
 
 class Parts:
-    """How many of several parts are done, with the bytes a second and the time that is left."""
+    """How many parts are done, with the bytes a second and the time that is left; `things` says what they are."""
 
-    def __init__(self, count: int, size: int, out: TextIO | None = None) -> None:
+    def __init__(self, things: str, size: int, out: TextIO | None = None) -> None:
         self.out = out or sys.stderr
-        self.count, self.size = count, size
+        self.things, self.size = things, size
         self.ended = self.read = 0
         self.begun = self.said = time.monotonic()
         self.is_there = False
@@ -110,4 +110,4 @@ class Parts:
         """What is said after so many seconds."""
         speed = self.read / seconds if seconds else 0
         left = f", {(self.size - self.read) / speed:,.0f} s left" if speed else ""
-        return f"{self.ended:,} of {self.count:,} captures, {speed / 1e6:,.1f} MB/s{left}"
+        return f"{self.ended:,} {self.things}, {speed / 1e6:,.1f} MB/s{left}"

@@ -9,6 +9,7 @@ import pathlib
 import random
 import shutil
 import signal
+import struct
 import subprocess
 import sys
 import tempfile
@@ -16,7 +17,8 @@ import time
 import unittest
 from unittest import mock
 
-from support import EXAMPLES, ROOT, TOOLS, confluo, frame, frame6, needs_program, pcap, tool
+from cases import CAPTURES
+from support import EXAMPLES, ROOT, TOOLS, block, confluo, frame, frame6, needs_program, pcap, tool
 
 from confluo_report.errors import Complaint
 from confluo_report.over_find import find, natural
@@ -186,7 +188,7 @@ class Finding(unittest.TestCase):
 
 class Progress(unittest.TestCase):
     def test_what_is_said(self) -> None:
-        parts = Parts(200, 8 * 10**9, io.StringIO())
+        parts = Parts("of 200 captures", 8 * 10**9, io.StringIO())
         parts.done(10**9)
         self.assertEqual(parts.text(5), "1 of 200 captures, 200.0 MB/s, 35 s left")
         self.assertEqual(parts.out.getvalue(), "")
@@ -194,7 +196,7 @@ class Progress(unittest.TestCase):
     def test_a_terminal_has_a_line_that_is_cleared(self) -> None:
         out = io.StringIO()
         with mock.patch.object(out, "isatty", lambda: True), mock.patch("confluo_report.progress.REST", 0):
-            with Parts(2, 1000, out) as parts:
+            with Parts("of 2 captures", 1000, out) as parts:
                 parts.done(400)
         self.assertRegex(
             out.getvalue(), r"\A\r\x1b\[K1 of 2 captures, [0-9.]+ MB/s, [0-9]+ s left\r\x1b\[K\Z"
@@ -303,6 +305,49 @@ class Runs(Case):
             self.assertEqual((ended.status, ended.out, ended.err), (0, drawn.expected(), ""), seed)
             read = json.loads(tool(*words, "--format", "json").out)
             self.assertEqual(drawn.numbered(read), found_by(ended.out), seed)
+
+    def test_drawn_captures_are_split(self) -> None:
+        for seed in range(30, 36):
+            drawn = Drawn(self.folder, seed)
+            words = ("over", "--split", "--setup", drawn.setup, "--jobs", "2", "--format", "report")
+            with mock.patch("confluo_report.over.EACH", 5):
+                for captures in (drawn.captures, [drawn.whole]):
+                    ended = tool(*words, *captures)
+                    self.assertEqual((ended.status, ended.out, ended.err), (0, drawn.expected(), ""), seed)
+
+    def test_pieces_of_a_file_of_blocks_are_the_whole(self) -> None:
+        draw, path = random.Random(1), self.folder / "blocks.pcapng"
+        data = b""
+        for order in "<><":
+            kinds = (lambda: block(6, packet(draw.randrange(2)), order), lambda: block(5, bytes(12), order))
+            front = [
+                block(0x0A0D0D0A, struct.pack(order + "IHHq", 0x1A2B3C4D, 1, 0, -1), order),
+                block(1, struct.pack(order + "HHI", 1, 0, 0), order),
+                block(1, struct.pack(order + "HHI", 113, 0, 0), order),
+            ]
+
+            def packet(interface: int) -> bytes:
+                data = frame(draw.randrange(5))
+                return struct.pack(order + "IIIII", interface, 0, 10**6, len(data), len(data)) + data
+
+            data += b"".join([*front, *(draw.choice(kinds)() for _ in range(20)), front[1]])
+        path.write_bytes(data)
+        whole = self.over("--format", "report", path)
+        for each in (1, 2, 7, 100):
+            with mock.patch("confluo_report.over.EACH", each):
+                self.assertEqual(self.over("--format", "report", "--split", path), whole, each)
+        self.assertEqual(whole[0], 0)
+
+    def test_a_fault_of_a_piece_is_that_of_the_whole(self) -> None:
+        path, good = self.folder / "faulty", self.folder / "good.pcap"
+        good.write_bytes(pcap([(1, frame())] * 3))
+        for data, record, code, _ in CAPTURES:
+            path.write_bytes(data)
+            for words in ((path,), ("--truncated", path), ("--keep-going", path, good)):
+                words = ("--format", "report", "--jobs", "2", *words)
+                whole = self.over(*words)
+                with mock.patch("confluo_report.over.EACH", 1):
+                    self.assertEqual(self.over("--split", *words), whole, (code, record))
 
     def test_packed_captures_and_files_of_records(self) -> None:
         whole = pcap([(1, frame(1)), (2, frame(2))])
