@@ -19,7 +19,7 @@ _confluo_report() {
         plot) options="--setup --tagged --out --width --dotted --most" ;;
         packets) options="--ask --out --into" ;;
         ask) options="--setup-only --report --json --csv --most --schema --truncated --as-one --out" ;;
-        over) options="--setup --jobs --scheduler --format --keep-going --truncated --most" ;;
+        over) options="--setup --jobs --scheduler --format --keep-going --truncated --split --most" ;;
         check) options="--capture" ;;
         *) options="" ;;
     esac

@@ -59,5 +59,6 @@ complete -c confluo-report -n "__fish_seen_subcommand_from ask" -l as-one -d "Ca
 complete -c confluo-report -n "__fish_seen_subcommand_from over" -l jobs -x -d "Captures at once"
 complete -c confluo-report -n "__fish_seen_subcommand_from over" -l scheduler -x -d "Address of a Dask scheduler"
 complete -c confluo-report -n "__fish_seen_subcommand_from over" -l format -x -a "show json csv prometheus report" -d "How answers are written"
+complete -c confluo-report -n "__fish_seen_subcommand_from over" -l split -d "Several processes read one capture"
 complete -c confluo-report -n "__fish_seen_subcommand_from over" -l keep-going -d "Leave out captures that cannot be answered"
 complete -c confluo-report -n "__fish_seen_subcommand_from run ask over" -l truncated -d "Also about captures that are cut off"

@@ -9,7 +9,7 @@ import sys
 import threading
 from dataclasses import dataclass, replace
 from types import FrameType
-from typing import Iterator, Sequence
+from typing import Generator, Iterator, Sequence
 
 from .errors import Complaint
 from .explain_capture import REASONS
@@ -107,7 +107,7 @@ class Pieces:
                 yield cut.piece
 
 
-def _runs(plan: Plan, pieces: Pieces, way: Way) -> Iterator[tuple[int, Ended]]:
+def _runs(plan: Plan, pieces: Pieces, way: Way) -> Generator[tuple[int, Ended], None, None]:
     tries = tuple(_tries(way.may_be_cut))
     if way.scheduler is not None:
         # (the workers have their own program if not this one)
@@ -174,7 +174,7 @@ def over(plan: Plan, captures: Sequence[str], way: Way) -> Over:
     gathering = Gathering(plan, pieces)
     things = "parts" if way.is_split else f"of {len(captures):,} captures"
     size = sum(whole(it).size for it in captures)
-    with Parts(things, size) as parts, contextlib.closing(_runs(plan, pieces, way)) as runs:  # type: ignore[type-var]
+    with Parts(things, size) as parts, contextlib.closing(_runs(plan, pieces, way)) as runs:
         for place, ended in runs:
             gathering.take(place, ended)
             failed = None if way.keep_going else gathering.first_failed()

@@ -7,7 +7,7 @@ import logging
 import pickle
 import secrets
 import sys
-from typing import Any, Callable, Iterable, Iterator
+from typing import Any, Callable, Generator, Iterable, Iterator
 
 from . import over_part
 from .errors import Complaint
@@ -54,7 +54,9 @@ def _client(address: str) -> Iterator[Any]:
         yield client
 
 
-def by_scheduler(work: Work, pieces: Iterable[Piece], address: str) -> Iterator[tuple[int, Ended]]:
+def by_scheduler(
+    work: Work, pieces: Iterable[Piece], address: str
+) -> Generator[tuple[int, Ended], None, None]:
     """The places of the pieces with how their runs ended, as they end. If the reader stops, so do the runs."""
     with _client(address) as client:
         print(f"confluo-report: Dask's dashboard: {client.dashboard_link}", file=sys.stderr)

@@ -101,28 +101,33 @@ def _run_packed(running: Running, words: list[str], capture: str, packer: str) -
     return status, out, ""
 
 
-def _feed(pipe: Any, piece: Piece) -> None:
-    """Writes a piece, until all is written or nobody reads any more."""
+def _feed(pipe: Any, piece: Piece, missing: list[str]) -> None:
+    """Writes a piece until nobody reads any more; says if the file does not have all of it."""
     path, begin, end, front = piece
+    left = (end or 0) - begin
     try:
         with pipe, open(path, "rb") as file:
             pipe.write(front)
             file.seek(begin)
-            left = (end or 0) - begin
             while left and (data := file.read(min(left, CHUNK))):
                 pipe.write(data)
                 left -= len(data)
+            if left:
+                missing.append("it became shorter while it was read")
     except BrokenPipeError:
         pass
+    except OSError as error:
+        missing.append(f"{error.strerror}")
 
 
 def _run_piece(running: Running, words: list[str], piece: Piece) -> Ended:
     process = running.start([*words, "/dev/stdin"], stdin=subprocess.PIPE, stdout=subprocess.PIPE)
-    feeding = threading.Thread(target=_feed, args=(process.stdin, piece))
+    missing: list[str] = []
+    feeding = threading.Thread(target=_feed, args=(process.stdin, piece, missing))
     feeding.start()
     status, out = running.wait(process)
     feeding.join()
-    return status, out, ""
+    return (None, "", missing[0]) if missing else (status, out, "")
 
 
 def _run(running: Running, words: list[str], piece: Piece) -> Ended:

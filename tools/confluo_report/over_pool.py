@@ -4,7 +4,7 @@ from __future__ import annotations
 
 import os
 from concurrent.futures import FIRST_COMPLETED, Future, ThreadPoolExecutor, wait
-from typing import Iterable, Iterator
+from typing import Generator, Iterable
 
 from .over_part import Ended, Piece, Running, Work, answer
 
@@ -17,7 +17,7 @@ def processors() -> int:
     return len(os.sched_getaffinity(0))
 
 
-def by_processes(work: Work, pieces: Iterable[Piece], jobs: int) -> Iterator[tuple[int, Ended]]:
+def by_processes(work: Work, pieces: Iterable[Piece], jobs: int) -> Generator[tuple[int, Ended], None, None]:
     """The places of the pieces with how their runs ended, as they end. If the reader stops, so do the runs."""
     running = Running()
     under_way: dict[Future[Ended], int] = {}

@@ -6,11 +6,12 @@ says what is wrong with it.
 
 from __future__ import annotations
 
+import itertools
 import mmap
 import os
 import struct
 from dataclasses import dataclass
-from typing import Iterator
+from typing import Callable, Iterator
 
 from .captures import ENHANCED, INTERFACE, MAGICS, MOST_CAPTURED, SECTION, SIMPLE
 from .over_part import Piece
@@ -55,21 +56,29 @@ def cuts_of(path: str, each: int) -> Iterator[Cut]:
 
 def _records(data: mmap.mmap, each: int) -> Iterator[tuple[int, int, bytes, int]]:
     """Begin and end of each piece of a classic capture, what is before it, and the number of its first record."""
-    head, order = data[:24], MAGICS[data[:4]][0]
-    length_at = struct.Struct(f"{order}I").unpack_from
+    head = data[:24]
+    length_at = struct.Struct(MAGICS[data[:4]][0] + "I").unpack_from
+    end = 24
+    for first in itertools.count(0, each):
+        begin, end = end, _behind(data, end, each, length_at)
+        yield begin, end, head, first
+        if end == len(data):
+            return
+
+
+def _behind(
+    data: mmap.mmap, at: int, count: int, length_at: Callable[[mmap.mmap, int], tuple[int, ...]]
+) -> int:
+    """Where so many records end that begin there, or the end of the file if there are fewer."""
     last = len(data) - 16
-    begin = at = 24
-    first = count = 0
-    while at <= last:
-        if count - first == each:
-            yield begin, at, head, first
-            begin, first = at, count
+    for _ in range(count):
+        if at > last:
+            return len(data)
         (length,) = length_at(data, at + 8)
         if length > MOST_CAPTURED:
-            break
+            return len(data)
         at += 16 + length
-        count += 1
-    yield begin, len(data), head, first
+    return min(at, len(data))
 
 
 def _blocks(data: mmap.mmap, each: int) -> Iterator[tuple[int, int, bytes, int]]:

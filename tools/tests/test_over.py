@@ -22,7 +22,7 @@ from support import EXAMPLES, ROOT, TOOLS, block, confluo, frame, frame6, needs_
 
 from confluo_report.errors import Complaint
 from confluo_report.over_find import find, natural
-from confluo_report.over_part import PACKERS
+from confluo_report.over_part import PACKERS, Running, Work, answer
 from confluo_report.over_setup import Sum, plan_of, report_of, sum_of
 from confluo_report.program import program
 from confluo_report.progress import Parts
@@ -349,6 +349,16 @@ class Runs(Case):
                 with mock.patch("confluo_report.over.EACH", 1):
                     self.assertEqual(self.over("--split", *words), whole, (code, record))
 
+    def test_a_piece_that_is_not_there_any_more_is_no_answer(self) -> None:
+        path, data = self.folder / "s.setup", pcap([(1, frame())] * 3)
+        (self.folder / "c.pcap").write_bytes(data)
+        path.write_text(SETUP)
+        work = Work(plan_of(SETUP.encode()).text, (("--writers", "1"),), program())
+        size = len(data)
+        for end, status, why in ((size, 0, ""), (size + 70, None, "it became shorter while it was read")):
+            ended = answer(Running(), work, (str(self.folder / "c.pcap"), 24, end, data[:24]))
+            self.assertEqual((ended[0], ended[2]), (status, why))
+
     def test_packed_captures_and_files_of_records(self) -> None:
         whole = pcap([(1, frame(1)), (2, frame(2))])
         for name, data in (
@@ -591,20 +601,25 @@ class Clusters(Case):
         super().setUp()
         self.log.unlink(missing_ok=True)
 
-    def start(self, *words: object) -> "subprocess.Popen[str]":
-        """The tool with the scheduler, as it is run."""
-        front = [self.python, "-B", TOOLS / "confluo-report", "over", "--scheduler", self.address]
+    def start(self, *words: object, each: int = 0) -> "subprocess.Popen[str]":
+        """The tool with the scheduler, as it is run, or with pieces of so many packets."""
+        front: list[object] = [TOOLS / "confluo-report"]
+        if each:
+            code = f"sys.path.insert(0, {str(TOOLS)!r}); from confluo_report import cli, over; over.EACH = {each}"
+            front = ["-c", f"import sys; {code}; sys.exit(cli.main())"]
+        front = [self.python, "-B", *front, "over", "--scheduler", self.address]
         return subprocess.Popen([*front, *words], stdout=subprocess.PIPE, stderr=subprocess.PIPE, text=True)
 
-    def over(self, *words: object) -> "tuple[int, str, str]":
-        with self.start(*words) as process:
+    def over(self, *words: object, each: int = 0) -> "tuple[int, str, str]":
+        with self.start(*words, each=each) as process:
             out, err = process.communicate(timeout=120)
         return process.returncode, out, err
 
     def test_drawn_captures_are_answered_as_one(self) -> None:
-        for seed in (20, 21):
+        for seed, each, split in ((20, 0, ()), (21, 5, ("--split",))):
             drawn = Drawn(self.folder, seed)
-            status, out, err = self.over("--setup", drawn.setup, "--format", "report", *drawn.captures)
+            words = ("--setup", drawn.setup, "--format", "report", *split, *drawn.captures)
+            status, out, err = self.over(*words, each=each)
             self.assertEqual((status, out), (0, drawn.expected()), (seed, err))
             self.assertRegex(err, r"\Aconfluo-report: Dask's dashboard: http://\S+\n\Z")
 

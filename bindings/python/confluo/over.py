@@ -114,18 +114,20 @@ def over(
     jobs: Optional[int] = None,
     keep_going: bool = False,
     truncated: bool = False,
+    split: bool = False,
 ) -> Over:
     """Asks the questions of a setup (its text, or a Path of its file) about captures (files, folders or patterns) as if they were
     one, and answers DataFrames by question.
 
     Each capture is a run of the program confluo: `jobs` at once on this machine, else one for each processor; or on the workers of
     a Dask scheduler, an address or a cluster or client of Dask. A capture that cannot be answered is a RuntimeError, or with
-    `keep_going` is among `left_out`. With `truncated` captures may be cut off. Needs confluo-report and pandas (ImportError), and
+    `keep_going` is among `left_out`. With `truncated` captures may be cut off, and with `split` several
+    processes read one. Needs confluo-report and pandas (ImportError), and
     for a scheduler Dask.
     """
     pandas_module()
     several = [captures] if isinstance(captures, (str, os.PathLike)) else list(captures)
-    options = ["--keep-going"] * keep_going + ["--truncated"] * truncated
+    options = ["--keep-going"] * keep_going + ["--truncated"] * truncated + ["--split"] * split
     if scheduler is not None:
         options += ["--scheduler", _address(scheduler)]
     if jobs is not None:
