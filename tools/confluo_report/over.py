@@ -210,7 +210,7 @@ def _refused(status: int | None, refusal: Refusal | None, first: int) -> str:
         return NO_REFUSAL.get(status or 0, "confluo ended without a refusal")
     return {
         "capture": f"{REASONS.get(refusal.code, f'code {refusal.code}')}, at record {first + refusal.place}",
-        "full": f"it has more than {refusal.place} records: `editcap -c {refusal.place}` cuts it",
+        "full": f"it has more than {refusal.place} records: --split cuts it, once it is unpacked if it is packed",
         "nodes": f"its keys need more than {refusal.place} tree nodes even in small segments: ask about fewer attributes",
         "setup": f"this confluo refuses the setup of a part at line {refusal.place} with code {refusal.code}",
         "words": "this confluo does not know the options of `run`: it is another version",

@@ -88,14 +88,14 @@ def _answers(client: Any, token: str, work: Work, pieces: Iterable[Piece]) -> It
             if future.status in ("cancelled", "lost"):
                 raise ConnectionError("it has dropped the work")
             if future.status == "error":
-                ended = None, "", _words_of(ended)
+                ended = None, "", words_of(ended)
             yield place, ended
             future.release()
     finally:
         client.cancel(list(places), force=True)
 
 
-def _words_of(result: Any) -> str:
+def words_of(result: Any) -> str:
     """Why a task has no result, as that each worker that had it died."""
     error = result[1] if isinstance(result, tuple) else result
     if type(error).__name__ == "KilledWorker":

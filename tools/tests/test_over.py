@@ -21,6 +21,7 @@ from cases import CAPTURES
 from support import EXAMPLES, ROOT, TOOLS, block, confluo, frame, frame6, needs_program, pcap, tool
 
 from confluo_report.errors import Complaint
+from confluo_report.over_dask import words_of
 from confluo_report.over_find import find, natural
 from confluo_report.over_part import PACKERS, Running, Work, answer
 from confluo_report.over_setup import Sum, plan_of, report_of, sum_of
@@ -141,6 +142,19 @@ class Sums(unittest.TestCase):
                 continue
             with self.assertRaisesRegex(Complaint, why):
                 sum_of(plan, 0, text, "part")
+
+
+class KilledWorker(Exception):
+    """By the name of Dask's own."""
+
+
+class Workers(unittest.TestCase):
+    def test_a_task_without_a_result_in_words(self) -> None:
+        for result, why in (
+            ((KilledWorker, KilledWorker("key"), None), "several workers died while it ran this"),
+            (ValueError("odd"), "on a worker: ValueError: odd"),
+        ):
+            self.assertIn(why, words_of(result))
 
 
 class Finding(unittest.TestCase):
