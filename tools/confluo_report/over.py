@@ -228,18 +228,20 @@ class Ending(BaseException):
 
 @contextlib.contextmanager
 def ended_by_signals() -> Iterator[None]:
-    """SIGINT, SIGTERM and SIGHUP end what runs inside, which can tidy up."""
-
-    def end(number: int, _: FrameType | None) -> None:
-        for it in signals:
-            signal.signal(it, signal.SIG_IGN)
-        raise Ending(number)
-
-    signals = (signal.SIGINT, signal.SIGTERM, signal.SIGHUP)
+    """SIGINT, SIGTERM and SIGHUP end what runs inside, which can tidy up; one that is ignored, as by nohup, still is."""
     if threading.current_thread() is not threading.main_thread():
         yield
         return
-    before = {it: signal.signal(it, end) for it in signals}
+    signals = (signal.SIGINT, signal.SIGTERM, signal.SIGHUP)
+    before = {it: signal.getsignal(it) for it in signals if signal.getsignal(it) != signal.SIG_IGN}
+
+    def end(number: int, _: FrameType | None) -> None:
+        for it in before:
+            signal.signal(it, signal.SIG_IGN)
+        raise Ending(number)
+
+    for it in before:
+        signal.signal(it, end)
     try:
         yield
     finally:
