@@ -86,7 +86,7 @@ pub(crate) fn fill_packets<R: Threads + Sync, F: Shelf, G: Gate>(
     schema: PacketSchema,
     truncated: bool,
     filling: &mut Filling,
-) -> Result<Option<u32>, Halt>
+) -> Result<Option<u64>, Halt>
     requires attrs { filling.old.segments.shape.schema ≡ attrs_by schema }
     requires none { IsFilled filling.old [] }
     ensures keeps { KeepsLog filling.old filling.new }
@@ -111,7 +111,7 @@ pub fn fill_rows<R: Threads + Sync, F: Shelf, G: Gate>(
     name: &str,
     manner: Manner,
     filling: &mut Filling,
-) -> Result<Option<u32>, Halt>
+) -> Result<Option<u64>, Halt>
     requires attrs { filling.old.segments.shape.schema ≡ attrs_in manner.format }
     requires none { IsFilled filling.old [] }
     ensures keeps { KeepsLog filling.old filling.new }

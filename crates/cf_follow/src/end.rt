@@ -19,7 +19,7 @@ use cf_row::Memory;
 use std::alloc::Global;
 
 // The text of the end.
-fn end_text(alloc: Global, rounds: &mut Rounds, cut: Option<u32>) -> Result<String, Memory>
+fn end_text(alloc: Global, rounds: &mut Rounds, cut: Option<u64>) -> Result<String, Memory>
     ensures { IfOk result (λ text. (after : List ℕ) × HasEnded rounds.old [] after × (string_bytes text ≡ after ++ truncated_line cut)) }
 {
     let mut text = String::new(alloc);
@@ -29,7 +29,7 @@ fn end_text(alloc: Global, rounds: &mut Rounds, cut: Option<u32>) -> Result<Stri
 }
 
 // The end of a capture is written.
-fn conclude<K: Sink>(alloc: Global, rounds: &mut Rounds, cut: Option<u32>, sink: &mut K) -> Ending
+fn conclude<K: Sink>(alloc: Global, rounds: &mut Rounds, cut: Option<u64>, sink: &mut K) -> Ending
     ensures concluded { Concludes rounds.old cut (K.held sink.old) (K.held sink.new) result }
     ensures later { K.faults sink.old ≤ K.faults sink.new }
     ensures cause { result ≡ endings.Unwritten → Rose (K.faults sink.old) (K.faults sink.new) }

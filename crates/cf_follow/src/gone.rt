@@ -34,7 +34,7 @@ pub(crate) fn take_rows<R: Threads>(
         match rounds.take(rt, alloc, text, row)? {
             Taken::Gone => {}
             Taken::Full => {
-                let most = rounds.count();
+                let most = rounds.count() as u64;
                 return Ok(Some(Refusal::Full { most }));
             }
             Taken::NoNodes => {

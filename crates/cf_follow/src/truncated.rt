@@ -7,7 +7,7 @@ use std::fmt::Write;
 
 /// Appends the line of a capture that ends within that record, and none for one that ends well. If memory runs out, the text may end
 /// with a part of it: drop the text.
-pub fn push_truncated(text: &mut String, cut: Option<u32>) -> Result<(), Memory>
+pub fn push_truncated(text: &mut String, cut: Option<u64>) -> Result<(), Memory>
     ensures { OnOk result (string_bytes text.new ≡ string_bytes text.old ++ truncated_line cut) }
 {
     match cut {

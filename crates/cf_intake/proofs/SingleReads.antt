@@ -17,7 +17,7 @@ use Rattle.cf_pcapng.proofs.Numbers.{IsNumbered, numbered}
 use Rattle.cf_pcapng.proofs.Steps as blocks_steps
 use Rattle.cf_pcap.specs.Format.{Format, Part, Takes, AreUnitsThen, items_of}
 use Rattle.cf_pcap.specs.Streams.{IsStepper, AreGiven, early}
-use Rattle.cf_pcap.specs.Limits.{IsShort, count_on, number_of}
+use Rattle.cf_pcap.specs.Limits.{IsShort, count_on, number_of, num_of}
 use Rattle.cf_pcap.specs.declared.limit.Length.{Length}
 use Rattle.cf_pcap.specs.declared.limit.Length.TheVariants.{Limited, Any}
 use Rattle.cf_pcap.proofs.Cases.{none_found}
@@ -114,11 +114,15 @@ rows_given reads bytes rows have = given_by reads.schema reads.reader reads.held
 
 abbrev AreItemsFrom : Length → ℕ → List FrameValue → Type 0
 AreItemsFrom longest k [] = Unit {0}
-AreItemsFrom longest k (frame ∷ frames) = (frame.num ≡ number_of longest k) × AreItemsFrom longest (k + 1) frames
+AreItemsFrom longest k (frame ∷ frames) = (frame.num ≡ num_of longest k) × AreItemsFrom longest (k + 1) frames
 
 number_on : (longest : Length) (k n : ℕ) → count_on longest (number_of longest k) n ≡ number_of longest (k + n)
 number_on Limited k n = omega arith
 number_on Any k n = omega arith
+
+num_told : (longest : Length) (k : ℕ) → num_of longest (number_of longest k) ≡ num_of longest k
+num_told Limited k = refl
+num_told Any k = omega arith
 
 number_first : (longest : Length) → 0 ≡ number_of longest 0
 number_first Limited = refl
@@ -156,12 +160,12 @@ given_from f is each stream items given =
 records_number : (scope : Scope) → AreNumberedBy (records.pcap scope)
 records_number scope s bytes n items t k h at = elim (records_steps.taken scope s bytes n items t h) [
   | TakesHeader new none it len given after ↦ subst (λ (xs : List FrameValue). AreItemsFrom scope.length k xs) (sym given) tt
-  | TakesRecord old some it len given after ↦ subst (λ (xs : List FrameValue). AreItemsFrom scope.length k xs) (sym given) (at, tt)
+  | TakesRecord old some it len given after ↦ subst (λ (xs : List FrameValue). AreItemsFrom scope.length k xs) (sym given) (ap (num_of scope.length) at ∙ num_told scope.length k, tt)
 ]
 
-of_numbered : (l : Length) (count k : ℕ) (items : List FrameValue) → IsNumbered count items → count ≡ number_of l k → AreItemsFrom l k items
+of_numbered : (l : Length) (count k : ℕ) (items : List FrameValue) → IsNumbered (num_of l count) items → count ≡ number_of l k → AreItemsFrom l k items
 of_numbered l count k items (inl none) at = subst (λ (xs : List FrameValue). AreItemsFrom l k xs) (sym none) tt
-of_numbered l count k items (inr one) at = subst (λ (xs : List FrameValue). AreItemsFrom l k xs) (sym one.1) (one.2 ∙ at, tt)
+of_numbered l count k items (inr one) at = subst (λ (xs : List FrameValue). AreItemsFrom l k xs) (sym one.1) (one.2 ∙ ap (num_of l) at ∙ num_told l k, tt)
 
 blocks_number : (scope : Scope) → AreNumberedBy (blocks.pcapng scope)
 blocks_number scope s bytes n items t k h at = of_numbered scope.length s.count k items (numbered scope s bytes n items t h) at
@@ -181,8 +185,8 @@ number_at : (schema : PacketSchema) (k : ℕ) (frames : List FrameValue) → Are
 number_at schema k [] are place row found = absurd (cc found)
 number_at schema k (frame ∷ frames) are zero row found =
     let same : row_by schema frame ≡ row = cc found in
-    ap (λ (r : RowValue). r.num) (sym same) ∙ (num_by schema frame ∙ (are.0 ∙ ap (number_of Any) (omega arith)))
-number_at schema k (frame ∷ frames) are (suc place) row found = number_at schema (k + 1) frames are.1 place row found ∙ ap (number_of Any) (omega arith)
+    ap (λ (r : RowValue). r.num) (sym same) ∙ (num_by schema frame ∙ (are.0 ∙ ap (num_of Any) (omega arith)))
+number_at schema k (frame ∷ frames) are (suc place) row found = number_at schema (k + 1) frames are.1 place row found ∙ ap (num_of Any) (omega arith)
 
 -- So are the rows that are given.
 pub rows_number : (schema : PacketSchema) (bytes : List ℕ) (rows : List RowValue) → AreRowsGiven schema bytes rows → AreNumberedFrom 0 rows
@@ -197,7 +201,7 @@ get_behind (x ∷ xs) ys place =
     ap (λ (n : ℕ). slice_get (x ∷ (xs ++ ys)) n) same ∙ get_behind xs ys place
 
 pub rows_behind : (xs ys : List RowValue) → AreNumberedFrom 0 (xs ++ ys) → AreNumberedFrom (length xs) ys
-rows_behind xs ys are place row found = are (length xs + place) row (get_behind xs ys place ∙ found) ∙ ap (number_of Any) (omega arith)
+rows_behind xs ys are place row found = are (length xs + place) row (get_behind xs ys place ∙ found) ∙ ap (num_of Any) (omega arith)
 
 -- So are those that a read gives.
 pub numbered_behind : (schema : PacketSchema) (reader : Option Reader) (held bytes : List ℕ) (before rows : List RowValue)

@@ -8,7 +8,7 @@ use Rattle.cf_pcap.specs.Capture.{FrameValue}
 use Rattle.cf_pcap.specs.declared.scope.Scope.{Scope}
 use Rattle.cf_pcap.specs.Stream as pcap
 use Rattle.cf_pcapng.specs.File.{pcapng}
-use Rattle.cf_pcap.specs.Limits.{number_of}
+use Rattle.cf_pcap.specs.Limits.{num_of}
 use Rattle.cf_pcap.specs.Streams as streams
 use Rattle.cf_pcap.specs.declared.limit.Length.TheVariants.{Any}
 use Rattle.cf_intake.specs.Faults.{HasPacketFaultTo, ShowNoFault, ShowsFault}
@@ -35,7 +35,7 @@ pub record AreRowsGiven (schema : PacketSchema) (bytes : List ℕ) (rows : List 
 
 -- the rows are numbered one by one from this number on, up to 2^32 - 1
 abbrev pub AreNumberedFrom : ℕ → List RowValue → Type 0
-AreNumberedFrom from rows = (place : ℕ) (row : RowValue) → slice_get rows place ≡ Some row → row.num ≡ number_of Any (from + place)
+AreNumberedFrom from rows = (place : ℕ) (row : RowValue) → slice_get rows place ≡ Some row → row.num ≡ num_of Any (from + place)
 
 -- Before four bytes have come, which tell the format, all are kept, and no record has ended.
 pub record IsOpening (held bytes : List ℕ) (rows : List RowValue) : Type 0 where

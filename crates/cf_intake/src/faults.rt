@@ -49,13 +49,13 @@ impl Fault {
     }
 
     // The record that it names, or 0.
-    fn record(self) -> u32
+    fn record(self) -> u64
         ensures { result ≡ record_of self }
     {
         match self {
             Fault::Pcap(PcapFault::FrameTooLong(count) | PcapFault::Cut(count)) => count,
-            Fault::Lines(RecordFault::BadCount(count)) => count,
-            Fault::Lines(RecordFault::BadValue(count, _)) => count,
+            Fault::Lines(RecordFault::BadCount(count)) => count as u64,
+            Fault::Lines(RecordFault::BadValue(count, _)) => count as u64,
             Fault::PcapNg(
                 NgFault::BadMagic(count)
                 | NgFault::BadVersion(count)

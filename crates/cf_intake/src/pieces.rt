@@ -193,7 +193,7 @@ impl Pieces {
 
     /// What the end says: the rows that came are those of the capture, or it has a fault. One that may be truncated says within which
     /// record it ends, if it does.
-    pub fn finish(self, truncated: bool) -> Result<Option<u32>, Halt>
+    pub fn finish(self, truncated: bool) -> Result<Option<u64>, Halt>
         requires last { IsLast self }
         ensures taken { (before now : Option (List ℕ)) (rows : List RowValue) → IsReadOn self before now rows
             → TakesPackets self.schema truncated (λ cut what. what ≡ record { rows = rows; cut = cut }) before now result }

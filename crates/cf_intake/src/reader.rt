@@ -76,7 +76,7 @@ impl Reader {
 
     /// What the end of the stream says: the frames are those of a capture, or it has a fault. One that may be truncated says within which
     /// record it ends, if it does.
-    pub(crate) fn finish(self, truncated: bool) -> Result<Option<u32>, Halt>
+    pub(crate) fn finish(self, truncated: bool) -> Result<Option<u64>, Halt>
         ensures { Finishes truncated self result }
     {
         match self {

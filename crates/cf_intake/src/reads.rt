@@ -151,7 +151,7 @@ impl Reads {
 
     /// What the end says: the rows that came are those of the capture, or it has a fault. One that may be truncated says within which
     /// record it ends, if it does.
-    pub fn finish(self, alloc: Global, truncated: bool) -> Result<Option<u32>, Halt>
+    pub fn finish(self, alloc: Global, truncated: bool) -> Result<Option<u64>, Halt>
         ensures { HasEndedAs truncated self result }
     {
         let Reads {

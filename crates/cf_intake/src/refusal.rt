@@ -20,9 +20,9 @@ pub enum Refusal {
     /// The setup has a fault, first in that line, by the rule of that code.
     Setup { line: u32, code: u8 },
     /// The capture has a fault, at that record, of that code.
-    Capture { at: u32, code: u8 },
+    Capture { at: u64, code: u8 },
     /// There are more records than the log may hold.
-    Full { most: u32 },
+    Full { most: u64 },
     /// The paths of the records in a segment need more different nodes than a writer has in it.
     Nodes { nodes: u32 },
 }

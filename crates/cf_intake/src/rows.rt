@@ -38,7 +38,7 @@ pub struct Manner<'a> {
 pub struct Captured {
     pub rows: Vec<Row>,
     /// The record within which a truncated capture ends.
-    pub cut: Option<u32>,
+    pub cut: Option<u64>,
 }
 
 /// The format that a setup asks for.

@@ -45,7 +45,7 @@ fn cut(mut bytes: Vec<u8>, count: usize) -> Vec<u8> {
 }
 
 // How many rows there are, and the record within which the capture ends, or where it has a fault with which code.
-type Answer = (usize, Option<u32>, u32, u8);
+type Answer = (usize, Option<u64>, u64, u8);
 
 fn answer_of(captured: Result<Captured, Halt>) -> Answer {
     match captured {

@@ -1,7 +1,7 @@
 -- A record that was held, and the bytes that come after it.
 use Rattle.std.proofs.Common.{◌≡◌, ℕ, ◌≤◌, ◌+◌, ◌-◌, List, [], ◌∷◌, ◌++◌, length, take, drop, Some, refl, sym, ap, subst, ◌∙◌, arith, length-append}
 use Rattle.std.proofs.Math.Seq.{take-append-add, drop-append-add, drop-append_seam}
-use Rattle.cf_pcap.specs.Limits.{count_on}
+use Rattle.cf_pcap.specs.Limits.{count_on, num_of}
 use Rattle.cf_pcap.specs.Format.{Takes, ReadsTo}
 use Rattle.cf_pcap.proofs.FormatUnits.{reads_one, reads_on}
 use Rattle.cf_pcap.specs.declared.scope.Scope.{Scope}
@@ -15,7 +15,7 @@ use Rattle.cf_pcap.proofs.Steps.{step_record, stepper}
 
 pub record_then : (scope : Scope) (header : FileHeader) (k late : ℕ) (record_bytes more : List ℕ) (frame : FrameValue) (frames : List FrameValue) (t : State)
     (stage : Stage PcapFault) (held : List ℕ) → HasRecord header record_bytes → 16 + caplen_at header record_bytes ≡ length record_bytes → late ≤ length more
-    → frame ≡ frame_at header k record_bytes
+    → frame ≡ frame_at header (num_of scope.length k) record_bytes
     → AreTaken scope (state_of (Some header) (count_on scope.length k 1)) late more frames t stage held
     → AreTaken scope (state_of (Some header) k) late (record_bytes ++ more) (frame ∷ frames) t stage held
 record_then scope header k late bytes more frame frames t stage held has size fits is taken =
@@ -28,7 +28,7 @@ record_then scope header k late bytes more frame frames t stage held has size fi
     let front : take (length (bytes ++ more) - late) (bytes ++ more) ≡ bytes ++ some = ap (λ m. take m (bytes ++ more)) at ∙ take-append-add bytes more n in
     let back : drop (length (bytes ++ more) - late) (bytes ++ more) ≡ drop n more = ap (λ m. drop m (bytes ++ more)) at ∙ drop-append-add bytes more n in
     let one : step scope s bytes ≡ Takes (length bytes) (frame ∷ []) next = step_record scope s header bytes refl has
-    ∙ ap (λ m. Takes m (frame_at header k bytes ∷ []) next) size ∙ ap (λ (f : FrameValue). Takes (length bytes) (f ∷ []) next) (sym is) in
+    ∙ ap (λ m. Takes m (frame_at header (num_of scope.length k) bytes ∷ []) next) size ∙ ap (λ (f : FrameValue). Takes (length bytes) (f ∷ []) next) (sym is) in
     let now : step scope s (bytes ++ some) ≡ Takes (length bytes) (frame ∷ []) next =
     (stepper scope).takes_stays s bytes some (length bytes) (frame ∷ []) next one in
     let left : drop (length bytes) (bytes ++ some) ≡ some = drop-append_seam bytes some in

@@ -1,7 +1,7 @@
 -- What a file is by its units, and what it is by the definition of whole files.
 use Rattle.std.proofs.Common.{◌≡◌, inl, inr, ℕ, ◌<◌, ◌+◌, true, false, List, [], ◌∷◌, ◌++◌, length, drop, Some, None, is_some, refl, sym, ap, subst, ◌∙◌, arith}
 use Rattle.cf_pcap.specs.declared.limit.Length.{Length}
-use Rattle.cf_pcap.specs.Limits.{IsShort, count_on, number_of}
+use Rattle.cf_pcap.specs.Limits.{IsShort, count_on, number_of, num_of}
 use Rattle.cf_pcap.proofs.Limits.{count_none, count_sum, count_first}
 use Rattle.cf_pcap.specs.Format.{Bad, Takes, Part, items_of, AreUnitsThen, ReadsTo, IsWhole, seen, HasFault}
 use Rattle.cf_pcap.specs.Format as formats
@@ -33,9 +33,9 @@ leads_nothing l header k bytes t rest same left =
 
 leads_more : (l : Length) (header : FileHeader) (k : ℕ) (frames : List FrameValue) (bytes : List ℕ) (t : State) (rest : List ℕ) → HasRecord header bytes
     → Leads l header (count_on l k 1) frames (drop (16 + caplen_at header bytes) bytes) t rest
-    → Leads l header k (frame_at header k bytes ∷ frames) bytes t rest
+    → Leads l header k (frame_at header (num_of l k) bytes ∷ frames) bytes t rest
 leads_more l header k frames bytes t rest has more =
-    let sum : 1 + length frames ≡ length (frame_at header k bytes ∷ frames) = omega arith in
+    let sum : 1 + length frames ≡ length (frame_at header (num_of l k) bytes ∷ frames) = omega arith in
     record {
       records = (has, refl, more.records);
       state_is = more.state_is ∙ ap (λ n. state_of (Some header) n) (count_sum l k 1 (length frames) ∙ ap (λ n. count_on l k n) sum);
@@ -52,7 +52,7 @@ leads_on scope header k bytes n items more u t rest h go = elim (taken scope (st
       let same : old ≡ header = some_same (Some header) old header some refl in
       let has : HasRecord header bytes = subst (λ (x : FileHeader). HasRecord x bytes) same it in
       let size : n ≡ 16 + caplen_at header bytes = len ∙ ap (λ (x : FileHeader). 16 + caplen_at x bytes) same in
-      let frames : frame_at header k bytes ∷ [] ≡ items = ap (λ (x : FileHeader). frame_at x k bytes ∷ []) (sym same) ∙ sym given in
+      let frames : frame_at header (num_of scope.length k) bytes ∷ [] ≡ items = ap (λ (x : FileHeader). frame_at x (num_of scope.length k) bytes ∷ []) (sym same) ∙ sym given in
       let later : Leads scope.length header (count_on scope.length k 1) more (drop (16 + caplen_at header bytes) bytes) t rest =
       subst (λ (m : ℕ). Leads scope.length header (count_on scope.length k 1) more (drop m bytes) t rest) size
       (go (after ∙ ap (λ (x : FileHeader). state_of (Some x) (count_on scope.length k 1)) same) size) in

@@ -2,7 +2,7 @@
 use Rattle.std.proofs.Common.{◌≡◌, inl, inr, ℕ, ◌<◌, ◌≤◌, ◌+◌, ◌*◌, List, [], ◌∷◌, ◌++◌, length, Option, Some, None, refl, sym, ap, subst, ◌∙◌, arith}
 use Rattle.std.proofs.lemmas.Bool.{cases_lt}
 use Rattle.cf_lemmas.proofs.Truths.{lt_true}
-use Rattle.cf_pcap.specs.Limits.{count_on}
+use Rattle.cf_pcap.specs.Limits.{count_on, num_of}
 use Rattle.cf_pcap.proofs.Limits.{count_none}
 use Rattle.cf_pcap.specs.Format.{Found, Wants, Bad, Takes}
 use Rattle.cf_pcap.specs.Streams.{IsStepper}
@@ -82,7 +82,7 @@ found_begun scope k bytes short none = ap (λ (x : HeaderShown). head_found k x)
 -- Of a record.
 
 pub found_record : (scope : Scope) (header : FileHeader) (k : ℕ) (bytes : List ℕ) → HasRecord header bytes
-    → found_at scope (Some header) k bytes ≡ Takes (16 + caplen_at header bytes) (frame_at header k bytes ∷ [])
+    → found_at scope (Some header) k bytes ≡ Takes (16 + caplen_at header bytes) (frame_at header (num_of scope.length k) bytes ∷ [])
     (state_of (Some header) (count_on scope.length k 1))
 found_record scope header k bytes h =
     let short : caplen_at header bytes ≤ 262144 = h.short in
@@ -134,7 +134,7 @@ found_part scope header k bytes (IsPart never none is) part short = is k
 pub data Taken (scope : Scope) (header : Option FileHeader) (k : ℕ) (bytes : List ℕ) (n : ℕ) (items : List FrameValue) (t : State) : Type 0 where
   TakesHeader : (new : FileHeader) → header ≡ None → IsFileHeader scope.links new bytes → n ≡ 24 → items ≡ [] → t ≡ state_of (Some new) k
       → Taken scope header k bytes n items t
-  TakesRecord : (old : FileHeader) → header ≡ Some old → HasRecord old bytes → n ≡ 16 + caplen_at old bytes → items ≡ frame_at old k bytes ∷ []
+  TakesRecord : (old : FileHeader) → header ≡ Some old → HasRecord old bytes → n ≡ 16 + caplen_at old bytes → items ≡ frame_at old (num_of scope.length k) bytes ∷ []
       → t ≡ state_of (Some old) (count_on scope.length k 1) → Taken scope header k bytes n items t
 
 header_taken : (scope : Scope) (k : ℕ) (bytes : List ℕ) (n : ℕ) (items : List FrameValue) (t : State) → Header scope.links bytes
@@ -148,7 +148,7 @@ header_taken scope k bytes n items t (Begun is short none) h = absurd (wants_not
 record_taken : (scope : Scope) (header : FileHeader) (k : ℕ) (bytes : List ℕ) (n : ℕ) (items : List FrameValue) (t : State) → Record scope header bytes
     → found_at scope (Some header) k bytes ≡ Takes n items t → Taken scope (Some header) k bytes n items t
 record_taken scope header k bytes n items t (IsRecord it) h =
-    let same : ◌≡◌ {A = Shown} (Takes (16 + caplen_at header bytes) (frame_at header k bytes ∷ []) (state_of (Some header) (count_on scope.length k 1)))
+    let same : ◌≡◌ {A = Shown} (Takes (16 + caplen_at header bytes) (frame_at header (num_of scope.length k) bytes ∷ []) (state_of (Some header) (count_on scope.length k 1)))
     (Takes n items t) =
     sym (found_record scope header k bytes it) ∙ h in
     TakesRecord header refl it (taken_size _ n _ items _ t same) (taken_items _ n _ items _ t same) (taken_state _ n _ items _ t same)
@@ -231,10 +231,10 @@ step_begun scope s bytes none short h = step_at scope s bytes
     ∙ subst (λ (x : Option FileHeader). found_at scope x s.count bytes ≡ Wants) (sym none) (found_begun scope s.count bytes short h)
 
 pub step_record : (scope : Scope) (s : State) (header : FileHeader) (bytes : List ℕ) → s.header ≡ Some header → HasRecord header bytes
-    → step scope s bytes ≡ Takes (16 + caplen_at header bytes) (frame_at header s.count bytes ∷ []) (state_of (Some header) (count_on scope.length s.count 1))
+    → step scope s bytes ≡ Takes (16 + caplen_at header bytes) (frame_at header (num_of scope.length s.count) bytes ∷ []) (state_of (Some header) (count_on scope.length s.count 1))
 step_record scope s header bytes some h =
     step_at scope s bytes
-    ∙ subst (λ (x : Option FileHeader). found_at scope x s.count bytes ≡ Takes (16 + caplen_at header bytes) (frame_at header s.count bytes ∷ [])
+    ∙ subst (λ (x : Option FileHeader). found_at scope x s.count bytes ≡ Takes (16 + caplen_at header bytes) (frame_at header (num_of scope.length s.count) bytes ∷ [])
     (state_of (Some header) (count_on scope.length s.count 1))) (sym some) (found_record scope header s.count bytes h)
 
 pub step_long : (scope : Scope) (s : State) (header : FileHeader) (bytes : List ℕ) → s.header ≡ Some header → HasLongRecord header bytes
@@ -267,7 +267,7 @@ takes_stays scope s bytes more n items t h = elim (taken scope s bytes n items t
   | TakesRecord old some it len given after ↦
       let whole : 16 + caplen_at old bytes ≤ length bytes = it.whole in
       let caplen : caplen_at old (bytes ++ more) ≡ caplen_at old bytes = caplen_first old bytes more (omega (arith, whole)) in
-      let frame : frame_at old s.count (bytes ++ more) ≡ frame_at old s.count bytes = frame_first old s.count bytes more whole in
+      let frame : frame_at old (num_of scope.length s.count) (bytes ++ more) ≡ frame_at old (num_of scope.length s.count) bytes = frame_first old (num_of scope.length s.count) bytes more whole in
       step_record scope s old (bytes ++ more) some (record_first old bytes more it)
       ∙ same_taken _ n _ items _ t (ap (λ c. 16 + c) caplen ∙ sym len) (ap (λ f. f ∷ []) frame ∙ sym given) (sym after)
 ]

@@ -2,7 +2,7 @@
 use Rattle.std.proofs.Common.{◌≡◌, ℕ, ◌≤◌, ◌+◌, ◌-◌, ◌*◌, List, [], ◌∷◌, ◌++◌, drop, Option, Some, None, refl, sym, ap, subst, ◌∙◌, arith}
 use Rattle.cf_pcap.specs.declared.limit.Length.{Length}
 use Rattle.cf_pcap.specs.declared.limit.Length.TheVariants.{Limited, Any}
-use Rattle.cf_pcap.specs.Limits.{IsShort, HasRoom, count_on}
+use Rattle.cf_pcap.specs.Limits.{IsShort, HasRoom, count_on, num_of}
 use Rattle.cf_pcap.specs.Format.{Bad, Takes, ReadsTo}
 use Rattle.cf_pcap.proofs.FormatUnits.{reads_nothing, reads_one, reads_on}
 use Rattle.cf_pcap.specs.declared.scope.Scope.{Scope}
@@ -18,7 +18,7 @@ use Rattle.cf_pcap.proofs.Steps.{step_at, step_record, taken, TakesHeader, Takes
 
 -- one more record was read
 pub one_more : (scope : Scope) (header : FileHeader) (k m : ℕ) (bytes : List ℕ) (frames : List FrameValue) (rest : List ℕ) (frame : FrameValue)
-    → ReadsTo (pcap scope) (state_of (Some header) k) bytes frames (state_of (Some header) m) rest → HasRecord header rest → frame ≡ frame_at header m rest
+    → ReadsTo (pcap scope) (state_of (Some header) k) bytes frames (state_of (Some header) m) rest → HasRecord header rest → frame ≡ frame_at header (num_of scope.length m) rest
     → ReadsTo (pcap scope) (state_of (Some header) k) bytes (frames ++ frame ∷ []) (state_of (Some header) (count_on scope.length m 1))
     (drop (16 + caplen_at header rest) rest)
 one_more scope header k m bytes frames rest frame read has is =

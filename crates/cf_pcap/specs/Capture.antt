@@ -1,7 +1,7 @@
 -- Captures in the libpcap file format 2.4 (pcap savefile, pcap-savefile(5)), as whole files.
 use Rattle.std.specs.Prelude.{◌≡◌, ◌⊎◌, ℕ, ◌+◌, ◌*◌, ◌^◌, ◌%◌, ◌<◌, ◌≤◌, ◌==◌, true, false, if◌then◌else◌, List, [], ◌∷◌, length, drop, slice_range, Option, Some, None}
 use Rattle.cf_pcap.specs.declared.limit.Length.{Length}
-use Rattle.cf_pcap.specs.Limits.{IsShort, IsLong, count_on, number_of}
+use Rattle.cf_pcap.specs.Limits.{IsShort, IsLong, count_on, number_of, num_of}
 use Rattle.cf_pcap.specs.Format.{seen}
 use Rattle.byteorder.specs.Endian.{little_number, big_number}
 use Rattle.cf_pcap.specs.declared.form.Order.{Order}
@@ -88,11 +88,11 @@ frame_at header k bytes = record {
   bytes = slice_range bytes 16 (16 + caplen_at header bytes);
 }
 
--- the bytes are the records of these frames end to end, numbered from k, and then the rest
+-- the bytes are the records of these frames end to end, the first of them after k others, and then the rest
 abbrev pub AreRecordsThen : Length → FileHeader → ℕ → List FrameValue → List ℕ → List ℕ → Type 0
 AreRecordsThen limit header k [] bytes rest = bytes ≡ rest
 AreRecordsThen limit header k (frame ∷ frames) bytes rest =
-    HasRecord header bytes × (frame ≡ frame_at header k bytes)
+    HasRecord header bytes × (frame ≡ frame_at header (num_of limit k) bytes)
     × AreRecordsThen limit header (count_on limit k 1) frames (drop (16 + caplen_at header bytes) bytes) rest
 
 -- a file header, the records of these frames, and then the rest

@@ -1,7 +1,7 @@
 -- Captures as units end to end: a file header, and then records. `IsCapture` says without units what a capture is.
 use Rattle.std.specs.Prelude.{ℕ, ◌+◌, ◌==◌, ◌&&◌, nat_lt, if◌then◌else◌, Bool, is_some, List, [], ◌∷◌, length, drop, Option, Some, None}
 use Rattle.cf_pcap.specs.declared.limit.Length.{Length}
-use Rattle.cf_pcap.specs.Limits.{count_on}
+use Rattle.cf_pcap.specs.Limits.{count_on, num_of}
 use Rattle.cf_pcap.specs.Format.{Found, Wants, Bad, Takes, Format}
 use Rattle.cf_pcap.specs.declared.form.Layout.{Layout}
 use Rattle.cf_pcap.specs.declared.form.FileHeader.{FileHeader}
@@ -14,7 +14,7 @@ use Rattle.cf_pcap.specs.declared.head.HeaderShown.TheVariants.{Short, Faulty, S
 use Rattle.cf_pcap.specs.Capture.{FrameValue, number_in, layout_of, link_at, caplen_at, frame_at}
 use Rattle.cf_pcap.specs.Links.{is_link, longest}
 
--- how far a file was read: what its header states, once that was read, and the number of the next frame
+-- how far a file was read: what its header states, once that was read, and how many frames came
 pub record State : Type 0 where
   pub header : Option FileHeader
   pub count : ℕ
@@ -46,13 +46,13 @@ head_found k Short = Wants
 head_found k (Faulty fault) = Bad fault
 head_found k (Stands header) = Takes 24 [] (record { header = Some header; count = k })
 
--- a record gives one, as number k: its captured length is known after 16 bytes
+-- a record gives one, after k others: its captured length is known after 16 bytes
 abbrev pub record_found : Length → FileHeader → ℕ → List ℕ → Found State FrameValue PcapFault
 record_found limit header k bytes =
     if nat_lt (length bytes) 16 then Wants
     else (if nat_lt longest (caplen_at header bytes) then Bad (FrameTooLong k)
     else (if nat_lt (length bytes) (16 + caplen_at header bytes) then Wants
-    else Takes (16 + caplen_at header bytes) (frame_at header k bytes ∷ []) (record { header = Some header; count = count_on limit k 1 })))
+    else Takes (16 + caplen_at header bytes) (frame_at header (num_of limit k) bytes ∷ []) (record { header = Some header; count = count_on limit k 1 })))
 
 -- a file begins with its header
 abbrev pub found_at : Scope → Option FileHeader → ℕ → List ℕ → Found State FrameValue PcapFault

@@ -43,12 +43,17 @@ abbrev pub IsTotal : Length → ℕ → ℕ → Type 0
 IsTotal Limited total n = total ≡ n
 IsTotal Any total n = Unit {0}
 
--- the number that stands n after k. Where any number of bytes may come, none stands after 2^32 - 1.
+-- the number that stands n after k. Where any number of bytes may come, none stands after 2^53 - 1.
 abbrev pub count_on : Length → ℕ → ℕ → ℕ
 count_on Limited k n = k + n
-count_on Any k n = max k (min (k + n) (2 ^ 32 - 1))
+count_on Any k n = max k (min (k + n) (2 ^ 53 - 1))
 
--- the number by which so many items are told: the lesser of their count and 2^32 - 1, where any number of bytes may come
+-- the number by which so many items are told: the lesser of their count and 2^53 - 1, where any number of bytes may come
 abbrev pub number_of : Length → ℕ → ℕ
 number_of Limited n = n
-number_of Any n = min n (2 ^ 32 - 1)
+number_of Any n = min n (2 ^ 53 - 1)
+
+-- the number, of 32 bits, that a frame has after so many others: the lesser of their count and 2^32 - 1, where any number of bytes may come
+abbrev pub num_of : Length → ℕ → ℕ
+num_of Limited k = k
+num_of Any k = min k (2 ^ 32 - 1)

@@ -5,7 +5,7 @@ ghost use Rattle.cf_pcap.specs.declared.fault.PcapFault.TheVariants.{Memory};
 use std::alloc::{AllocError, AllocFailed};
 use thiserror::Error;
 
-/// Why a stream is no capture. The number is that of the whole records before the fault, and 2^32 - 1 where these are more.
+/// Why a stream is no capture. The number is that of the whole records before the fault, and 2^53 - 1 if there are more.
 #[derive(Clone, Copy, Debug, PartialEq, Eq, Error)]
 pub enum PcapFault {
     /// The first four bytes are no magic.
@@ -19,10 +19,10 @@ pub enum PcapFault {
     BadLink,
     /// A record's captured length is above 262,144 bytes ([`crate::LONGEST`]).
     #[error("the captured length of record {0} is above 262144 bytes")]
-    FrameTooLong(u32),
+    FrameTooLong(u64),
     /// The stream ends inside the file header or a record.
     #[error("the stream ends inside the file header or a record, after {0} whole records")]
-    Cut(u32),
+    Cut(u64),
     /// The stream has 2^32 bytes or more, and these are too many ([`crate::Scope`]).
     #[error("the stream has 2^32 bytes or more")]
     TooManyBytes,

@@ -7,7 +7,7 @@ use std::marker::Model;
 /// A frame as it was captured.
 #[derive(Debug, Drop)]
 pub struct Frame {
-    /// Its number in the capture, from 0. No number is above 2^32 - 1.
+    /// Its number in the capture, from 0; 2^32 - 1 if it is greater than that.
     pub num: u32,
     /// When it was captured, in nanoseconds since the epoch.
     pub ts: u64,

@@ -6,14 +6,28 @@ use std::test::Fail;
 fn counts_stop_at_the_largest_number(rt: HostRuntime) -> Result<(), Fail> {
     let numbers = [
         (Length::Any, 0, 1),
-        (Length::Any, 4_294_967_293, 4_294_967_294),
-        (Length::Any, 4_294_967_294, 4_294_967_295),
-        (Length::Any, 4_294_967_295, 4_294_967_295),
+        (Length::Any, 4_294_967_295, 4_294_967_296),
+        (Length::Any, 9_007_199_254_740_990, 9_007_199_254_740_991),
+        (Length::Any, 9_007_199_254_740_991, 9_007_199_254_740_991),
         (Length::Limited, 0, 1),
         (Length::Limited, 268_435_454, 268_435_455),
     ];
     for (length, number, after) in numbers {
         assert_eq!(rt; length.number_after(number), after);
+    }
+    Ok(())
+}
+
+#[test]
+fn a_frame_has_a_number_of_32_bits(rt: HostRuntime) -> Result<(), Fail> {
+    let numbers = [
+        (Length::Any, 0, 0),
+        (Length::Any, 4_294_967_295, 4_294_967_295),
+        (Length::Any, 4_294_967_296, 4_294_967_295),
+        (Length::Limited, 268_435_455, 268_435_455),
+    ];
+    for (length, count, number) in numbers {
+        assert_eq!(rt; length.frame_number(count), number);
     }
     Ok(())
 }

@@ -25,8 +25,8 @@ pub struct Pcap {
     total: usize,
     // What the file header states, once that was read.
     header: Option<FileHeader>,
-    // The number of the next frame.
-    count: u32,
+    // How many frames came.
+    count: u64,
     held: Vec<u8>,
 }
 
@@ -121,8 +121,8 @@ impl Pcap {
         self.stage.fault()
     }
 
-    /// The number of frames of the stream that was fed, and 2^32 - 1 where they are more, or its fault. It takes no memory.
-    pub fn finish(self) -> Result<u32, PcapFault>
+    /// The number of frames of the stream that was fed, and 2^53 - 1 if there are more, or its fault. It takes no memory.
+    pub fn finish(self) -> Result<u64, PcapFault>
         ensures ended { (stream : List ℕ) → IsStateOf self stream → IsEnded self.scope stream result }
         ensures no_memory { result ≢ Err PcapFault.Memory }
     {
@@ -135,7 +135,7 @@ impl Pcap {
 
     /// What the end of the stream says: nothing where it ends well, or its fault. Where it may be truncated, a stream that ends within a
     /// record is one of the records before it: how many they are then. One that ends within its file header has its fault.
-    pub fn finish_as(self, truncated: bool) -> Result<Option<u32>, PcapFault>
+    pub fn finish_as(self, truncated: bool) -> Result<Option<u64>, PcapFault>
         ensures ended { (stream : List ℕ) (frames : List FrameValue) → IsStateOf self stream → AreGiven self.scope stream frames
             → MatchResult result (Says truncated self.scope stream frames) (Breaks truncated self.scope stream) }
         ensures no_memory { result ≢ Err PcapFault.Memory }

@@ -15,12 +15,12 @@ pub(crate) const RECORD_HEADER: usize = 16;
 /// The most bytes that a record may hold of its frame: libpcap's `MAXIMUM_SNAPLEN`.
 pub const LONGEST: u32 = 262_144;
 
-/// What was read of some bytes: what the file header states, the frames, the number of the next, and how many of the bytes they take.
+/// What was read of some bytes: what the file header states, the frames, how many came before the next, and how many of the bytes they take.
 #[derive(Drop)]
 pub(crate) struct RecordsRead {
     pub header: Option<FileHeader>,
     pub frames: Vec<Frame>,
-    pub count: u32,
+    pub count: u64,
     pub used: usize,
 }
 
@@ -92,12 +92,12 @@ pub(crate) fn first_frame(
     })
 }
 
-// Reads the records at the front, from this number on.
+// Reads the records at the front, which come after so many others.
 fn read_records(
     alloc: Global,
     scope: Scope,
     header: FileHeader,
-    num: u32,
+    num: u64,
     bytes: &[u8],
 ) -> Result<RecordsRead, AllocError>
     requires { HasRoom scope.length (16 * num + length bytes.now) }
@@ -108,7 +108,7 @@ fn read_records(
     let mut count = num;
     let mut rest = bytes;
     while has_record(header, rest) {
-        let frame = first_frame(alloc, header, count, rest)?;
+        let frame = first_frame(alloc, header, scope.length.frame_number(count), rest)?;
         let end = frame.record_len();
         frames.push(frame)?;
         count = scope.length.number_after(count);
@@ -126,7 +126,7 @@ fn read_records(
 fn read_first(
     alloc: Global,
     scope: Scope,
-    num: u32,
+    num: u64,
     bytes: &[u8],
 ) -> Result<RecordsRead, AllocError>
     requires { HasRoom scope.length (16 * num + length bytes.now) }
@@ -153,7 +153,7 @@ pub(crate) fn read_frames(
     alloc: Global,
     scope: Scope,
     header: Option<FileHeader>,
-    num: u32,
+    num: u64,
     bytes: &[u8],
 ) -> Result<RecordsRead, AllocError>
     requires { HasRoom scope.length (16 * num + length bytes.now) }
@@ -170,7 +170,7 @@ pub(crate) fn read_frames(
 pub(crate) fn fault_at(
     scope: Scope,
     header: Option<FileHeader>,
-    num: u32,
+    num: u64,
     bytes: &[u8],
 ) -> Option<PcapFault>
     ensures { IsFaultAt scope (state_of header num) bytes.now result }

@@ -14,16 +14,16 @@ struct BytesTaken {
     stage: Stage<PcapFault>,
     header: Option<FileHeader>,
     frames: Vec<Frame>,
-    count: u32,
+    count: u64,
     used: usize,
 }
 
-/// How far a stream was read: what its header states, once that was read, and the number of the next frame.
+/// How far a stream was read: what its header states, once that was read, and how many frames came.
 #[derive(Clone, Copy)]
 pub(crate) struct Place {
     pub scope: Scope,
     pub header: Option<FileHeader>,
-    pub count: u32,
+    pub count: u64,
 }
 
 /// Where a piece brings a reader.
@@ -31,7 +31,7 @@ pub(crate) struct Place {
 pub(crate) struct Reached {
     pub stage: Stage<PcapFault>,
     pub header: Option<FileHeader>,
-    pub count: u32,
+    pub count: u64,
 }
 
 // How many of the last bytes of a stream that long come too late for a frame.
@@ -48,7 +48,7 @@ pub(crate) fn late_of(length: Length, total: usize) -> usize
 fn stage_after(
     scope: Scope,
     header: Option<FileHeader>,
-    count: u32,
+    count: u64,
     late: usize,
     rest: &[u8],
 ) -> Stage<PcapFault>
@@ -211,7 +211,8 @@ fn take_after(
     let Some(header) = place.header else {
         unreachable!();
     };
-    let frame = first_frame(alloc, header, place.count, held)?;
+    let num = place.scope.length.frame_number(place.count);
+    let frame = first_frame(alloc, header, num, held)?;
     let next = Place {
         scope: place.scope,
         header: place.header,

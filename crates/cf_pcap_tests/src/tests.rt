@@ -46,7 +46,7 @@ fn both_lengths() -> [Scope; 2] {
 #[derive(Clone, Copy)]
 struct Told {
     found: Option<usize>,
-    end: Result<u32, PcapFault>,
+    end: Result<u64, PcapFault>,
 }
 
 /// Feeds a piece, and once more if memory runs out.
@@ -122,7 +122,7 @@ fn are_the_two(rt: &impl Abort, out: &[Frame], first: u64) -> Result<(), Fail> {
 }
 
 /// What the end answers after so many bytes of the two frames, and how many frames there were.
-fn wanted_after(bytes: usize) -> (Result<u32, PcapFault>, usize) {
+fn wanted_after(bytes: usize) -> (Result<u64, PcapFault>, usize) {
     match bytes {
         24 => (Ok(0), 0),
         0..=41 => (Err(PcapFault::Cut(0)), 0),
@@ -150,7 +150,7 @@ fn a_cut_stream_is_cut_after_whole_records(rt: HostRuntime) -> Result<(), Fail> 
 }
 
 /// What the end of so many bytes of the two frames answers where they are read as truncated.
-fn truncated_after(bytes: usize) -> Result<Option<u32>, PcapFault> {
+fn truncated_after(bytes: usize) -> Result<Option<u64>, PcapFault> {
     match bytes {
         0..=23 => Err(PcapFault::Cut(0)),
         24 | 42 | 59 => Ok(None),
@@ -166,7 +166,7 @@ fn end_truncated(
     stream: &[u8],
     size: usize,
     out: &mut Vec<Frame>,
-) -> Result<Result<Option<u32>, PcapFault>, AllocError> {
+) -> Result<Result<Option<u64>, PcapFault>, AllocError> {
     let mut pcap = Pcap::for_scope(alloc, scope)?;
     for piece in stream.chunks(size.max(1)) {
         let _ = feed_again(&mut pcap, piece, out);

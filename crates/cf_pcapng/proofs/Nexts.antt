@@ -4,7 +4,7 @@ use Rattle.std.proofs.lemmas.Bool.{cases_lt}
 use Rattle.cf_pcap.specs.declared.scope.Scope.{Scope}
 use Rattle.cf_pcap.specs.declared.limit.Length.{Length}
 use Rattle.cf_pcap.specs.declared.limit.Length.TheVariants.{Limited, Any}
-use Rattle.cf_pcap.specs.Limits.{IsShort, HasRoom}
+use Rattle.cf_pcap.specs.Limits.{IsShort, HasRoom, num_of}
 use Rattle.cf_pcap.specs.declared.form.Order.{Order}
 use Rattle.cf_pcap.specs.Capture.{FrameValue}
 use Rattle.cf_pcap.specs.Format.{Wants, Bad, Takes, ReadsTo}
@@ -40,12 +40,12 @@ next_whole scope s bytes order kind total h whole = next_by_head scope s bytes (
 abbrev pub shown_by : Length → State → List ℕ → Next → Shown
 shown_by l s bytes next.Wants = Wants
 shown_by l s bytes (next.Flawed flaw) = Bad (fault_of s.count flaw)
-shown_by l s bytes (next.Block total content) = Takes total (frames_of s.count content (take total bytes)) (after l s content)
+shown_by l s bytes (next.Block total content) = Takes total (frames_of (num_of l s.count) content (take total bytes)) (after l s content)
 
 by_content : (l : Length) (s : State) (bytes : List ℕ) (total : ℕ) (found : Result Content Flaw) → total ≤ length bytes
     → block_found l s (take total bytes) found ≡ shown_by l s bytes (block_next total found)
 by_content l s bytes total (Ok content) whole =
-    ap (λ n. Takes n (frames_of s.count content (take total bytes)) (after l s content)) (length_front total bytes whole)
+    ap (λ n. Takes n (frames_of (num_of l s.count) content (take total bytes)) (after l s content)) (length_front total bytes whole)
 by_content l s bytes total (Err flaw) whole = refl
 
 by_head : (scope : Scope) (s : State) (bytes : List ℕ) (head : BlockHead)
@@ -71,10 +71,10 @@ step_of scope s bytes found h = step_by_next scope s bytes ∙ ap (λ (x : Next)
 -- one more block is read
 pub one_more : (scope : Scope) (s : State) (bytes : List ℕ) (frames : List FrameValue) (t : State) (left : List ℕ) (total : ℕ) (content : Content)
     → ReadsTo (pcapng scope) s bytes frames t left → next.Block total content ≡ next_of scope t left
-    → ReadsTo (pcapng scope) s bytes (frames ++ frames_of t.count content (take total left)) (after scope.length t content) (drop total left)
+    → ReadsTo (pcapng scope) s bytes (frames ++ frames_of (num_of scope.length t.count) content (take total left)) (after scope.length t content) (drop total left)
 one_more scope s bytes frames t left total content read is =
-    reads_on (pcapng scope) s bytes frames (frames_of t.count content (take total left)) t left (after scope.length t content) (drop total left) read
-    (reads_one (pcapng scope) t left total (frames_of t.count content (take total left)) (after scope.length t content)
+    reads_on (pcapng scope) s bytes frames (frames_of (num_of scope.length t.count) content (take total left)) t left (after scope.length t content) (drop total left) read
+    (reads_one (pcapng scope) t left total (frames_of (num_of scope.length t.count) content (take total left)) (after scope.length t content)
     (step_of scope t left (next.Block total content) is))
 
 -- there is room for the number after a block, and for what is left

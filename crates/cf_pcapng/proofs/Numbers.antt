@@ -3,6 +3,7 @@ use Rattle.std.proofs.Common.{◌≡◌, ◌⊎◌, inl, inr, ℕ, ◌+◌, take
 use Rattle.std.specs.Prelude.{slice_range}
 use Rattle.cf_pcap.specs.Capture.{FrameValue}
 use Rattle.cf_pcap.specs.declared.scope.Scope.{Scope}
+use Rattle.cf_pcap.specs.Limits.{num_of}
 use Rattle.cf_pcap.specs.Format.{Takes}
 use Rattle.cf_pcapng.specs.File.{State, frames_of, step}
 use Rattle.cf_pcapng.specs.declared.content.Content.{Content}
@@ -30,7 +31,7 @@ of_content k Nothing block = inl refl
 
 -- what a block gives
 pub numbered : (scope : Scope) (s : State) (bytes : List ℕ) (n : ℕ) (items : List FrameValue) (t : State) → step scope s bytes ≡ Takes n items t
-    → IsNumbered s.count items
+    → IsNumbered (num_of scope.length s.count) items
 numbered scope s bytes n items t h =
     let it = taken scope s bytes n items t h in
-    subst (λ (xs : List FrameValue). IsNumbered s.count xs) (sym it.items_are) (of_content s.count it.content (take n bytes))
+    subst (λ (xs : List FrameValue). IsNumbered (num_of scope.length s.count) xs) (sym it.items_are) (of_content (num_of scope.length s.count) it.content (take n bytes))

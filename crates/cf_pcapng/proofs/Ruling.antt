@@ -10,6 +10,7 @@ use Rattle.cf_pcap.specs.declared.limit.Length.TheVariants.{Limited, Any}
 use Rattle.cf_pcap.specs.declared.scope.Scope.{Scope}
 use Rattle.cf_pcap.specs.declared.form.Order.{Order}
 use Rattle.cf_pcap.specs.Capture.{FrameValue, number_in}
+use Rattle.cf_pcap.specs.Limits.{num_of}
 use Rattle.cf_pcap.specs.Links.{is_link, longest}
 use Rattle.cf_pcap.specs.Format.{Wants, Bad, Takes}
 use Rattle.cf_pcapng.specs.declared.fault.Flaw.{Flaw}
@@ -391,8 +392,8 @@ head_case section bytes = elim (cases_lt (length bytes) 4) [
 data StepCase (scope : Scope) (s : State) (bytes : List ℕ) : Type 0 where
   Wanting : step scope s bytes ≡ Wants → StepCase scope s bytes
   Flaws : (flaw : Flaw) → step scope s bytes ≡ Bad (fault_of s.count flaw) → HasFlaw scope s bytes flaw → StepCase scope s bytes
-  Block : (n : ℕ) (content : Content) → step scope s bytes ≡ Takes n (frames_of s.count content (take n bytes)) (after scope.length s content)
-      → IsBlock scope s bytes n (frames_of s.count content (take n bytes)) (after scope.length s content) → StepCase scope s bytes
+  Block : (n : ℕ) (content : Content) → step scope s bytes ≡ Takes n (frames_of (num_of scope.length s.count) content (take n bytes)) (after scope.length s content)
+      → IsBlock scope s bytes n (frames_of (num_of scope.length s.count) content (take n bytes)) (after scope.length s content) → StepCase scope s bytes
 
 step_content : (scope : Scope) (s : State) (bytes : List ℕ) (order : Order) (kind : BlockKind) (total : ℕ) (found : Result Content Flaw)
     → HasBlock s.order bytes order kind total → content_of scope s.interfaces order kind (take total bytes) ≡ found
@@ -405,13 +406,13 @@ step_content scope s bytes order kind total found h is =
 step_block : (scope : Scope) (s : State) (bytes : List ℕ) (order : Order) (kind : BlockKind) (total : ℕ) (content : Content)
     → HasBlock s.order bytes order kind total → last_total order (take total bytes) ≡ total
     → BlockStates scope s.interfaces order kind (take total bytes) content
-    → step scope s bytes ≡ Takes total (frames_of s.count content (take total bytes)) (after scope.length s content)
+    → step scope s bytes ≡ Takes total (frames_of (num_of scope.length s.count) content (take total bytes)) (after scope.length s content)
 step_block scope s bytes order kind total content h last states =
     let size : length (take total bytes) ≡ total = length_front total bytes h.whole in
     step_content scope s bytes order kind total (Ok content) h
     (closed scope s.interfaces order kind (take total bytes) (last ∙ sym size)
     ∙ stated_lawful scope s.interfaces order kind (take total bytes) content states)
-    ∙ ap (λ n. Takes n (frames_of s.count content (take total bytes)) (after scope.length s content)) size
+    ∙ ap (λ n. Takes n (frames_of (num_of scope.length s.count) content (take total bytes)) (after scope.length s content)) size
 
 step_flawed : (scope : Scope) (s : State) (bytes : List ℕ) (flaw : Flaw) → HasFlaw scope s bytes flaw → step scope s bytes ≡ Bad (fault_of s.count flaw)
 step_flawed scope s bytes flaw (inl h) = step_at scope s bytes (Flawed flaw) (head_flawed s.order bytes flaw h)
@@ -464,14 +465,14 @@ bad_by_rules : (scope : Scope) (s : State) (bytes : List ℕ) (fault : NgFault) 
 bad_by_rules scope s bytes fault h (Wanting is) = absurd (wants_not_bad fault (sym is ∙ h))
 bad_by_rules scope s bytes fault h (Flaws flaw is breaks) = (flaw, bad_same fault (fault_of s.count flaw) (sym h ∙ is), breaks)
 bad_by_rules scope s bytes fault h (Block n content is block) =
-    absurd (bad_not_takes fault n (frames_of s.count content (take n bytes)) (after scope.length s content) (sym h ∙ is))
+    absurd (bad_not_takes fault n (frames_of (num_of scope.length s.count) content (take n bytes)) (after scope.length s content) (sym h ∙ is))
 
 takes_by_rules : (scope : Scope) (s : State) (bytes : List ℕ) (n : ℕ) (frames : List FrameValue) (t : State) → step scope s bytes ≡ Takes n frames t
     → StepCase scope s bytes → IsBlock scope s bytes n frames t
 takes_by_rules scope s bytes n frames t h (Wanting is) = absurd (wants_not_takes n frames t (sym is ∙ h))
 takes_by_rules scope s bytes n frames t h (Flaws flaw is breaks) = absurd (bad_not_takes (fault_of s.count flaw) n frames t (sym is ∙ h))
 takes_by_rules scope s bytes n frames t h (Block m content is block) =
-    let given : List FrameValue = frames_of s.count content (take m bytes) in
+    let given : List FrameValue = frames_of (num_of scope.length s.count) content (take m bytes) in
     let next : State = after scope.length s content in
     subst (λ (k : ℕ). IsBlock scope s bytes k frames t) (taken_size m n given frames next t (sym is ∙ h))
     (subst (λ (x : List FrameValue). IsBlock scope s bytes m x t) (taken_items m n given frames next t (sym is ∙ h))

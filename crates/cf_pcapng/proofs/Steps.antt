@@ -6,7 +6,7 @@ use Rattle.cf_pcap.specs.declared.scope.Scope.{Scope}
 use Rattle.cf_pcap.specs.declared.form.Order.{Order}
 use Rattle.cf_pcap.specs.Capture.{FrameValue}
 use Rattle.cf_pcap.specs.declared.limit.Length.{Length}
-use Rattle.cf_pcap.specs.Limits.{count_on}
+use Rattle.cf_pcap.specs.Limits.{count_on, num_of}
 use Rattle.cf_pcap.proofs.Limits.{count_none}
 use Rattle.cf_pcap.specs.Format.{Found, Wants, Bad, Takes}
 use Rattle.cf_pcap.specs.Streams.{IsStepper}
@@ -76,7 +76,7 @@ pub record Taken (scope : Scope) (s : State) (bytes : List ℕ) (n : ℕ) (items
   pub whole : n ≤ length bytes
   pub content : Content
   pub states : content_of scope s.interfaces order kind (take n bytes) ≡ Ok content
-  pub items_are : items ≡ frames_of s.count content (take n bytes)
+  pub items_are : items ≡ frames_of (num_of scope.length s.count) content (take n bytes)
   pub after_is : t ≡ after scope.length s content
 
 pub taken_size : (n m : ℕ) (a b : List FrameValue) (t u : State) → ◌≡◌ {A = Shown} (Takes n a t) (Takes m b u) → n ≡ m
@@ -98,7 +98,7 @@ taken_of_content : (scope : Scope) (s : State) (bytes : List ℕ) (order : Order
 taken_of_content scope s bytes order kind total n items t stands whole (Err flaw) is h = absurd (bad_not_takes (fault_of s.count flaw) n items t h)
 taken_of_content scope s bytes order kind total n items t stands whole (Ok content) is h =
     let block : List ℕ = take total bytes in
-    let size : length block ≡ n = taken_size (length block) n (frames_of s.count content block) items (after scope.length s content) t h in
+    let size : length block ≡ n = taken_size (length block) n (frames_of (num_of scope.length s.count) content block) items (after scope.length s content) t h in
     let total_is : total ≡ n = sym (length_front total bytes whole) ∙ size in record {
       order = order;
       kind = kind;
@@ -106,9 +106,9 @@ taken_of_content scope s bytes order kind total n items t stands whole (Ok conte
       whole = subst (λ (m : ℕ). m ≤ length bytes) total_is whole;
       content = content;
       states = subst (λ (m : ℕ). content_of scope s.interfaces order kind (take m bytes) ≡ Ok content) total_is is;
-      items_are = sym (taken_items (length block) n (frames_of s.count content block) items (after scope.length s content) t h)
-          ∙ ap (λ m. frames_of s.count content (take m bytes)) total_is;
-      after_is = sym (taken_state (length block) n (frames_of s.count content block) items (after scope.length s content) t h);
+      items_are = sym (taken_items (length block) n (frames_of (num_of scope.length s.count) content block) items (after scope.length s content) t h)
+          ∙ ap (λ m. frames_of (num_of scope.length s.count) content (take m bytes)) total_is;
+      after_is = sym (taken_state (length block) n (frames_of (num_of scope.length s.count) content block) items (after scope.length s content) t h);
     }
 
 pub found_short : (scope : Scope) (s : State) (bytes : List ℕ) (order : Order) (kind : BlockKind) (total : ℕ) → length bytes < total
@@ -141,7 +141,7 @@ frames_few k (Captures packet) block = omega arith
 frames_few k Nothing block = omega arith
 
 counts : (l : Length) (s : State) (content : Content) (block : List ℕ)
-    → (after l s content).count ≡ count_on l s.count (length (frames_of s.count content block))
+    → (after l s content).count ≡ count_on l s.count (length (frames_of (num_of l s.count) content block))
 counts l s (NewSection order) block = sym (count_none l s.count)
 counts l s (NewInterface interface) block = sym (count_none l s.count)
 counts l s (Captures packet) block = refl
@@ -175,11 +175,11 @@ content_stated scope interfaces order kind block content h = elim (cases_Bool (l
 
 taken_few : (scope : Scope) (s : State) (bytes : List ℕ) (n : ℕ) (items : List FrameValue) (t : State) → Taken scope s bytes n items t → 16 * length items ≤ n
 taken_few scope s bytes n items t it =
-    let most : 16 * length (frames_of s.count it.content (take n bytes)) ≤ least it.kind =
-    content_least scope s.interfaces it.order it.kind (take n bytes) s.count it.content
+    let most : 16 * length (frames_of (num_of scope.length s.count) it.content (take n bytes)) ≤ least it.kind =
+    content_least scope s.interfaces it.order it.kind (take n bytes) (num_of scope.length s.count) it.content
     (content_stated scope s.interfaces it.order it.kind (take n bytes) it.content it.states) in
     let size : least it.kind ≤ n = at_least it.kind n it.stands.lawful in
-    let same : length items ≡ length (frames_of s.count it.content (take n bytes)) = ap length it.items_are in
+    let same : length items ≡ length (frames_of (num_of scope.length s.count) it.content (take n bytes)) = ap length it.items_are in
     omega (arith, most, size, same)
 
 -- a block that bytes only begin is longer
@@ -194,11 +194,11 @@ taken_total scope s bytes order kind total n items t h = elim (cases_lt (length 
   by_content whole (Err flaw) e = absurd (bad_not_takes (fault_of s.count flaw) n items t e)
   by_content whole (Ok content) e =
       sym (length_front total bytes whole)
-      ∙ taken_size (length (take total bytes)) n (frames_of s.count content (take total bytes)) items (after scope.length s content) t e
+      ∙ taken_size (length (take total bytes)) n (frames_of (num_of scope.length s.count) content (take total bytes)) items (after scope.length s content) t e
 
 pub block_not_wants : (scope : Scope) (s : State) (block : List ℕ) (found : Result Content Flaw) → block_found scope.length s block found ≡ Wants → ⊥
 block_not_wants scope s block (Err flaw) h = wants_not_bad (fault_of s.count flaw) (sym h)
-block_not_wants scope s block (Ok content) h = wants_not_takes (length block) (frames_of s.count content block) (after scope.length s content) (sym h)
+block_not_wants scope s block (Ok content) h = wants_not_takes (length block) (frames_of (num_of scope.length s.count) content block) (after scope.length s content) (sym h)
 
 late_at : (scope : Scope) (s : State) (bytes more : List ℕ) (n : ℕ) (items : List FrameValue) (t : State) (head : BlockHead) → head_of s.order bytes ≡ head
     → step scope s bytes ≡ Wants → step scope s (bytes ++ more) ≡ Takes n items t → n ≤ length bytes → ⊥
@@ -243,8 +243,8 @@ stepper scope = record {
   late = late scope;
   one = λ s bytes n items t h.
       let it = taken scope s bytes n items t h in
-      let one : length (frames_of s.count it.content (take n bytes)) ≤ 1 = frames_few s.count it.content (take n bytes) in
-      let same : length items ≡ length (frames_of s.count it.content (take n bytes)) = ap length it.items_are in
+      let one : length (frames_of (num_of scope.length s.count) it.content (take n bytes)) ≤ 1 = frames_few (num_of scope.length s.count) it.content (take n bytes) in
+      let same : length items ≡ length (frames_of (num_of scope.length s.count) it.content (take n bytes)) = ap length it.items_are in
       omega (arith, one, same);
   few = λ s bytes n items t h. taken_few scope s bytes n items t (taken scope s bytes n items t h);
   counts = λ s bytes n items t h.

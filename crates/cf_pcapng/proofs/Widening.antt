@@ -1,5 +1,5 @@
 -- Where all links are read.
-use Rattle.std.proofs.Common.{◌≡◌, ℕ, List, [], ◌∷◌, drop, Option, Some, None}
+use Rattle.std.proofs.Common.{ℕ, List, [], ◌∷◌, drop, Option, Some, None}
 use Rattle.cf_pcap.specs.declared.links.LinkSet.{LinkSet}
 use Rattle.cf_pcap.specs.declared.links.LinkSet.TheVariants.{All}
 use Rattle.cf_pcap.specs.declared.scope.Scope.{Scope}

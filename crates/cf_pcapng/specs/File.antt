@@ -4,7 +4,7 @@ use Rattle.cf_pcap.specs.declared.scope.Scope.{Scope}
 use Rattle.cf_pcap.specs.declared.form.Order.{Order}
 use Rattle.cf_pcap.specs.Capture.{FrameValue}
 use Rattle.cf_pcap.specs.declared.limit.Length.{Length}
-use Rattle.cf_pcap.specs.Limits.{count_on}
+use Rattle.cf_pcap.specs.Limits.{count_on, num_of}
 use Rattle.cf_pcap.specs.Format.{Found, Wants, Bad, Takes, Format, IsWhole, HasFault}
 use Rattle.cf_pcapng.specs.declared.fault.Flaw.{Flaw}
 use Rattle.cf_pcapng.specs.declared.fault.Flaw.TheVariants.{BadMagic, BadVersion, BadLink, FrameTooLong, BadLength, NoInterface, TooManyInterfaces}
@@ -17,8 +17,8 @@ use Rattle.cf_pcapng.specs.declared.content.Content.{Content}
 use Rattle.cf_pcapng.specs.declared.content.Content.TheVariants.{NewSection, NewInterface, Captures, Nothing}
 use Rattle.cf_pcapng.specs.Blocks.{head_of, content_of}
 
--- how far a file was read: the byte order of its section, if one has begun, the interfaces of that section, and the number
--- of the next frame
+-- how far a file was read: the byte order of its section, if one has begun, the interfaces of that section, and how many
+-- frames came
 pub record State : Type 0 where
   pub order : Option Order
   pub interfaces : List Interface
@@ -34,7 +34,7 @@ fault_of k BadLength = faults.BadLength k
 fault_of k NoInterface = faults.NoInterface k
 fault_of k TooManyInterfaces = faults.TooManyInterfaces k
 
--- the frames that a block gives, as number k
+-- the frames that a block gives, numbered from k
 abbrev pub frames_of : ℕ → Content → List ℕ → List FrameValue
 frames_of k (NewSection order) block = []
 frames_of k (NewInterface interface) block = []
@@ -57,7 +57,7 @@ after limit s Nothing = s
 
 -- what a whole block gives, or its fault
 abbrev pub block_found : Length → State → List ℕ → Result Content Flaw → Found State FrameValue NgFault
-block_found limit s block (Ok content) = Takes (length block) (frames_of s.count content block) (after limit s content)
+block_found limit s block (Ok content) = Takes (length block) (frames_of (num_of limit s.count) content block) (after limit s content)
 block_found limit s block (Err flaw) = Bad (fault_of s.count flaw)
 
 -- what the bytes at the front show, by their head

@@ -5,7 +5,7 @@ use Rattle.cf_pcap.specs.declared.links.LinkSet.{LinkSet}
 use Rattle.cf_pcap.specs.declared.limit.Length.{Length}
 use Rattle.cf_pcap.specs.declared.limit.Length.TheVariants.{Limited, Any}
 use Rattle.cf_pcap.specs.declared.scope.Scope.{Scope}
-use Rattle.cf_pcap.specs.Limits.{IsShort, IsLong, number_of}
+use Rattle.cf_pcap.specs.Limits.{IsShort, IsLong, number_of, num_of}
 use Rattle.cf_pcap.specs.declared.form.Order.{Order}
 use Rattle.cf_pcap.specs.Capture.{FrameValue, number_in}
 use Rattle.cf_pcap.specs.Kinds as kinds
@@ -189,7 +189,7 @@ pub record IsBlock (scope : Scope) (s : State) (bytes : List ℕ) (n : ℕ) (fra
   pub block : HasBlock s.order bytes order kind n
   pub last : last_total order (take n bytes) ≡ n
   pub states : BlockStates scope s.interfaces order kind (take n bytes) content
-  pub frames_are : frames ≡ frames_of s.count content (take n bytes)
+  pub frames_are : frames ≡ frames_of (num_of scope.length s.count) content (take n bytes)
   pub after_is : t ≡ after scope.length s content
 
 -- what the step of a pcapng file finds is what the rules say, both ways

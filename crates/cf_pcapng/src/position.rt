@@ -1,6 +1,6 @@
 // How far a file was read.
 ghost use Rattle.std.specs.Prelude.{◌≡◌, ◌+◌, ◌≤◌, ◌++◌, ◌∷◌, [], false, length, IfOk};
-ghost use Rattle.cf_pcap.specs.Limits.{IsShort};
+ghost use Rattle.cf_pcap.specs.Limits.{IsShort, num_of};
 ghost use Rattle.cf_pcapng.specs.File.{frames_of, after};
 ghost use Rattle.cf_pcapng.specs.Position.{state_of};
 ghost use Rattle.cf_pcapng.specs.Reading.{LiesIn};
@@ -18,8 +18,8 @@ pub(crate) struct Position<'a> {
     order: Option<Order>,
     /// The interfaces of the section.
     interfaces: Interfaces<'a>,
-    /// The number of the next frame.
-    count: u32,
+    /// How many frames came.
+    count: u64,
 }
 
 impl<'a> Model for Position<'a> {
@@ -38,7 +38,7 @@ pub(crate) struct Reached {
     pub anew: bool,
     /// The interfaces that came.
     pub came: Vec<Interface>,
-    pub count: u32,
+    pub count: u64,
 }
 
 // The frame of a packet.
@@ -64,7 +64,7 @@ impl<'a> Position<'a> {
         alloc: Global,
         order: Option<Order>,
         interfaces: &'a [Interface],
-        count: u32,
+        count: u64,
     ) -> Self
         ensures { result ≡ record { order = order; listed = record { had = interfaces.now; anew = false; came = [] }; count = count } }
     {
@@ -97,7 +97,7 @@ impl<'a> Position<'a> {
         &self.interfaces
     }
 
-    pub(crate) fn count(&self) -> u32
+    pub(crate) fn count(&self) -> u64
         ensures { result ≡ self.now.count }
     {
         self.count
@@ -131,7 +131,7 @@ impl<'a> Position<'a> {
         requires room { IsShort limit (self.old.count + 1) }
         ensures moved { IfOk result (λ _. state_of self.new ≡ after limit (state_of self.old) content) }
         ensures had { IfOk result (λ _. self.new.listed.had ≡ self.old.listed.had) }
-        ensures given { IfOk result (λ _. frames.new.items ≡ frames.old.items ++ frames_of self.old.count content block.now) }
+        ensures given { IfOk result (λ _. frames.new.items ≡ frames.old.items ++ frames_of (num_of limit self.old.count) content block.now) }
     {
         match content {
             Content::NewSection(order) => {
@@ -140,7 +140,8 @@ impl<'a> Position<'a> {
             }
             Content::NewInterface(interface) => self.interfaces.push(interface)?,
             Content::Captures(packet) => {
-                let frame = frame_of(alloc, self.count, packet, block)?;
+                let num = limit.frame_number(self.count);
+                let frame = frame_of(alloc, num, packet, block)?;
                 frames.push(frame)?;
                 self.count = limit.number_after(self.count);
             }

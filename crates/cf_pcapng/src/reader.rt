@@ -38,8 +38,8 @@ pub struct PcapNg {
     order: Option<Order>,
     // The interfaces of the section.
     interfaces: Vec<Interface>,
-    // The number of the next frame.
-    count: u32,
+    // How many frames came.
+    count: u64,
     // The block at hand, where it is only passed over.
     passed: Option<Passed>,
     held: Vec<u8>,
@@ -294,8 +294,8 @@ impl PcapNg {
         self.stage.fault()
     }
 
-    /// The number of frames of the stream that was fed, and 2^32 - 1 where they are more, or its fault. It takes no memory.
-    pub fn finish(self) -> Result<u32, NgFault>
+    /// The number of frames of the stream that was fed, and 2^53 - 1 if there are more, or its fault. It takes no memory.
+    pub fn finish(self) -> Result<u64, NgFault>
         ensures ended { (stream : List ℕ) → IsStateOf self stream → IsEnded self.scope stream result }
         ensures no_memory { result ≢ Err NgFault.Memory }
     {
@@ -315,7 +315,7 @@ impl PcapNg {
 
     /// What the end of the stream says: nothing where it ends well, or its fault. Where it may be truncated, a stream that ends within a
     /// block is one of the blocks before it: how many frames they have then. One that ends within its first section header has its fault.
-    pub fn finish_as(self, truncated: bool) -> Result<Option<u32>, NgFault>
+    pub fn finish_as(self, truncated: bool) -> Result<Option<u64>, NgFault>
         ensures ended { (stream : List ℕ) (frames : List FrameValue) → IsStateOf self stream → AreGiven (pcapng self.scope) stream frames
             → MatchResult result (Says truncated self.scope stream frames) (Breaks truncated self.scope stream) }
         ensures no_memory { result ≢ Err NgFault.Memory }

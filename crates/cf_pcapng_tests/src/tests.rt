@@ -51,7 +51,7 @@ const UNKNOWN: [u8; 20] = [
 #[derive(Clone, Copy)]
 struct Told {
     found: Option<usize>,
-    end: Result<u32, NgFault>,
+    end: Result<u64, NgFault>,
 }
 
 /// Feeds a piece, and once more if memory runs out.
@@ -290,7 +290,7 @@ fn interfaces_are_those_of_their_section(rt: HostRuntime) -> Result<(), Fail> {
     let none = section(rt.alloc(), &[], &zero)?;
     let missing = Err(NgFault::NoInterface(4));
     // What follows, what the end answers, and the links of the frames.
-    let cases: [(&[u8], Result<u32, NgFault>, &[u16]); 4] = [
+    let cases: [(&[u8], Result<u64, NgFault>, &[u16]); 4] = [
         (&[], Ok(4), &[113, 1, 1, 1]),
         (&known, Ok(5), &[113, 1, 1, 1, 113]),
         (&beyond, missing, &[113, 1, 1, 1]),
@@ -323,7 +323,7 @@ fn total_lengths_are_judged_at_their_bounds(rt: HostRuntime) -> Result<(), Fail>
     let section = [0x4d, 0x3c, 0x2b, 0x1a, 1];
     let bad = Err(NgFault::BadLength(0));
     // The type, the first fields, the total length, and what the end answers.
-    let cases: [(u32, &[u8], u32, Result<u32, NgFault>); 21] = [
+    let cases: [(u32, &[u8], u32, Result<u64, NgFault>); 21] = [
         (0x0a0d_0d0a, &section, 24, bad),
         (0x0a0d_0d0a, &section, 28, Ok(0)),
         (0x0a0d_0d0a, &section, 30, bad),
@@ -479,7 +479,7 @@ fn end_truncated(
     stream: &[u8],
     size: usize,
     out: &mut Vec<Frame>,
-) -> Result<Result<Option<u32>, NgFault>, AllocError> {
+) -> Result<Result<Option<u64>, NgFault>, AllocError> {
     let mut pcapng = PcapNg::for_scope(alloc, scope)?;
     for piece in stream.chunks(size.max(1)) {
         let _ = feed_again(&mut pcapng, piece, out);
@@ -489,7 +489,7 @@ fn end_truncated(
 
 /// What the end of so many bytes of two sections answers where they are read as truncated. Each section has a header of 28 bytes, an
 /// interface of 20 and packets of 36 and 20, and a block of 20 that gives none is between them.
-fn truncated_after(bytes: usize) -> Result<Option<u32>, NgFault> {
+fn truncated_after(bytes: usize) -> Result<Option<u64>, NgFault> {
     match bytes {
         0..=27 => Err(NgFault::Cut(0)),
         28 | 48 | 84 | 104 | 124 | 152 | 172 | 208 | 228 => Ok(None),
@@ -567,16 +567,28 @@ fn a_long_block_is_passed_over_and_not_held(rt: HostRuntime) -> Result<(), Fail>
     Ok(())
 }
 
-/// What the end of a stream answers, as it is and where it may be truncated.
-fn both_ends(
-    alloc: Global,
-    scope: Scope,
-    stream: &[u8],
-) -> Result<(Result<u32, NgFault>, Result<Option<u32>, NgFault>), AllocError> {
+/// What the end of a stream answers.
+fn end_of(alloc: Global, scope: Scope, stream: &[u8]) -> Result<Result<u64, NgFault>, AllocError> {
     let mut out: Vec<Frame> = Vec::new(alloc);
-    let told = feed_all(alloc, scope, stream, 65_536, &mut out)?;
-    let end = end_truncated(alloc, scope, stream, 65_536, &mut out)?;
-    Ok((told.end, end))
+    Ok(feed_all(alloc, scope, stream, 65_536, &mut out)?.end)
+}
+
+/// So many interfaces in one section, of a block of 20 bytes each, behind these blocks of it.
+fn interfaces(alloc: Global, front: &[u8], count: usize) -> Result<Vec<u8>, AllocError> {
+    let one = interface(alloc, 1, 0, &[])?;
+    let mut all = joined(alloc, &[&SECTION, front])?;
+    for _ in 0..count {
+        all.extend_from_slice(&one)?;
+    }
+    Ok(all)
+}
+
+/// What the end answers where a stream may be truncated that answers this where it may not: only a cut is excused.
+fn excused(end: Result<u64, NgFault>) -> Result<Option<u64>, NgFault> {
+    match end {
+        Err(NgFault::Cut(count)) => Ok(Some(count)),
+        other => other.map(|_| None),
+    }
 }
 
 #[test]
@@ -584,28 +596,34 @@ fn a_section_has_at_most_65536_interfaces(rt: HostRuntime) -> Result<(), Fail> {
     let alloc = rt.alloc();
     let one = interface(alloc, 1, 0, &[])?;
     let packet = enhanced(alloc, 0, 7)?;
-    let mut full = joined(alloc, &[&SECTION, &one, &packet])?;
-    for _ in 1..65_536 {
-        full.extend_from_slice(&one)?;
-    }
+    let full = interfaces(alloc, &joined(alloc, &[&one, &packet])?, 65_535)?;
+    let bare = interfaces(alloc, &[], 65_536)?;
     let other_end = joined(alloc, &[part(&one, 0, 16), &[0x15, 0, 0, 0]])?;
     let anew = joined(alloc, &[&SECTION, &one])?;
     // What follows, and what the end answers: the number of frames, or the fault of a stream of any length and below 2^32 bytes.
     let bad = Err(NgFault::BadLength(1));
+    let none = Err(NgFault::TooManyInterfaces(0));
     let many = Err(NgFault::TooManyInterfaces(1));
-    let cases: [(Vec<u8>, Result<u32, NgFault>, Result<u32, NgFault>); 4] = [
-        (joined(alloc, &[&full, &packet])?, Ok(2), Ok(2)),
-        (joined(alloc, &[&full, &one])?, many, Ok(1)),
+    let cut = Err(NgFault::Cut(1));
+    let cases: [(Vec<u8>, Result<u64, NgFault>, Result<u64, NgFault>); 6] = [
+        (joined(alloc, &[&bare, &packet])?, Ok(1), Ok(1)),
+        (joined(alloc, &[&bare, &one, &packet])?, none, Ok(1)),
+        (joined(alloc, &[&full, &one, part(&one, 0, 7)])?, many, cut),
+        (joined(alloc, &[&full, part(&one, 0, 19)])?, cut, cut),
         (joined(alloc, &[&full, &other_end])?, bad, bad),
         (joined(alloc, &[&full, &anew])?, Ok(1), Ok(1)),
     ];
+    let long = Scope::unlimited(LinkSet::Basic);
     for (stream, any, limited) in cases {
-        for (scope, end) in [
-            (Scope::unlimited(LinkSet::Basic), any),
-            (Scope::limited(LinkSet::Basic), limited),
-        ] {
-            let ends = both_ends(alloc, scope, &stream)?;
-            assert_eq!(rt; ends, (end, end.map(|_| None)));
+        assert_eq!(rt; end_of(alloc, long, &stream)?, any);
+        assert_eq!(rt;
+            end_of(alloc, Scope::limited(LinkSet::Basic), &stream)?,
+            limited
+        );
+        if any.is_err() {
+            let mut out: Vec<Frame> = Vec::new(alloc);
+            let end = end_truncated(alloc, long, &stream, 65_536, &mut out)?;
+            assert_eq!(rt; end, excused(any));
         }
     }
     Ok(())

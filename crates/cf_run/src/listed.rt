@@ -22,7 +22,7 @@ fn list_packets<F: Shelf>(
     schema: &Schema,
     truncated: bool,
     listing: &mut Listing,
-) -> Result<Option<u32>, Halt>
+) -> Result<Option<u64>, Halt>
     requires schema { schema.now ≡ attrs_by which }
     requires none { IsListing (attrs_by which) [] listing.old }
     ensures files { F.files shelf.new ≡ F.files shelf.old }
@@ -46,7 +46,7 @@ pub(crate) fn list_rows<F: Shelf>(
     which: PacketSchema,
     truncated: bool,
     listing: &mut Listing,
-) -> Result<Option<u32>, Halt>
+) -> Result<Option<u64>, Halt>
     requires { IsListing (attrs_by which) [] listing.old }
     ensures files { F.files shelf.new ≡ F.files shelf.old }
     ensures read { ReadsRows (Packets which) truncated (attrs_by which)

@@ -42,7 +42,7 @@ fn run_report<R: Threads + Sync, F: Shelf, G: Gate>(
     };
     let cut = fill_rows(context, shelf, command.capture, manner, &mut filling)?;
     if filling.is_full() {
-        let most = sizes.most();
+        let most = sizes.most() as u64;
         return Err(Halt::Refused(Refusal::Full { most }));
     }
     match report_of(context, &setup, filling) {
@@ -83,6 +83,7 @@ fn synth_answers<R: Threads + Sync, F: Shelf, G: Gate>(
     let most = sizes.most();
     // Each packet is a row.
     if command.count > most {
+        let most = most as u64;
         return Err(Halt::Refused(Refusal::Full { most }));
     }
     let mut filling = opened(alloc, &setup, sizes, 0)?;
@@ -139,7 +140,8 @@ fn snapshot_answers<R: Threads + Sync, F: Shelf, G: Gate>(
         ..
     } = command.sizes;
     if is_some_full(&hosts, capacity) {
-        return Err(Halt::Refused(Refusal::Full { most: capacity }));
+        let most = capacity as u64;
+        return Err(Halt::Refused(Refusal::Full { most }));
     }
     match load_hosts(context, &setup, &hosts, command.sizes) {
         Ok(()) => {}

@@ -17,7 +17,7 @@ pub enum Status {
     /// The setup has a fault, first in that line, by the rule of that code.
     Setup { line: u32, code: u8 },
     /// The capture, of several the first faulty one, has a fault, at that record, of that code.
-    Capture { at: u32, code: u8 },
+    Capture { at: u64, code: u8 },
     /// The shelf failed.
     ReadFault,
     /// The sink failed; what was due may be written in part.

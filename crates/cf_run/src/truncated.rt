@@ -10,7 +10,7 @@ use std::alloc::Global;
 pub(crate) fn with_truncated(
     alloc: Global,
     mut text: Vec<u8>,
-    cut: Option<u32>,
+    cut: Option<u64>,
 ) -> Result<Vec<u8>, Memory>
     ensures { IfOk result (λ whole. whole.items ≡ text.items ++ truncated_line cut) }
 {

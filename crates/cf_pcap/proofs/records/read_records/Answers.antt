@@ -1,5 +1,5 @@
 use Rattle.std.proofs.Common.{arith, ◌≡◌, ℕ, List, ◌≤◌, ◌+◌, ◌-◌, ◌*◌, ◌∙◌, Some, ap, sym, subst, [], ◌∷◌, ◌++◌, length, drop, length-drop}
-use Rattle.cf_pcap.specs.Limits.{HasRoom, count_on}
+use Rattle.cf_pcap.specs.Limits.{HasRoom, count_on, num_of}
 use Rattle.cf_pcap.specs.Format.{ReadsTo}
 use Rattle.cf_pcap.specs.Capture.{FrameValue, HasRecord, frame_at, caplen_at}
 use Rattle.cf_pcap.specs.File.{pcap}
@@ -23,7 +23,7 @@ loop-alloc-preserved c =
     let frame = c.in_ok-frame.frame in
     let frames = c.loop-alloc.frames.items in
     let count = c.loop-alloc.count in
-    let is : frame ≡ frame_at header count rest = c.in_ok-frame.ensures in
+    let is : frame ≡ frame_at header (num_of scope.length count) rest = c.in_ok-frame.ensures ∙ ap (λ n. frame_at header n rest) c.frame_number.ensures in
     let has : HasRecord header rest = c.has_record.ensures.yes c.loop-alloc-test.true in
     let fits : 16 + caplen_at header rest ≤ length rest = has.whole in
     let end : c.record_len-end.result ≡ 16 + caplen_at header rest = c.record_len-end.ensures ∙ ap (λ (f : FrameValue). 16 + f.caplen) is in

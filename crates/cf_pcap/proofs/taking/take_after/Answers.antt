@@ -1,5 +1,5 @@
 use Rattle.std.proofs.Common.{rules, ◌≡◌, ℕ, List, ◌∷◌, ◌++◌, drop, Option, Some, sym, ap, subst, ◌∙◌}
-use Rattle.cf_pcap.specs.Limits.{count_on}
+use Rattle.cf_pcap.specs.Limits.{count_on, num_of}
 use Rattle.cf_pcap.specs.declared.form.FileHeader.{FileHeader}
 use Rattle.cf_pcap.specs.Capture.{frame_at}
 use Rattle.cf_pcap.specs.Reading.{state_of, AreTaken, IsOneRecord}
@@ -17,7 +17,9 @@ returns-clause-given c =
     let given = c.in_ok-given.given in
     let t = state_of given.header given.count in
     let one : IsOneRecord (Some header) held = subst (λ (x : Option FileHeader). IsOneRecord x held) c.in-Some.is c.requires.record in
-    let is : frame ≡ frame_at header count held = c.in_ok-frame.ensures ∙ ap (λ xs. frame_at header count xs) c.deref.ensures.value in
+    let num : c.frame_number-num.result ≡ num_of scope.length count = c.frame_number-num.ensures in
+    let is : frame ≡ frame_at header (num_of scope.length count) held = c.in_ok-frame.ensures ∙ ap (λ xs. frame_at header c.frame_number-num.result xs) c.deref.ensures.value
+    ∙ ap (λ n. frame_at header n held) num in
     let kept : c.in_ok-kept.kept.items ≡ drop given.used more = search rules in
     let all : c.append-2.new.self.items ≡ c.args.out.now.items ++ (frame ∷ given.frames.items) = search rules in
     let taken : AreTaken scope (state_of (Some header) (count_on scope.length count 1)) c.args.late more given.frames.items t given.stage

@@ -1,6 +1,6 @@
 use Rattle.std.proofs.Common.{◌≡◌, ◌≤◌, ◌+◌, ◌-◌, ℕ, List, ◌++◌, length, take, drop, Some, None, sym, ap, subst, ◌∙◌, append_assoc, length-drop}
 use Rattle.cf_pcap.specs.declared.limit.Length.{Length}
-use Rattle.cf_pcap.specs.Limits.{HasRoom}
+use Rattle.cf_pcap.specs.Limits.{HasRoom, num_of}
 use Rattle.cf_pcap.specs.Capture.{FrameValue}
 use Rattle.cf_pcap.specs.Format.{ReadsTo}
 use Rattle.cf_pcapng.specs.declared.blocks.Next.TheVariants as next
@@ -19,12 +19,12 @@ loop-total-preserved c =
     let front = c.split_at.ensures.front in
     let back = c.split_at.ensures.back in
     let had = at.invariant.read in
-    let block : List FrameValue = frames_of now.count content (take total at.left.now) in
+    let block : List FrameValue = frames_of (num_of c.args.scope.length now.count) content (take total at.left.now) in
     let more : ReadsTo (pcapng c.args.scope) s c.args.bytes.now (had.0 ++ block) (after c.args.scope.length now content) (drop total at.left.now) =
     one_more c.args.scope s c.args.bytes.now had.0 now at.left.now total content had.2 c.in-Block.ensures.value in
     let moved : state_of c.pass.new.self ≡ after c.args.scope.length now content = c.in_ok-pass-in-Block.ensures.moved in
     let given : c.pass.new.frames.items ≡ c.args.frames.items ++ (had.0 ++ block) = c.in_ok-pass-in-Block.ensures.given
-    ∙ ap (λ xs. at.frames.items ++ frames_of now.count content xs) front ∙ ap (λ xs. xs ++ block) had.1 ∙ append_assoc c.args.frames.items had.0 block in
+    ∙ ap (λ xs. at.frames.items ++ frames_of (num_of c.args.scope.length now.count) content xs) front ∙ ap (λ xs. xs ++ block) had.1 ∙ append_assoc c.args.frames.items had.0 block in
     let size : 12 ≤ total = c.in-Block.ensures.within.0 in
     let fits : total ≤ length at.left.now = c.in-Block.ensures.within.1 in
     let len : length (drop total at.left.now) ≡ length at.left.now - total = length-drop total at.left.now in
