@@ -115,13 +115,14 @@ pub record SnapshotCall : Type 0 where
   pub sizes : LogSizes
   pub truncated : Bool
 
--- what `watch` is called for: what the rounds of a capture say by a setup, both named, over a window of these sizes, each live question
--- being asked where so many records came since it was; whether the capture is read as truncated
+-- what `watch` is called for: what the rounds of a capture say by a setup, both named, over a window of these sizes; after how many
+-- records live questions are asked, and after how many a beat comes; whether the capture is read as truncated
 pub record WatchCall : Type 0 where
   pub setup : List ℕ
   pub capture : List ℕ
   pub sizes : WindowSizes
   pub every : ℕ
+  pub beat : ℕ
   pub truncated : Bool
 
 -- what a command line is called for
@@ -160,8 +161,11 @@ call_in (snapshot_said texts) =
 call_in (watch_said texts) =
     option_and_then
     (λ sizes. option_and_then
-    (λ every. Some (watch (record { setup = texts.setup; capture = texts.capture; sizes = sizes; every = every; truncated = is_given texts.truncated })))
-    (number_in 0 (2 ^ 32 - 1) texts.every)) (window_in texts.capacity texts.segments texts.nodes)
+    (λ every. option_and_then
+    (λ beat. Some
+    (watch
+    (record { setup = texts.setup; capture = texts.capture; sizes = sizes; every = every; beat = beat; truncated = is_given texts.truncated })))
+    (number_in 0 (2 ^ 32 - 1) texts.beat)) (number_in 0 (2 ^ 32 - 1) texts.every)) (window_in texts.capacity texts.segments texts.nodes)
 
 -- What the words call for: a command with its options, as clap takes them, each number being in its range. Other words are no
 -- command.
@@ -201,7 +205,14 @@ snapshot_by command =
 
 abbrev pub watch_by : WatchCommand → WatchCall
 watch_by command =
-    record { setup = command.setup.now; capture = command.capture.now; sizes = command.sizes; every = command.every; truncated = command.truncated }
+    record {
+      setup = command.setup.now;
+      capture = command.capture.now;
+      sizes = command.sizes;
+      every = command.every;
+      beat = command.beat;
+      truncated = command.truncated;
+    }
 
 -- the call of a command that was read
 abbrev pub call_by : Command → Call

@@ -71,11 +71,13 @@ abbrev pub windowed_app : App → App
 windowed_app app = with_rule (with_rule (with_rule app (optional (codes "segments") (codes "4"))) (optional (codes "nodes") (codes "65536")))
     (optional (codes "capacity") (codes "65536"))
 
--- `watch`: a setup, the sizes of the window, after how many records live questions are asked, whether the capture is read as truncated,
--- and a capture
+-- `watch`: a setup, the sizes of the window, after how many records live questions are asked and a beat comes, whether the capture is
+-- read as truncated, and a capture
 abbrev pub watch_app : App
 watch_app = with_rule
-    (truncatable_app (with_rule (windowed_app (with_rule (new_app (codes "watch")) (needed (codes "setup")))) (optional (codes "every") (codes "4096"))))
+    (truncatable_app
+    (with_rule (with_rule (windowed_app (with_rule (new_app (codes "watch")) (needed (codes "setup")))) (optional (codes "every") (codes "4096")))
+    (optional (codes "beat") (codes "0"))))
     (place (codes "capture"))
 
 -- the program, whose words begin with a command of their own
@@ -207,25 +209,28 @@ pub record WatchSays : Type 0 where
   pub segments : Text
   pub nodes : Text
   pub every : Text
+  pub beat : Text
   pub truncated : Text
   pub capture : Text
 
 -- these texts as a record, in the order in which they are looked up
-abbrev pub watch_says : Text → Text → Text → Text → Text → Text → Text → WatchSays
-watch_says s n g m e t c = record { setup = s; capacity = n; segments = g; nodes = m; every = e; truncated = t; capture = c }
+abbrev pub watch_says : Text → Text → Text → Text → Text → Text → Text → Text → WatchSays
+watch_says s n g m e b t c = record { setup = s; capacity = n; segments = g; nodes = m; every = e; beat = b; truncated = t; capture = c }
 
 -- what was read of a `watch` command
 abbrev pub watch_says_of : WatchTexts → WatchSays
-watch_says_of r = watch_says r.setup.now r.capacity.now r.segments.now r.nodes.now r.every.now r.truncated.now r.capture.now
+watch_says_of r = watch_says r.setup.now r.capacity.now r.segments.now r.nodes.now r.every.now r.beat.now r.truncated.now r.capture.now
 
 -- what the rows of a `watch` command say
 unfoldable pub watch_texts_of : List Row → Option WatchSays
 watch_texts_of rows =
     option_and_then
     (λ s. option_and_then
-    (λ n. option_and_then (λ g. option_and_then (λ m. option_and_then (λ e. option_and_then (λ t. option_and_then (λ c. Some (watch_says s n g m e t c))
-    (first_of (codes "capture") rows)) (first_of (codes "truncated") rows)) (first_of (codes "every") rows)) (first_of (codes "nodes") rows))
-    (first_of (codes "segments") rows)) (first_of (codes "capacity") rows)) (first_of (codes "setup") rows)
+    (λ n. option_and_then
+    (λ g. option_and_then
+    (λ m. option_and_then (λ e. option_and_then (λ b. option_and_then (λ t. option_and_then (λ c. Some (watch_says s n g m e b t c))
+    (first_of (codes "capture") rows)) (first_of (codes "truncated") rows)) (first_of (codes "beat") rows)) (first_of (codes "every") rows))
+    (first_of (codes "nodes") rows)) (first_of (codes "segments") rows)) (first_of (codes "capacity") rows)) (first_of (codes "setup") rows)
 
 -- what a command line says: the texts of its command
 pub data SaidValue : Type 0 where

@@ -148,6 +148,7 @@ fn watch_command<'a>(alloc: Global) -> Result<Command<'a>, Memory>
     let command = and(command, needed_option(alloc, "setup"))?;
     let command = windowed(alloc, command)?;
     let command = and(command, optional_option(alloc, "every", "4096"))?;
+    let command = and(command, optional_option(alloc, "beat", "0"))?;
     let command = truncatable(alloc, command)?;
     and(command, own_word(alloc, "capture"))
 }
@@ -363,6 +364,7 @@ pub(crate) struct WatchTexts<'a> {
     pub(crate) segments: &'a str,
     pub(crate) nodes: &'a str,
     pub(crate) every: &'a str,
+    pub(crate) beat: &'a str,
     pub(crate) truncated: &'a str,
     pub(crate) capture: &'a str,
 }
@@ -376,6 +378,7 @@ fn watch_texts<'a>(matches: &ArgMatches<'a>) -> Option<WatchTexts<'a>>
     let segments = text_of(matches, "segments")?;
     let nodes = text_of(matches, "nodes")?;
     let every = text_of(matches, "every")?;
+    let beat = text_of(matches, "beat")?;
     let truncated = text_of(matches, "truncated")?;
     let capture = text_of(matches, "capture")?;
     Some(WatchTexts {
@@ -384,6 +387,7 @@ fn watch_texts<'a>(matches: &ArgMatches<'a>) -> Option<WatchTexts<'a>>
         segments,
         nodes,
         every,
+        beat,
         truncated,
         capture,
     })

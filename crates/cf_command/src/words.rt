@@ -97,6 +97,8 @@ pub struct WatchCommand<'a> {
     pub sizes: WindowSizes,
     /// Each live question is asked where so many records came since it was, and never where this is 0.
     pub every: u32,
+    /// After so many records since the last beat a round ends with one; there is none if this is 0.
+    pub beat: u32,
     /// A capture that ends within a record has the records before it.
     pub truncated: bool,
 }
@@ -342,11 +344,15 @@ fn watch_from<'a>(alloc: Global, texts: &WatchTexts<'a>) -> Result<Option<Comman
     let Some(every) = number_between(alloc, texts.every, 0, u64::from(u32::MAX))? else {
         return Ok(None);
     };
+    let Some(beat) = number_between(alloc, texts.beat, 0, u64::from(u32::MAX))? else {
+        return Ok(None);
+    };
     Ok(Some(Command::Watch(WatchCommand {
         setup: texts.setup,
         capture: texts.capture,
         sizes,
         every: every as u32,
+        beat: beat as u32,
         truncated: is_given(texts.truncated),
     })))
 }

@@ -143,6 +143,9 @@ fn words_are_read_by_the_table(rt: HostRuntime) -> Result<(), Fail> {
         ("watch --setup s --capacity 65537 --segments 1 c", None),
         ("watch --setup s --nodes 65537 c", None),
         ("watch --setup s --every 4294967296 c", None),
+        ("watch --setup s --beat 4294967296 c", None),
+        ("watch --setup s --beat c", None),
+        ("run --setup s --beat 1 c", None),
         ("watch --setup s --every 01 c", None),
         ("watch --setup s --writers 1 c", None),
         ("watch --setup s --live 1 c", None),
@@ -177,6 +180,29 @@ fn other_options_and_numbers_are_refused(rt: HostRuntime) -> Result<(), Fail> {
         let words = ["run", "--setup", "s", "c", word];
         let command = command_of(alloc, &words)?;
         assert!(rt; command.is_none(), "{word}");
+    }
+    Ok(())
+}
+
+#[test]
+fn a_watch_beats_as_its_words_say(rt: HostRuntime) -> Result<(), Fail> {
+    let alloc = rt.alloc();
+    let table: [(&[&str], u32); 3] = [
+        (&["watch", "--setup", "s", "c"], 0),
+        (
+            &["watch", "--beat=7", "--setup", "s", "--every", "5", "c"],
+            7,
+        ),
+        (
+            &["watch", "c", "--setup", "s", "--beat", "4294967295"],
+            4_294_967_295,
+        ),
+    ];
+    for (words, beat) in table {
+        match command_of(alloc, words)? {
+            Some(Command::Watch(command)) => assert_eq!(rt; command.beat, beat),
+            _ => assert!(rt; false),
+        }
     }
     Ok(())
 }

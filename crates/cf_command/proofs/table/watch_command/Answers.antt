@@ -5,11 +5,13 @@ use Rattle.cf_command.specs.Table.{windowed_app, truncatable_app}
 use Rattle.cf_command.proofs.table.watch_command.Goals as goal
 
 pub returns-clause-rules : goal.returns-clause-rules
-returns-clause-rules c = IfOk-weaker c.and-3.result _ _ (λ m e. e
-    ∙ ap₂ with_rule (c.in_ok-command-4.ensures.rules
-    ∙ ap truncatable_app (c.in_ok-command-3.ensures.rules
+returns-clause-rules c = IfOk-weaker c.and-4.result _ _ (λ m e. e
+    ∙ ap₂ with_rule (c.in_ok-command-5.ensures.rules
+    ∙ ap truncatable_app (c.in_ok-command-4.ensures.rules
+    ∙ ap₂ with_rule (c.in_ok-command-3.ensures.rules
     ∙ ap₂ with_rule (c.in_ok-command-2.ensures.rules
     ∙ ap windowed_app (c.in_ok-command.ensures.rules
     ∙ ap₂ with_rule c.new-command.ensures.app c.needed_option.ensures.rule))
-    c.optional_option.ensures.rule))
-    c.own_word.ensures.rule) c.and-3.ensures.rules
+    c.optional_option.ensures.rule)
+    c.optional_option-2.ensures.rule))
+    c.own_word.ensures.rule) c.and-4.ensures.rules
