@@ -1,5 +1,5 @@
 -- How far a stream has come.
-use Rattle.std.proofs.Common.{◌≡◌, ◌∙◌, ℕ, ◌+◌, ◌<◌, ◌≤◌, ◌⊎◌, inl, inr, List, [], ◌∷◌, ◌++◌, length, drop, fold, Bool, true, false, nat_lt, All, slice_index_or, if◌then◌else◌, refl, sym, ap, subst, arith, length-append, append-nil, append_assoc}
+use Rattle.std.proofs.Common.{◌≡◌, ◌∙◌, ℕ, ◌+◌, ◌<◌, ◌≤◌, ◌⊎◌, inl, inr, List, [], ◌∷◌, ◌++◌, length, drop, fold, Bool, true, false, ◌||◌, nat_lt, All, slice_index_or, if◌then◌else◌, refl, sym, ap, subst, arith, length-append, append-nil, append_assoc}
 use Rattle.std.proofs.lemmas.Bool.{cases_Bool}
 use Rattle.std.proofs.lemmas.Bool.Decides.{nat_tests}
 use Rattle.std.proofs.lemmas.List.{drop_at, take_all, take-append-le}
@@ -10,7 +10,7 @@ use Rattle.cf_row.specs.Row.{RowValue}
 use Rattle.cf_shape.specs.Lanes.{ShapeValue}
 use Rattle.cf_window.specs.Courses.{IsCourse}
 use Rattle.cf_window.specs.Laws.{IsMoment, IsSeen}
-use Rattle.cf_window.specs.Rounds.{Course, Span, came, span_of, start, was_read, with_round, within}
+use Rattle.cf_window.specs.Rounds.{Course, Span, came, came_by, span_of, start, was_read, with_round, within}
 use Rattle.cf_window.specs.Windows.{after_row, drops, rows_in_all, window}
 use Rattle.cf_window.proofs.Rows.{few_after, rows_dropped, rows_first, rows_kept}
 
@@ -92,25 +92,36 @@ module _ (shape : ShapeValue) (most : ℕ) (rows : List RowValue) (course : Cour
     abbrev rounds_by : Bool → List Span
     rounds_by b = (if b then with_round course else course).rounds
 
-    kept : drops shape most course.segments row ≡ false → IsCourse shape most after (came shape most course row)
-    kept none = record {
+    -- what has come, after a round more or none
+    abbrev then_by : Bool → Course
+    then_by b = record { segments = after_row shape most course.segments row; count = course.count + 1; rounds = rounds_by b }
+
+    moments_by : (b : Bool) → All (IsMoment shape most rows) (rounds_by b)
+    moments_by true = course_round.rounds
+    moments_by false = is.rounds
+
+    seen_by : (b : Bool) (number : ℕ) → number < length rows → (length is.front ≤ number) ⊎ IsSeen (rounds_by b) number
+    seen_by true number low = inr (seen_now number low)
+    seen_by false number low = is.seen number low
+
+    kept : (b : Bool) → drops shape most course.segments row ≡ false → IsCourse shape most after (then_by b)
+    kept b none = record {
       count = count_next;
       segments = segments_next;
       front = is.front;
       ends = ap (λ (rs : List RowValue). rs ++ row ∷ []) is.ends
           ∙ (append_assoc is.front held (row ∷ []) ∙ ap (λ (rs : List RowValue). is.front ++ rs) (sym (rows_kept shape most course.segments row none)));
-      rounds = subst (λ (spans : List Span). All (IsMoment shape most after) spans) (sym (ap rounds_by none)) (rounds_next course.rounds is.rounds);
-      seen = subst (λ (spans : List Span). (number : ℕ) → number < length after → (length is.front ≤ number) ⊎ IsSeen spans number) (sym (ap rounds_by none))
-          (λ number low. elim (Rattle.std.proofs.lemmas.Bool.cases_lt number (length rows)) [
-            | inl old ↦ is.seen number old
-            | inr last ↦ inl (let all = long in let count = is.count in omega (arith, all, count, last))
-          ]);
+      rounds = rounds_next (rounds_by b) (moments_by b);
+      seen = λ number low. elim (Rattle.std.proofs.lemmas.Bool.cases_lt number (length rows)) [
+        | inl old ↦ seen_by b number old
+        | inr last ↦ inl (let all = long in let count = is.count in omega (arith, all, count, last))
+      ];
     }
 
     abbrev first : List RowValue
     first = slice_index_or course.segments 0 []
 
-    dropped : drops shape most course.segments row ≡ true → IsCourse shape most after (came shape most course row)
+    dropped : drops shape most course.segments row ≡ true → IsCourse shape most after (then_by true)
     dropped one = record {
       count = count_next;
       segments = segments_next;
@@ -120,22 +131,27 @@ module _ (shape : ShapeValue) (most : ℕ) (rows : List RowValue) (course : Cour
           ∙ sym (append_assoc is.front first (rows_in_all (drop 1 course.segments)))))
           ∙ (append_assoc (is.front ++ first) (rows_in_all (drop 1 course.segments)) (row ∷ [])
           ∙ ap (λ (rs : List RowValue). (is.front ++ first) ++ rs) (sym (rows_dropped shape most course.segments row one)));
-      rounds = subst (λ (spans : List Span). All (IsMoment shape most after) spans) (sym (ap rounds_by one))
-          (rounds_next (with_round course).rounds course_round.rounds);
-      seen = subst (λ (spans : List Span). (number : ℕ) → number < length after → (length (is.front ++ first) ≤ number) ⊎ IsSeen spans number)
-          (sym (ap rounds_by one)) (λ number low. elim (Rattle.std.proofs.lemmas.Bool.cases_lt number (length rows)) [
-            | inl old ↦ inr (seen_now number old)
-            | inr last ↦ inl
-                (let all = length-append is.front first in let part = count_held in let every = long in let count = is.count in
-                omega (arith, all, part, every, count, last))
-          ]);
+      rounds = rounds_next (with_round course).rounds course_round.rounds;
+      seen = λ number low. elim (Rattle.std.proofs.lemmas.Bool.cases_lt number (length rows)) [
+        | inl old ↦ inr (seen_now number old)
+        | inr last ↦ inl
+            (let all = length-append is.front first in let part = count_held in let every = long in let count = is.count in
+            omega (arith, all, part, every, count, last))
+      ];
     }
       where
         count_held : length held ≡ length first + length (rows_in_all (drop 1 course.segments))
         count_held = ap (λ (rs : List RowValue). length rs) (rows_first course.segments) ∙ length-append first (rows_in_all (drop 1 course.segments))
 
-    pub course_came : IsCourse shape most after (came shape most course row)
-    course_came = elim (cases_Bool (drops shape most course.segments row)) [ inl one ↦ dropped one | inr none ↦ kept none ]
+    or_so : (b c : Bool) → c ≡ true → b || c ≡ true
+    or_so true c is = refl
+    or_so false c is = is
+
+    pub course_came : (is_forced : Bool) → IsCourse shape most after (came shape most is_forced course row)
+    course_came is_forced = elim (cases_Bool (drops shape most course.segments row)) [
+      | inl one ↦ subst (λ (b : Bool). IsCourse shape most after (then_by b)) (sym (or_so is_forced (drops shape most course.segments row) one)) (dropped one)
+      | inr none ↦ kept (is_forced || drops shape most course.segments row) none
+    ]
 
 pub course_start : (shape : ShapeValue) (most : ℕ) → IsCourse shape most [] start
 course_start shape most = record {
@@ -148,36 +164,38 @@ course_start shape most = record {
 }
 
 -- more records come
-pub course_rows : (shape : ShapeValue) (most : ℕ) (rows more : List RowValue) (course : Course) → IsCourse shape most rows course
-    → IsCourse shape most (rows ++ more) (fold (came shape most) course more)
-course_rows shape most rows [] course is = subst (λ (rs : List RowValue). IsCourse shape most rs course) (sym (append-nil rows)) is
-course_rows shape most rows (row ∷ more) course is =
-    subst (λ (rs : List RowValue). IsCourse shape most rs (fold (came shape most) (came shape most course row) more)) (append_assoc rows (row ∷ []) more)
-    (course_rows shape most (rows ++ row ∷ []) more (came shape most course row) (course_came shape most rows course is row))
+pub course_rows : (shape : ShapeValue) (most : ℕ) (forced : ℕ → Bool) (rows more : List RowValue) (course : Course) → IsCourse shape most rows course
+    → IsCourse shape most (rows ++ more) (fold (came_by shape most forced) course more)
+course_rows shape most forced rows [] course is = subst (λ (rs : List RowValue). IsCourse shape most rs course) (sym (append-nil rows)) is
+course_rows shape most forced rows (row ∷ more) course is =
+    let next : Course = came_by shape most forced course row in
+    subst (λ (rs : List RowValue). IsCourse shape most rs (fold (came_by shape most forced) next more)) (append_assoc rows (row ∷ []) more)
+    (course_rows shape most forced (rows ++ row ∷ []) more next (course_came shape most rows course is row (forced course.count)))
 
-some_rows : (row : RowValue) (rows : List RowValue) → nat_lt 0 (length (row ∷ rows)) ≡ true
+pub some_rows : (row : RowValue) (rows : List RowValue) → nat_lt 0 (length (row ∷ rows)) ≡ true
 some_rows row rows = grind (arith, nat_tests)
 
 -- a read has ended some
-pub course_read : (shape : ShapeValue) (most : ℕ) (rows read : List RowValue) (course : Course) → IsCourse shape most rows course
-    → IsCourse shape most (rows ++ read) (was_read shape most course read)
-course_read shape most rows [] course is = subst (λ (rs : List RowValue). IsCourse shape most rs course) (sym (append-nil rows)) is
-course_read shape most rows (row ∷ read) course is =
-    let after : Course = fold (came shape most) course (row ∷ read) in
+pub course_read : (shape : ShapeValue) (most : ℕ) (forced : ℕ → Bool) (rows read : List RowValue) (course : Course) → IsCourse shape most rows course
+    → IsCourse shape most (rows ++ read) (was_read shape most forced course read)
+course_read shape most forced rows [] course is = subst (λ (rs : List RowValue). IsCourse shape most rs course) (sym (append-nil rows)) is
+course_read shape most forced rows (row ∷ read) course is =
+    let after : Course = fold (came_by shape most forced) course (row ∷ read) in
     subst (λ (b : Bool). IsCourse shape most (rows ++ row ∷ read) (if b then with_round after else course)) (sym (some_rows row read))
-    (course_round shape most (rows ++ row ∷ read) after (course_rows shape most rows (row ∷ read) course is))
+    (course_round shape most (rows ++ row ∷ read) after (course_rows shape most forced rows (row ∷ read) course is))
 
-pub course_reads : (shape : ShapeValue) (most : ℕ) (rows : List RowValue) (reads : List (List RowValue)) (course : Course) → IsCourse shape most rows course
-    → IsCourse shape most (rows ++ rows_in_all reads) (fold (was_read shape most) course reads)
-course_reads shape most rows [] course is = subst (λ (rs : List RowValue). IsCourse shape most rs course) (sym (append-nil rows)) is
-course_reads shape most rows (read ∷ reads) course is =
-    subst (λ (rs : List RowValue). IsCourse shape most rs (fold (was_read shape most) (was_read shape most course read) reads))
+pub course_reads : (shape : ShapeValue) (most : ℕ) (forced : ℕ → Bool) (rows : List RowValue) (reads : List (List RowValue)) (course : Course)
+    → IsCourse shape most rows course → IsCourse shape most (rows ++ rows_in_all reads) (fold (was_read shape most forced) course reads)
+course_reads shape most forced rows [] course is = subst (λ (rs : List RowValue). IsCourse shape most rs course) (sym (append-nil rows)) is
+course_reads shape most forced rows (read ∷ reads) course is =
+    let next : Course = was_read shape most forced course read in
+    subst (λ (rs : List RowValue). IsCourse shape most rs (fold (was_read shape most forced) next reads))
     (append_assoc rows read (rows_in_all reads))
-    (course_reads shape most (rows ++ read) reads (was_read shape most course read) (course_read shape most rows read course is))
+    (course_reads shape most forced (rows ++ read) reads next (course_read shape most forced rows read course is))
 
-pub course_all : (shape : ShapeValue) (most : ℕ) (reads : List (List RowValue))
-    → IsCourse shape most (rows_in_all reads) (fold (was_read shape most) start reads)
-course_all shape most reads = course_reads shape most [] reads start (course_start shape most)
+pub course_all : (shape : ShapeValue) (most : ℕ) (forced : ℕ → Bool) (reads : List (List RowValue))
+    → IsCourse shape most (rows_in_all reads) (fold (was_read shape most forced) start reads)
+course_all shape most forced reads = course_reads shape most forced [] reads start (course_start shape most)
 
 few_from : (shape : ShapeValue) (most : ℕ) (xs : List (List RowValue)) (rows : List RowValue) → 0 < most → length xs ≤ most
     → length (fold (after_row shape most) xs rows) ≤ most

@@ -38,19 +38,19 @@ pub record IsWindow (shape : ShapeValue) (most : ℕ) (segments : List WindowSeg
 -- What a push did with a row: it has come; or nothing has come, since as many have come as are counted, since the oldest segment has to
 -- be dropped for it first, or since it needs more nodes than an empty segment has.
 abbrev pub HasPushed : WindowValue → RowValue → WindowValue → Pushed → Type 0
-HasPushed old row new Full = (count_of old ≡ 2 ^ 32 - 1) × (new ≡ old)
+HasPushed old row new Full = (count_of old ≡ 2 ^ 64 - 1) × (new ≡ old)
 HasPushed old row new Gone =
-    (count_of old < 2 ^ 32 - 1)
+    (count_of old < 2 ^ 64 - 1)
     × (drops old.shape old.most old.segments row ≡ false)
     × (new ≡ record old { segments = after_row old.shape old.most old.segments row; is_spent = false })
     × (is_refused old.shape old.segments row ≡ false)
 HasPushed old row new NeedsDrop =
-    (count_of old < 2 ^ 32 - 1)
+    (count_of old < 2 ^ 64 - 1)
     × (drops old.shape old.most old.segments row ≡ true)
     × (is_small old.shape row ≡ true)
     × (new ≡ record old { is_spent = true })
 HasPushed old row new NoNodes =
-    (count_of old < 2 ^ 32 - 1)
+    (count_of old < 2 ^ 64 - 1)
     × (goes_in old.shape old.segments row ≡ false)
     × (is_small old.shape row ≡ false)
     × (new ≡ record old { is_spent = true })

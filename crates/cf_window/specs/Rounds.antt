@@ -1,5 +1,5 @@
 -- The rounds of a stream: on which records each was made.
-use Rattle.std.specs.Prelude.{ℕ, ◌+◌, ◌-◌, nat_lt, List, [], ◌∷◌, ◌++◌, length, take, drop, fold, if◌then◌else◌}
+use Rattle.std.specs.Prelude.{ℕ, ◌+◌, ◌-◌, Bool, ◌||◌, nat_lt, List, [], ◌∷◌, ◌++◌, length, take, drop, fold, if◌then◌else◌}
 use Rattle.cf_row.specs.Row.{RowValue}
 use Rattle.cf_shape.specs.Lanes.{ShapeValue}
 use Rattle.cf_window.specs.Windows.{drops, after_row, rows_in_all}
@@ -28,22 +28,26 @@ span_of course = record { from = course.count - length (rows_in_all course.segme
 abbrev pub with_round : Course → Course
 with_round course = record course { rounds = course.rounds ++ span_of course ∷ [] }
 
--- a record comes: where a segment has to be dropped for it, a round comes first
-abbrev pub came : ShapeValue → ℕ → Course → RowValue → Course
-came shape most course row = record {
+-- a record comes: if a round is forced before it, or a segment has to be dropped for it, a round comes first
+abbrev pub came : ShapeValue → ℕ → Bool → Course → RowValue → Course
+came shape most is_forced course row = record {
   segments = after_row shape most course.segments row;
   count = course.count + 1;
-  rounds = (if drops shape most course.segments row then with_round course else course).rounds;
+  rounds = (if is_forced || drops shape most course.segments row then with_round course else course).rounds;
 }
 
+-- the same where rounds are forced before the records of some numbers
+abbrev pub came_by : ShapeValue → ℕ → (ℕ → Bool) → Course → RowValue → Course
+came_by shape most forced course row = came shape most (forced course.count) course row
+
 -- a read that ended these records: where there is one, a round comes after the last
-abbrev pub was_read : ShapeValue → ℕ → Course → List RowValue → Course
-was_read shape most course rows = if nat_lt 0 (length rows) then with_round (fold (came shape most) course rows) else course
+abbrev pub was_read : ShapeValue → ℕ → (ℕ → Bool) → Course → List RowValue → Course
+was_read shape most forced course rows = if nat_lt 0 (length rows) then with_round (fold (came_by shape most forced) course rows) else course
 
 -- how far a stream has come after these reads, each of which ended such records
-abbrev pub after_reads : ShapeValue → ℕ → List (List RowValue) → Course
-after_reads shape most reads = fold (was_read shape most) start reads
+abbrev pub after_reads : ShapeValue → ℕ → (ℕ → Bool) → List (List RowValue) → Course
+after_reads shape most forced reads = fold (was_read shape most forced) start reads
 
 -- the spans of all rounds, the last being that of the end
-abbrev pub rounds_of : ShapeValue → ℕ → List (List RowValue) → List Span
-rounds_of shape most reads = (with_round (after_reads shape most reads)).rounds
+abbrev pub rounds_of : ShapeValue → ℕ → (ℕ → Bool) → List (List RowValue) → List Span
+rounds_of shape most forced reads = (with_round (after_reads shape most forced reads)).rounds

@@ -112,11 +112,11 @@ fn firsts<R: Abort + Threads>(
     alloc: Global,
     sizes: Sizes,
     keys: &[u64],
-) -> Result<Vec<u32>, Memory> {
+) -> Result<Vec<u64>, Memory> {
     let mut firsts = Vec::new(alloc);
     let mut open = window(rt, alloc, sizes, false)?;
     for key in keys {
-        let row = row(alloc, open.window.count(), *key, 1)?;
+        let row = row(alloc, 0, *key, 1)?;
         open = match put(rt, alloc, open, &row)? {
             Some(open) => open,
             None => return Ok(firsts),
@@ -172,9 +172,9 @@ fn the_oldest_segment_makes_room(rt: HostRuntime) -> Result<(), Fail> {
 #[derive(Clone, Copy, Drop)]
 struct Prepared {
     sizes: Sizes,
-    before: &'static [u32],
+    before: &'static [u64],
     // after each row the number of the window's first one, and whether there is a segment for the next
-    wanted: &'static [(u32, bool)],
+    wanted: &'static [(u64, bool)],
 }
 
 // What a case finds after each row.
@@ -182,7 +182,7 @@ fn come<R: Abort + Threads>(
     rt: &R,
     alloc: Global,
     case: &Prepared,
-) -> Result<Vec<(u32, bool)>, Memory> {
+) -> Result<Vec<(u64, bool)>, Memory> {
     let mut found = Vec::new(alloc);
     let mut open = window(rt, alloc, case.sizes, false)?;
     for _ in case.wanted {
@@ -190,7 +190,7 @@ fn come<R: Abort + Threads>(
         if case.before.contains(&num) {
             open = begin_next(rt, alloc, open);
         }
-        let row = row(alloc, num, 1, 1)?;
+        let row = row(alloc, 0, 1, 1)?;
         open = put(rt, alloc, open, &row)?.expect(rt, "nodes");
         found.push((open.window.from(), open.window.is_prepared()))?;
     }
@@ -298,7 +298,7 @@ fn marks_in(body: &Body) -> &[Fired] {
 #[derive(Clone, Copy, Drop)]
 struct Case {
     most: u32,
-    from: u32,
+    from: u64,
     twos: &'static [u32],
     count: u64,
     sum: u64,

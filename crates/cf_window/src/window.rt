@@ -39,8 +39,8 @@ pub struct Window {
     shape: Shape,
     most: u32,
     // how many rows were dropped, and how many have come
-    from: u32,
-    count: u32,
+    from: u64,
+    count: u64,
     segments: Vec<WindowSegment>,
     // whether the last segment has refused a row
     is_spent: bool,
@@ -108,17 +108,25 @@ impl Window {
     }
 
     /// How many rows were dropped, which is the number of its first row.
-    pub fn from(&self) -> u32
+    pub fn from(&self) -> u64
         ensures { result ≡ self.now.from }
     {
         self.from
     }
 
     /// How many rows have come, with those that were dropped.
-    pub fn count(&self) -> u32
+    pub fn count(&self) -> u64
         ensures { result ≡ count_of self.now }
     {
         self.count
+    }
+
+    /// How many segments there are, each of which has rows: no more than there may be.
+    pub fn segment_count(&self) -> usize
+        ensures is { result ≡ length self.now.segments }
+        ensures few { result ≤ self.now.most }
+    {
+        self.segments.len()
     }
 
     /// Begins to open the segment that comes next, in a thread of its own, unless that has begun. Nothing is begun if a segment's table is
@@ -146,7 +154,7 @@ impl Window {
 
     // The row comes in the last segment, where there is one that takes it.
     fn go_in(&mut self, row: &Row) -> bool
-        requires room { count_of self.old < 2 ^ 32 - 1 }
+        requires room { count_of self.old < 2 ^ 64 - 1 }
         requires fits { Fits self.old.shape.schema row.now }
         requires spent { self.old.is_spent ≡ true → goes_in self.old.shape self.old.segments row.now ≡ false }
         ensures answer { result ≡ goes_in self.old.shape self.old.segments row.now }
@@ -169,7 +177,7 @@ impl Window {
         requires fits { Fits self.old.shape.schema row.now }
         requires small { length (nodes_for self.old.shape row.now) ≤ self.old.shape.nodes }
         requires room { length self.old.segments < self.old.most }
-        requires few { count_of self.old < 2 ^ 32 - 1 }
+        requires few { count_of self.old < 2 ^ 64 - 1 }
         ensures opened { OnOk result (self.new ≡ record self.old { segments = self.old.segments ++ (row.now ∷ []) ∷ []; is_spent = false }) }
         ensures stays { OnErr result (self.new ≡ self.old) }
     {
@@ -190,7 +198,7 @@ impl Window {
         requires spent { self.old.is_spent ≡ true → goes_in self.old.shape self.old.segments row.now ≡ false }
         ensures answer { MatchResult result (HasPushed self.old row.now self.new) (λ _. self.new ≡ record self.old { is_spent = true }) }
     {
-        if self.count == u32::MAX {
+        if self.count == u64::MAX {
             return Ok(Pushed::Full);
         }
         if self.go_in(row) {
@@ -214,7 +222,7 @@ impl Window {
         ensures comes { (row : RowValue) → drops self.old.shape self.old.most self.old.segments row ≡ true → ComesThen self.old row self.new }
     {
         let mut oldest = self.segments.remove(0);
-        self.from += oldest.count();
+        self.from += u64::from(oldest.count());
     }
 
     /// The oldest segment is dropped, and then the row comes, for which a push has told that it needs that. If memory runs out, the
@@ -226,7 +234,7 @@ impl Window {
         row: &Row,
     ) -> Result<(), Memory>
         requires fits { Fits self.old.shape.schema row.now }
-        requires room { count_of self.old < 2 ^ 32 - 1 }
+        requires room { count_of self.old < 2 ^ 64 - 1 }
         requires needed { drops self.old.shape self.old.most self.old.segments row.now ≡ true }
         requires small { is_small self.old.shape row.now ≡ true }
         ensures same { (self.new.shape ≡ self.old.shape) × (self.new.most ≡ self.old.most) }

@@ -5,4 +5,5 @@ use Rattle.cf_window.proofs.Courses.{course_all, course_round}
 use Rattle.cf_window.proofs.laws.rounds_are_on_windows.Goals as goal
 
 pub returns : goal.returns
-returns c = λ shape most reads. (course_round shape most (rows_in_all reads) (fold (was_read shape most) start reads) (course_all shape most reads)).rounds
+returns c = λ shape most forced reads. (course_round shape most (rows_in_all reads) (fold (was_read shape most forced) start reads)
+    (course_all shape most forced reads)).rounds

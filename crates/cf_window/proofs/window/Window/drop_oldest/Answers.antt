@@ -22,7 +22,7 @@ returns-clause-comes c row out =
     (record {
       shape = inside.shape;
       most = inside.most;
-      from = inside.from + c.count.result;
+      from = inside.from + c.from.result;
       segments = rows_each c.remove-oldest.new.self.items;
       is_spent = inside.is_spent;
     }) (rows_each inside.segments.items) row
