@@ -1,6 +1,6 @@
-pub mod Numbers
+pub mod Keeping
 pub mod Suited
-pub mod Again
+pub mod Told
+pub mod Moving
+pub mod Making
 pub mod Onward
-pub mod Lined
-pub mod Taking

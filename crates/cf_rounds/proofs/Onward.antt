@@ -1,128 +1,131 @@
--- How rounds go on as records come.
-use Rattle.std.proofs.Common.{◌≡◌, ◌∙◌, ℕ, ◌+◌, ◌-◌, ◌<◌, ◌≤◌, List, [], ◌∷◌, ◌++◌, length, drop, fold, Bool, true, false, if◌then◌else◌, slice_index_or, refl, sym, ap, ap₂, subst, arith, length-append}
-use Rattle.std.specs.List.{AllByRecursion}
-use Rattle.std.proofs.lemmas.List.{take-append-le}
-use Rattle.std.proofs.lemmas.List.Elements.{All-weaker, recursion_from_All}
-use Rattle.std.proofs.lemmas.List.Sums.{fold_push}
+-- How streams go on as records come and rounds are made.
+use Rattle.std.proofs.Common.{◌≡◌, ◌∙◌, ℕ, ◌+◌, ◌<◌, ◌≤◌, List, [], ◌∷◌, ◌++◌, length, fold, Bool, true, false, ◌||◌, if◌then◌else◌, nat_lt, refl, sym, ap, subst, inl, inr, append-nil, append_assoc}
+use Rattle.std.proofs.lemmas.Bool.{cases_Bool}
 use Rattle.cf_row.specs.Row.{RowValue}
-use Rattle.cf_setup.specs.Setups.{SetupValue}
-use Rattle.cf_shape.specs.Lanes.{ShapeValue}
 use Rattle.cf_window.specs.Courses.{IsCourse}
-use Rattle.cf_window.specs.Held.{WindowValue, count_of, replaced}
-use Rattle.cf_window.specs.Laws.{IsMoment}
-use Rattle.cf_window.specs.Rounds.{Course, Span, came, span_of, with_round}
+use Rattle.cf_window.specs.Rounds.{Course, Span, came}
 use Rattle.cf_window.specs.Windows.{after_row, drops, rows_in_all}
-use Rattle.cf_window.proofs.Courses.{course_came, course_round, held_now}
-use Rattle.cf_window.proofs.Rows.{count_first, rows_dropped, rows_first, rows_kept}
-use Rattle.cf_rounds.specs.Held.{AreNumbered, IsAt, RoundsValue, after_round, said_in, text_in, view_in}
-use Rattle.cf_rounds.specs.Lines.{Said, WindowView, end_text, nothing_said, with_view}
-use Rattle.cf_rounds.specs.Texts.{said_on, view_of, with_span}
-use Rattle.cf_rounds.proofs.Numbers.{numbered_behind, numbered_more}
+use Rattle.cf_window.proofs.Courses.{course_came, course_round, course_start}
+use Rattle.cf_rounds.specs.Held.{IsAt, RoundsValue}
+use Rattle.cf_rounds.specs.Streams.{Standing, Stream, Terms, after_record, after_reads, after_round, begun, comes, course_of, forces, ready_for, round_text, through, was_read, with_round}
 
--- What rounds say stays as more records come.
-module _ (shape : ShapeValue) (setup : SetupValue) (every : ℕ) (rows more : List RowValue) where
-  said_still : (said : Said) (spans : List Span) → AllByRecursion (λ span. span.to ≤ length rows) spans
-      → fold (with_span shape setup every (rows ++ more)) said spans ≡ fold (with_span shape setup every rows) said spans
-  said_still said [] low = refl
-  said_still said (span ∷ spans) low =
-      ap (λ (taken : List RowValue). fold (with_span shape setup every (rows ++ more))
-      (with_view shape setup every said (record { from = span.from; to = span.to; rows = drop span.from taken })) spans)
-      (take-append-le span.to rows more low.0)
-      ∙ said_still (with_span shape setup every rows said span) spans low.1
+-- the record comes, whatever was made before it
+abbrev pub put : Terms → Stream → RowValue → Stream
+put terms ready row = record { now = after_record terms ready.now row; rounds = ready.rounds; text = ready.text }
 
-  pub said_more : (spans : List Span) (most : ℕ) → Rattle.std.proofs.Common.All (IsMoment shape most rows) spans
-      → said_on shape setup every (rows ++ more) spans ≡ said_on shape setup every rows spans
-  said_more spans most moments =
-      said_still nothing_said spans
-      (recursion_from_All (λ span. span.to ≤ length rows) spans
-      (All-weaker (IsMoment shape most rows) (λ (span : Span). span.to ≤ length rows)
-      (λ (span : Span) (is : IsMoment shape most rows span). is.come) spans moments))
+abbrev ready_by : Terms → Stream → Bool → Stream
+ready_by terms stream b = if b then with_round terms false stream else stream
 
-view_same : (a b : WindowView) → a.from ≡ b.from → a.to ≡ b.to → a.rows ≡ b.rows → a ≡ b
-view_same a b from to rows =
-    ap₂ (λ (f : ℕ) (v : WindowView). record v { from = f }) from (ap₂ (λ (t : ℕ) (rs : List RowValue). record { from = b.from; to = t; rows = rs }) to rows)
+pub comes_forced : (terms : Terms) (stream : Stream) (row : RowValue) → forces terms stream.now row ≡ true
+    → comes terms stream row ≡ put terms (with_round terms false stream) row
+comes_forced terms stream row is = ap (λ (b : Bool). put terms (ready_by terms stream b) row) is
 
-module _ (rounds : RoundsValue) (rows : List RowValue) (course : Course) (text : List ℕ) (is : IsAt rounds rows course text) where
-  abbrev shape : ShapeValue
-  shape = (rounds.window).shape
+pub comes_unforced : (terms : Terms) (stream : Stream) (row : RowValue) → forces terms stream.now row ≡ false → comes terms stream row ≡ put terms stream row
+comes_unforced terms stream row isnt = ap (λ (b : Bool). put terms (ready_by terms stream b) row) isnt
 
-  abbrev most : ℕ
-  most = (rounds.window).most
+or_none : (a b : Bool) → a || b ≡ false → a ≡ false
+or_none true b is = absurd (cc is)
+or_none false b is = refl
 
-  -- the span of the course is that of the window
-  pub view_is : view_of rows (span_of course) ≡ view_in rounds.window
-  view_is =
-      let count = is.count in
-      let held = ap (λ (xs : List (List RowValue)). length (rows_in_all xs)) is.segments in
-      view_same (view_of rows (span_of course)) (view_in rounds.window) (omega (arith, count, held)) (sym count)
-      (held_now shape most rows course is.come ∙ ap rows_in_all (sym is.segments))
+-- Its window and its rounds go as those of a course.
+module _ (terms : Terms) (rows : List RowValue) (stream : Stream) (is : IsCourse terms.shape terms.most rows (course_of stream)) where
+  pub course_made : (is_last : Bool) → IsCourse terms.shape terms.most rows (course_of (with_round terms is_last stream))
+  course_made is_last = course_round terms.shape terms.most rows (course_of stream) is
 
-  pub said_round : said_on shape rounds.setup rounds.every rows (with_round course).rounds ≡ said_in (after_round rounds) (text ++ text_in rounds)
-  said_round =
-      fold_push (with_span shape rounds.setup rounds.every rows) nothing_said course.rounds (span_of course)
-      ∙ ap₂ (λ (said : Said) (view : WindowView). with_view shape rounds.setup rounds.every said view) is.said view_is
-
-  pub at_round : IsAt (after_round rounds) rows (with_round course) (text ++ text_in rounds)
-  at_round = record {
-    come = course_round shape most rows course is.come;
-    segments = is.segments;
-    count = is.count;
-    said = said_round;
+  abbrev by_drop : RowValue → Bool → Course
+  by_drop row b = record {
+    segments = after_row terms.shape terms.most (stream.now).segments row;
+    count = (stream.now).count + 1;
+    rounds = (if b then Rattle.cf_window.specs.Rounds.with_round (course_of stream) else course_of stream).rounds;
   }
 
-  pub ends : (said_on shape rounds.setup rounds.every rows (with_round course).rounds).text ++ end_text shape rounds.setup (view_of rows (span_of course))
-      ≡ (text ++ text_in rounds) ++ end_text shape rounds.setup (view_in rounds.window)
-  ends = ap₂ (λ (said : Said) (view : WindowView). said.text ++ end_text shape rounds.setup view) said_round view_is
+  pub course_comes : (row : RowValue) → IsCourse terms.shape terms.most (rows ++ row ∷ []) (course_of (comes terms stream row))
+  course_comes row = elim (cases_Bool (forces terms stream.now row)) [
+    | inl forced ↦ subst (λ (s : Stream). IsCourse terms.shape terms.most (rows ++ row ∷ []) (course_of s)) (sym (comes_forced terms stream row forced))
+        (course_came terms.shape terms.most rows (course_of stream) is row true)
+    | inr free ↦ subst (λ (s : Stream). IsCourse terms.shape terms.most (rows ++ row ∷ []) (course_of s)) (sym (comes_unforced terms stream row free))
+        (subst (λ (b : Bool). IsCourse terms.shape terms.most (rows ++ row ∷ []) (by_drop row b)) (or_none (drops terms.shape terms.most (stream.now).segments row) _ free)
+        (course_came terms.shape terms.most rows (course_of stream) is row false))
+  ]
 
-  -- a record comes, and the window is as it has to be then
-  pub at_came : (row : RowValue) (before : Course) (window : WindowValue) → window.shape ≡ shape → window.most ≡ most → IsCourse shape most rows before
-      → before.segments ≡ course.segments → before.count ≡ course.count
-      → (came shape most before row).rounds ≡ course.rounds → window.segments ≡ after_row shape most (rounds.window).segments row
-      → count_of window ≡ count_of rounds.window + 1
-      → IsAt (record rounds { window = window }) (rows ++ row ∷ []) (came shape most before row) text
-  at_came row before window shape_is most_is from same_segments same_count same_rounds segments count = record {
-    come = subst (λ (n : ℕ). IsCourse window.shape n (rows ++ row ∷ []) (came shape most before row)) (sym most_is)
-        (subst (λ (s : ShapeValue). IsCourse s most (rows ++ row ∷ []) (came shape most before row)) (sym shape_is)
-        (course_came shape most rows before from row));
-    segments = segments ∙ ap (λ (xs : List (List RowValue)). after_row shape most xs row) (is.segments ∙ sym same_segments);
-    count = count ∙ ap (λ (n : ℕ). n + 1) (is.count ∙ sym same_count);
-    said =
-        ap₂ (λ (s : ShapeValue) (spans : List Span). said_on s rounds.setup rounds.every (rows ++ row ∷ []) spans) shape_is same_rounds
-        ∙ (said_more shape rounds.setup rounds.every rows (row ∷ []) course.rounds most (is.come).rounds ∙ is.said);
+pub course_through : (terms : Terms) (rows more : List RowValue) (stream : Stream) → IsCourse terms.shape terms.most rows (course_of stream)
+    → IsCourse terms.shape terms.most (rows ++ more) (course_of (through terms stream more))
+course_through terms rows [] stream is = subst (λ (rs : List RowValue). IsCourse terms.shape terms.most rs (course_of stream)) (sym (append-nil rows)) is
+course_through terms rows (row ∷ more) stream is =
+    subst (λ (rs : List RowValue). IsCourse terms.shape terms.most rs (course_of (through terms (comes terms stream row) more))) (append_assoc rows (row ∷ []) more)
+    (course_through terms (rows ++ row ∷ []) more (comes terms stream row) (course_comes terms rows stream is row))
+
+course_read : (terms : Terms) (rows read : List RowValue) (stream : Stream) → IsCourse terms.shape terms.most rows (course_of stream)
+    → IsCourse terms.shape terms.most (rows ++ read) (course_of (was_read terms stream read))
+course_read terms rows read stream is = by_some (nat_lt 0 (length read)) refl
+  where
+    nothing : (xs : List RowValue) → nat_lt 0 (length xs) ≡ false → xs ≡ []
+    nothing [] none = refl
+    nothing (x ∷ xs) none = absurd (cc (sym (Rattle.cf_window.proofs.Courses.some_rows x xs) ∙ none))
+
+    by_some : (b : Bool) → nat_lt 0 (length read) ≡ b
+        → IsCourse terms.shape terms.most (rows ++ read) (course_of (if b then with_round terms false (through terms stream read) else stream))
+    by_some true some = course_made terms (rows ++ read) (through terms stream read) (course_through terms rows read stream is) false
+    by_some false none =
+        subst (λ (rs : List RowValue). IsCourse terms.shape terms.most rs (course_of stream))
+        (sym (ap (λ (rs : List RowValue). rows ++ rs) (nothing read none) ∙ append-nil rows)) is
+
+course_reads : (terms : Terms) (rows : List RowValue) (reads : List (List RowValue)) (stream : Stream) → IsCourse terms.shape terms.most rows (course_of stream)
+    → IsCourse terms.shape terms.most (rows ++ rows_in_all reads) (course_of (fold (was_read terms) stream reads))
+course_reads terms rows [] stream is = subst (λ (rs : List RowValue). IsCourse terms.shape terms.most rs (course_of stream)) (sym (append-nil rows)) is
+course_reads terms rows (read ∷ reads) stream is =
+    subst (λ (rs : List RowValue). IsCourse terms.shape terms.most rs (course_of (fold (was_read terms) (was_read terms stream read) reads)))
+    (append_assoc rows read (rows_in_all reads))
+    (course_reads terms (rows ++ read) reads (was_read terms stream read) (course_read terms rows read stream is))
+
+pub course_all : (terms : Terms) (reads : List (List RowValue)) → IsCourse terms.shape terms.most (rows_in_all reads) (course_of (after_reads terms reads))
+course_all terms reads = course_reads terms [] reads (begun terms) (course_start terms.shape terms.most)
+
+-- Rounds are there with the stream.
+module _ (old : RoundsValue) (rows : List RowValue) (stream : Stream) (is : IsAt old rows stream) where
+  pub at_round : (is_last : Bool) → IsAt (record old { now = after_round old.terms is_last old.now }) rows (with_round old.terms is_last stream)
+  at_round is_last = record {
+    come = course_made old.terms rows stream is.come is_last;
+    stands = ap (after_round old.terms is_last) is.stands;
   }
 
--- The count of a window after a row.
-pub count_kept : (window : WindowValue) (row : RowValue) (is_spent : Bool) → drops window.shape window.most window.segments row ≡ false
-    → count_of (record window { segments = after_row window.shape window.most window.segments row; is_spent = is_spent }) ≡ count_of window + 1
-count_kept window row is_spent none =
-    let rows = ap (λ (rs : List RowValue). length rs) (rows_kept window.shape window.most window.segments row none)
-    ∙ length-append (rows_in_all window.segments) (row ∷ []) in
-    omega (arith, rows)
+  pub round_says : (is_last : Bool) → (with_round old.terms is_last stream).text ≡ stream.text ++ round_text old.terms is_last old.now
+  round_says is_last = ap (λ (now : Standing). stream.text ++ round_text old.terms is_last now) (sym is.stands)
 
-pub count_replaced : (window : WindowValue) (row : RowValue) → drops window.shape window.most window.segments row ≡ true
-    → count_of (replaced window row) ≡ count_of window + 1
-count_replaced window row one =
-    let rows = ap (λ (rs : List RowValue). length rs) (rows_dropped window.shape window.most window.segments row one)
-    ∙ length-append (rows_in_all (drop 1 window.segments)) (row ∷ []) in
-    let all = count_first window.segments in
-    omega (arith, rows, all)
+  module _ (row : RowValue) where
+    pub at_free : forces old.terms old.now row ≡ false
+        → IsAt (record old { now = after_record old.terms old.now row; is_spent = false }) (rows ++ row ∷ []) (comes old.terms stream row)
+    at_free free = record {
+      come = course_comes old.terms rows stream is.come row;
+      stands = ap (λ (now : Standing). after_record old.terms now row) is.stands
+          ∙ sym (ap (λ (s : Stream). s.now) (comes_unforced old.terms stream row (ap (λ (now : Standing). forces old.terms now row) (sym is.stands) ∙ free)));
+    }
 
--- Its rows are numbered then.
-pub numbered_kept : (window : WindowValue) (row : RowValue) → drops window.shape window.most window.segments row ≡ false
-    → AreNumbered window.from (rows_in_all window.segments) → row.num ≡ count_of window
-    → AreNumbered window.from (rows_in_all (after_row window.shape window.most window.segments row))
-numbered_kept window row none numbered number =
-    subst (AreNumbered window.from) (sym (rows_kept window.shape window.most window.segments row none))
-    (numbered_more window.from (rows_in_all window.segments) row numbered number)
+    pub free_says : forces old.terms old.now row ≡ false → (comes old.terms stream row).text ≡ stream.text
+    free_says free =
+        ap (λ (s : Stream). s.text) (comes_unforced old.terms stream row (ap (λ (now : Standing). forces old.terms now row) (sym is.stands) ∙ free))
 
-pub numbered_replaced : (window : WindowValue) (row : RowValue) → drops window.shape window.most window.segments row ≡ true
-    → AreNumbered window.from (rows_in_all window.segments) → row.num ≡ count_of window
-    → AreNumbered (replaced window row).from (rows_in_all (replaced window row).segments)
-numbered_replaced window row one numbered number =
-    let first = slice_index_or window.segments 0 [] in
-    let rest = rows_in_all (drop 1 window.segments) in
-    let all = count_first window.segments in
-    subst (AreNumbered (window.from + length first)) (sym (rows_dropped window.shape window.most window.segments row one))
-    (numbered_more (window.from + length first) rest row
-    (numbered_behind window.from first rest (subst (AreNumbered window.from) (rows_first window.segments) numbered))
-    (number ∙ (omega (arith, all))))
+    pub at_forced : forces old.terms old.now row ≡ true
+        → IsAt (record old { now = after_record old.terms (after_round old.terms false old.now) row; is_spent = false }) (rows ++ row ∷ []) (comes old.terms stream row)
+    at_forced forced = record {
+      come = course_comes old.terms rows stream is.come row;
+      stands = ap (λ (now : Standing). after_record old.terms (after_round old.terms false now) row) is.stands
+          ∙ sym (ap (λ (s : Stream). s.now) (comes_forced old.terms stream row (ap (λ (now : Standing). forces old.terms now row) (sym is.stands) ∙ forced)));
+    }
+
+    pub forced_says : forces old.terms old.now row ≡ true → (comes old.terms stream row).text ≡ (with_round old.terms false stream).text
+    forced_says forced =
+        ap (λ (s : Stream). s.text) (comes_forced old.terms stream row (ap (λ (now : Standing). forces old.terms now row) (sym is.stands) ∙ forced))
+
+-- The window's segments go with the records, whatever rounds are made.
+ready_segments : (terms : Terms) (stream : Stream) (b : Bool) → ((ready_by terms stream b).now).segments ≡ (stream.now).segments
+ready_segments terms stream true = refl
+ready_segments terms stream false = refl
+
+pub segments_through : (terms : Terms) (stream : Stream) (rows : List RowValue)
+    → ((through terms stream rows).now).segments ≡ fold (after_row terms.shape terms.most) (stream.now).segments rows
+segments_through terms stream [] = refl
+segments_through terms stream (row ∷ rows) =
+    segments_through terms (comes terms stream row) rows
+    ∙ ap (λ (ss : List (List RowValue)). fold (after_row terms.shape terms.most) (after_row terms.shape terms.most ss row) rows)
+    (ready_segments terms stream (forces terms stream.now row))

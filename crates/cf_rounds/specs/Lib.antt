@@ -1,4 +1,5 @@
+pub mod Lanes
 pub mod Lines
-pub mod Texts
+pub mod Streams
 pub mod Held
 pub mod Laws

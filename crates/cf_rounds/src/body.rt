@@ -1,60 +1,44 @@
-// What a question found in a window's records, which are shown by their numbers.
-ghost use Rattle.std.specs.Prelude.{◌≡◌, ◌+◌, ◌-◌, ◌<◌, ◌^◌, ◌++◌, All, map, OnOk, IfOk, string_bytes};
-ghost use Rattle.cf_fold.specs.Sort.{sort};
+// What a question found, where the window's records are shown by their numbers in the stream.
+ghost use Rattle.std.specs.Prelude.{◌≡◌, ◌+◌, ◌-◌, ◌<◌, ◌^◌, ◌++◌, All, length, codes, decimal, map, OnOk, string_bytes};
+ghost use Rattle.std.specs.List.{flat_map};
 ghost use Rattle.cf_report.specs.Answered.{IsWithin};
-ghost use Rattle.cf_report.specs.Bodies.{shown};
+ghost use Rattle.cf_report.specs.Bodies.{number_text, numbers_text};
+ghost use Rattle.cf_rounds.specs.Lines.{told_from};
 
 use cf_plain::Body;
 use cf_report::{places_of, push_body};
 use cf_row::Memory;
-use std::alloc::Global;
+use std::fmt::Write;
 
-// The numbers of the records at some places.
-fn nums_from(alloc: Global, from: u32, places: &[u32]) -> Result<Vec<u32>, Memory>
-    requires { All (λ place. place < 2 ^ 32 - from) places.now }
-    ensures { IfOk result (λ nums. nums.items ≡ map (λ place. from + place) places.now) }
+fn push_each(text: &mut String, from: u64, places: &[u32]) -> Result<(), Memory>
+    requires { All (λ place. place < 2 ^ 64 - from) places.now }
+    ensures { OnOk result (string_bytes text.new ≡ string_bytes text.old ++ flat_map (λ place. number_text (from + place)) places.now) }
 {
-    let mut nums = Vec::new(alloc);
     for place in places {
-        nums.push(from + *place)?;
+        let num = from + u64::from(*place);
+        write!(text, " {num}")?;
     }
-    Ok(nums)
+    Ok(())
 }
 
-// The same, ascending.
-fn sorted_from(alloc: Global, from: u32, places: &[u32]) -> Result<Vec<u32>, Memory>
-    requires { All (λ place. place < 2 ^ 32 - from) places.now }
-    ensures { IfOk result (λ nums. nums.items ≡ sort (map (λ place. from + place) places.now)) }
+// How many records there are at some places, and their numbers.
+fn push_numbers(text: &mut String, from: u64, places: &[u32]) -> Result<(), Memory>
+    requires { All (λ place. place < 2 ^ 64 - from) places.now }
+    ensures { OnOk result (string_bytes text.new ≡ string_bytes text.old ++ numbers_text (map (λ place. from + place) places.now)) }
 {
-    let mut nums = nums_from(alloc, from, places)?;
-    nums.sort_unstable();
-    Ok(nums)
+    let count = places.len();
+    write!(text, " {count}:")?;
+    push_each(text, from, places)?;
+    Ok(())
 }
 
 /// A body, where records are shown by their numbers in the order in which they came.
-pub(crate) fn push_live_body(
-    alloc: Global,
-    text: &mut String,
-    from: u32,
-    body: &Body,
-) -> Result<(), Memory>
-    requires { IsWithin (2 ^ 32 - from) body.now }
-    ensures { OnOk result (string_bytes text.new ≡ string_bytes text.old ++ shown (map (λ place. from + place)) body.now) }
+pub(crate) fn push_told(text: &mut String, from: u64, body: &Body) -> Result<(), Memory>
+    requires { IsWithin (2 ^ 64 - from) body.now }
+    ensures { OnOk result (string_bytes text.new ≡ string_bytes text.old ++ told_from from body.now) }
 {
-    let nums = nums_from(alloc, from, places_of(body))?;
-    push_body(text, body, &nums)
-}
-
-/// A body, where records are shown by their numbers, ascending.
-pub(crate) fn push_final_body(
-    alloc: Global,
-    text: &mut String,
-    from: u32,
-    body: &Body,
-) -> Result<(), Memory>
-    requires { IsWithin (2 ^ 32 - from) body.now }
-    ensures { OnOk result (string_bytes text.new ≡ string_bytes text.old ++ shown (λ places. sort (map (λ place. from + place) places)) body.now) }
-{
-    let nums = sorted_from(alloc, from, places_of(body))?;
-    push_body(text, body, &nums)
+    match body {
+        Body::Places(_) => push_numbers(text, from, places_of(body)),
+        Body::Total(_) | Body::Marks(_) | Body::Tops(_) => push_body(text, body, &[]),
+    }
 }

@@ -1,7 +1,17 @@
 // Laws of rounds.
-ghost use Rattle.cf_rounds.specs.Laws.{AgainSaysNothing};
+ghost use Rattle.cf_rounds.specs.Laws.{NoneGoesUnseen, RoundsAreOnWindows, WindowsAreOfRecords};
 
-/// A round on the same window as the round before it writes nothing, and changes nothing of what later rounds write.
-pub fn again_says_nothing()
-    ensures { AgainSaysNothing }
+/// Each round is on the window at a moment of the stream, those that records force too.
+pub fn rounds_are_on_windows()
+    ensures { RoundsAreOnWindows }
+{}
+
+/// Each record of a stream is in the window of at least one round, however reads cut the stream.
+pub fn none_goes_unseen()
+    ensures { NoneGoesUnseen }
+{}
+
+/// The window is a function of the records that came, however reads cut the stream, and all of them are counted.
+pub fn windows_are_of_records()
+    ensures { WindowsAreOfRecords }
 {}

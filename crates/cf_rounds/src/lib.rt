@@ -3,8 +3,10 @@
 
 mod asked;
 mod asks;
+mod beat;
 mod body;
 mod fresh;
+mod lanes;
 mod laws;
 mod lives;
 mod marks;
@@ -12,5 +14,5 @@ mod rounds;
 #[cfg(test)]
 mod tests;
 
-pub use laws::again_says_nothing;
-pub use rounds::{Rounds, Taken};
+pub use laws::{none_goes_unseen, rounds_are_on_windows, windows_are_of_records};
+pub use rounds::{Intervals, Rounds, Taken};

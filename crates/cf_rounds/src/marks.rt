@@ -1,28 +1,27 @@
-// The marks of triggers on a window.
-ghost use Rattle.std.specs.Prelude.{◌≡◌, IfOk};
-ghost use Rattle.cf_report.specs.Meaning.{alerts_on};
-ghost use Rattle.cf_rounds.specs.Held.{IsRounds, view_in};
+// The marks of triggers in the final part.
+ghost use Rattle.std.specs.Prelude.{◌≡◌, true, length, map, IfOk};
+ghost use Rattle.cf_rounds.specs.Lanes.{marks_by};
 
+use crate::lanes::marks_of;
 use cf_plain::Marks;
 use cf_row::Memory;
 use cf_setup::Setup;
-use cf_window::Window;
+use cf_watch::Kept;
 use std::alloc::Global;
 
-/// The marks of each trigger on the window's records.
+/// The marks of each trigger on all that is kept.
 pub(crate) fn marks_of_all(
     alloc: Global,
     setup: &Setup,
-    window: &mut Window,
+    kept: &[Kept],
 ) -> Result<Vec<Marks>, Memory>
-    requires rounds { IsRounds setup.now window.old }
-    ensures stays { window.new ≡ window.old }
-    ensures marks { IfOk result (λ alerts. alerts.items ≡ alerts_on window.old.shape setup.now (view_in window.old).rows) }
+    requires lanes { length kept.now ≡ length setup.now.lanes }
+    ensures marks { IfOk result (λ alerts. alerts.items ≡ map (marks_by kept.now true) setup.now.triggers) }
 {
     let triggers = setup.triggers();
     let mut alerts = Vec::new(alloc);
     for trigger in triggers {
-        alerts.push(window.marks(alloc, trigger)?)?;
+        alerts.push(marks_of(alloc, kept, trigger, true)?)?;
     }
     Ok(alerts)
 }

@@ -1,28 +1,28 @@
-use Rattle.std.proofs.Common.{◌∙◌, ◌++◌, ◌<◌, List, ℕ, length, string_bytes, ap}
+use Rattle.std.proofs.Common.{◌≡◌, ◌∙◌, ◌++◌, List, ap, arith, length, string_bytes}
 use Rattle.cf_lemmas.proofs.Ranges.{step_range}
-use Rattle.cf_report.specs.Answered.{ask_at}
-use Rattle.cf_report.specs.Meaning.{finals_on, told_on}
-use Rattle.cf_report.specs.Report.{ask_line, ask_line_at, ask_name}
+use Rattle.cf_plain.specs.declared.ask.Ask.{Ask}
 use Rattle.cf_window.specs.Held.{WindowValue}
 use Rattle.cf_rounds.specs.Held.{view_in}
-use Rattle.cf_rounds.proofs.Lined.{final_line}
+use Rattle.cf_rounds.specs.Lines.{final_line}
 use Rattle.cf_rounds.proofs.asks.push_asks.Goals as goal
 
 pub loop-place-preserved : goal.loop-place-preserved
 loop-place-preserved c =
     let setup = c.args.setup.now in
     let window = c.args.window.now in
-    let rows = (view_in window).rows in
+    let kept = c.args.kept.now in
     let place = c.loop-place.place in
     let v = c.loop-place.invariant in
-    let e = c.in_ok-push_ask.ensures in
-    let low : place < length setup.asks = rw c.asks-asks.ensures.asks at c.loop-place-test.true in
-    record {
+    let e = c.in_ok-push_ask.ensures in record {
       same = e.stays ∙ v.same;
-      text = step_range (ask_line_at setup rows (finals_on window.shape setup rows)) place (string_bytes c.args.text.now) (string_bytes c.loop-place.text)
-          (string_bytes c.push_ask.new.text) v.text
-          (e.line
-          ∙ (ap (λ (w : WindowValue). string_bytes c.loop-place.text ++ ask_line (ask_name setup place) (view_in w).rows
-          (told_on w.shape (view_in w).rows (ask_at setup place))) v.same
-          ∙ ap (λ (t : List ℕ). string_bytes c.loop-place.text ++ t) (final_line window.shape setup rows place low)));
+      text = λ last.
+          step_range (final_line window.shape setup (view_in window kept last)) place (string_bytes c.args.text.now) (string_bytes c.loop-place.text)
+          (string_bytes c.push_ask.new.text) (v.text last)
+          (e.line last ∙ ap (λ (w : WindowValue). string_bytes c.loop-place.text ++ final_line w.shape setup (view_in w kept last) place) v.same);
     }
+
+pub returns-clause-lines : goal.returns-clause-lines
+returns-clause-lines c = λ last.
+    let all = ap (λ (xs : List Ask). length xs) c.asks-asks.ensures.asks in
+    let here : c.loop-place.place ≡ length c.args.setup.now.asks = omega (arith, all) in
+    rw here at (c.loop-place.invariant.text last)

@@ -1,16 +1,17 @@
-use Rattle.std.proofs.Common.{string_bytes, refl}
-use Rattle.cf_report.specs.Answered.{ask_at}
+use Rattle.std.proofs.Common.{◌∙◌, ◌++◌, ℕ, ap, ap₂, string_bytes}
 use Rattle.cf_rounds.specs.Held.{view_in}
-use Rattle.cf_rounds.proofs.Lined.{live_line_is}
+use Rattle.cf_rounds.specs.Lines.{live_head, told_from}
+use Rattle.cf_rounds.proofs.Told.{live_line_is}
 use Rattle.cf_rounds.proofs.lives.push_live.Goals as goal
 
 pub returns-clause-line : goal.returns-clause-line
-returns-clause-line c =
-    let setup = c.args.setup.now in
+returns-clause-line c = λ last.
     let window = c.args.window.now in
-    let place = c.args.place in
-    live_line_is window.shape setup (view_in window) place c.question_name-name.result.now c.question_word.result.now c.from-from.result c.count-to.result
-    (ask_at setup place) c.in_ok-body.body
-    (string_bytes c.args.text.now) (string_bytes c.push_head.new.text) (string_bytes c.push_live_body.new.text) (string_bytes c.push_str.new.self)
-    c.question_name-name.ensures c.question_word.ensures refl c.from-from.ensures c.in_ok-body.ensures.answered c.requires.rounds.numbered c.count-to.ensures
-    c.in_ok-push_head.ensures c.in_ok-push_live_body.ensures c.in_ok-push_str.ensures.bytes
+    live_line_is window.shape c.args.setup.now (view_in window c.args.kept.now last) c.args.place c.question_name-name.result.now
+    c.question_word.result.now c.in_ok-body.body (string_bytes c.args.text.now) (string_bytes c.push_head.new.text) (string_bytes c.push_told.new.text)
+    (string_bytes c.push_str.new.self) c.question_name-name.ensures c.question_word.ensures (c.in_ok-body.ensures.answered last)
+    (c.in_ok-push_head.ensures
+    ∙ ap₂ (λ (f t : ℕ). string_bytes c.args.text.now ++ live_head c.question_name-name.result.now f t c.question_word.result.now) c.from-from.ensures
+    c.count-to.ensures)
+    (c.in_ok-push_told.ensures ∙ ap (λ (f : ℕ). string_bytes c.push_head.new.text ++ told_from f c.in_ok-body.body) c.from-from.ensures)
+    c.in_ok-push_str.ensures.bytes

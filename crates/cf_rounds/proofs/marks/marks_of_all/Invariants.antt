@@ -1,11 +1,6 @@
-use Rattle.std.proofs.Common.{◌≡◌, map, take}
-use Rattle.cf_plain.specs.Asks.{marks_over}
-use Rattle.cf_rounds.specs.Held.{view_in}
+use Rattle.std.proofs.Common.{◌≡◌, true, map, take}
+use Rattle.cf_rounds.specs.Lanes.{marks_by}
 use Rattle.cf_rounds.proofs.marks.marks_of_all.Given as goal
 
 abbrev pub invariant-loop-trigger : goal.invariant-loop-trigger
-invariant-loop-trigger l = record {
-  same : l.window ≡ l.initial.window;
-  marks : l.alerts.items
-      ≡ map (λ trigger. marks_over (l.initial.window).shape trigger (view_in l.initial.window).rows) (take l.trigger-index l.triggers);
-}
+invariant-loop-trigger l = l.alerts.items ≡ map (marks_by l.kept true) (take l.trigger-index l.triggers)

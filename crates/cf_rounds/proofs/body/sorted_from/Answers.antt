@@ -1,8 +1,0 @@
-use Rattle.std.proofs.Common.{◌∙◌, ap}
-use Rattle.cf_fold.specs.Sort.{sort}
-use Rattle.cf_fold.proofs.Sorted.{sort_leaves}
-use Rattle.cf_rounds.proofs.body.sorted_from.Goals as goal
-
-pub returns : goal.returns
-returns c = sort_leaves c.in_ok-nums.nums.items c.sort_unstable.new.self.items c.sort_unstable.ensures.permutation c.sort_unstable.ensures.sorted
-    ∙ ap sort c.in_ok-nums.ensures
