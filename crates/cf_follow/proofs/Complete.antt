@@ -18,7 +18,7 @@ use Rattle.cf_window.proofs.Rows.{rows_one}
 use Rattle.cf_follow.specs.Completed.{IsWatchable, Yields}
 use Rattle.cf_follow.specs.Followed.{AreRead, IsDueOfStream, IsFollowed, IsTurnedAway}
 use Rattle.cf_follow.specs.Followed.IsDueOfStream.{done, broken, refused, unread}
-use Rattle.cf_follow.specs.Followed.IsFollowed.{wrote, cut, cut_round, out}
+use Rattle.cf_follow.specs.Followed.IsFollowed.{wrote, cut, cut_round, cut_forced, out, out_within}
 use Rattle.cf_follow.specs.declared.ending.Ending.{Ending}
 use Rattle.cf_follow.specs.declared.ending.Ending.TheVariants.{Done}
 use Rattle.cf_follow.proofs.Fronts.{rows_front, rows_whole}
@@ -86,11 +86,11 @@ module _ (schema : PacketSchema) (begun : RoundsValue) (truncated : Bool) (file 
           ap (λ (rs : List RowValue). length rs) parts ∙ length-append before (row ∷ after) in
           omega (arith, low, few, size)
       by_cause before after parts (IsTurnedAway.nodes low refused_ same) =
-          let all = subst (λ (rs : List RowValue). All (λ (r : RowValue). is_small (begun.window).shape r ≡ true) rs) parts is.small in
-          let small : is_small (begun.window).shape row ≡ true =
-          subst (λ (r : RowValue). is_small (begun.window).shape r ≡ true) (behind before after row)
+          let all = subst (λ (rs : List RowValue). All (λ (r : RowValue). is_small (begun.terms).shape r ≡ true) rs) parts is.small in
+          let small : is_small (begun.terms).shape row ≡ true =
+          subst (λ (r : RowValue). is_small (begun.terms).shape r ≡ true) (behind before after row)
           (all (length before) row (let size = length-append before (row ∷ after) in omega (arith, size))) in
-          not_true (ap not (sym small) ∙ (both _ (not (is_small (begun.window).shape row)) refused_).1)
+          not_true (ap not (sym small) ∙ (both _ (not (is_small (begun.terms).shape row)) refused_).1)
 
   -- It has no fault.
   unbroken : (at code : ℕ) → HasPacketFaultTo Any schema truncated file at code → ⊥
@@ -114,7 +114,9 @@ module _ (schema : PacketSchema) (begun : RoundsValue) (truncated : Bool) (file 
   complete now held kept ending (wrote said text due appends) = of_due now ending said text due
   complete now held kept ending (cut due said text same is_due past) = inr (inr (inr same))
   complete now held kept ending (cut_round bytes reads last same read took past) = inr (inr (inr same))
+  complete now held kept ending (cut_forced bytes reads front rest row same read took forced past) = inr (inr (inr same))
   complete now held kept ending (out mid bytes reads same read ahead took appends) = inr (inl same)
+  complete now held kept ending (out_within bytes reads front rest said same read took before_it appends) = inr (inl same)
 
 -- The same where it is told what is left of the opened file.
 pub complete_told : (schema : PacketSchema) (begun : RoundsValue) (truncated : Bool) (before now : ShelfView) (held kept : Option (List ℕ)) (ending : Ending)

@@ -1,5 +1,5 @@
 -- The following of a capture goes on, or ends.
-use Rattle.std.proofs.Common.{◌≡◌, ◌∙◌, ◌⊎◌, inl, inr, ℕ, ◌+◌, ◌<◌, ◌≤◌, List, [], ◌∷◌, ◌++◌, length, suc, zero, fold, Bool, false, Option, Some, None, IsNone, Err, refl, sym, ap, ap₂, subst, arith, append-nil, append_assoc}
+use Rattle.std.proofs.Common.{◌≡◌, ◌∙◌, ◌⊎◌, inl, inr, ℕ, ◌+◌, ◌<◌, ◌≤◌, List, [], ◌∷◌, ◌++◌, length, suc, zero, fold, Bool, true, false, Option, Some, None, IsNone, Ok, Err, refl, sym, ap, ap₂, subst, arith, append-nil, append_assoc}
 use Rattle.std.specs.Prelude.{◌==◌}
 use Rattle.std.specs.Io.KnownBytes.{Appends, Keeps}
 use Rattle.std.proofs.KnownBytes.{Appends-nil, Appends-trans, Keeps-refl}
@@ -7,8 +7,6 @@ use Rattle.cf_outside.specs.Files.{ShelfView}
 use Rattle.cf_row.specs.Row.{RowValue}
 use Rattle.cf_packet6.specs.declared.PacketSchema.{PacketSchema}
 use Rattle.cf_pcap.specs.declared.limit.Length.TheVariants.{Any}
-use Rattle.cf_setup.specs.Setups.{SetupValue}
-use Rattle.cf_shape.specs.Lanes.{ShapeValue}
 use Rattle.cf_intake.specs.Devices.{WritesFront}
 use Rattle.cf_intake.specs.Faults.{HasPacketFaultTo, ShowNoFault}
 use Rattle.cf_intake.specs.Parts.{IsBad}
@@ -22,54 +20,29 @@ use Rattle.cf_intake.specs.declared.refusal.Refusal.TheVariants as refusals
 use Rattle.cf_intake.specs.declared.refusal.Stop.{Stop}
 use Rattle.cf_intake.specs.declared.refusal.Stop.TheVariants as stops
 use Rattle.cf_intake.proofs.SingleReads.{rows_given}
-use Rattle.cf_rounds.specs.Held.{HasEnded, HasRound, IsAt, IsSetAs, RoundsValue}
-use Rattle.cf_rounds.specs.Lines.{Said, end_text}
-use Rattle.cf_rounds.specs.Texts.{said_on, view_of}
-use Rattle.cf_window.specs.Held.{count_of}
-use Rattle.cf_window.specs.Rounds.{Course, after_reads, came, span_of, start, with_round}
-use Rattle.cf_window.specs.Windows.{after_row, rows_in_all, window}
+use Rattle.cf_rounds.specs.Held.{IsAt, IsSetAs, RoundsValue}
+use Rattle.cf_rounds.specs.Lines.{end_text}
+use Rattle.cf_rounds.specs.Streams.{Standing, Stream, Terms, after_reads, after_round, begun as begun_stream, forces, halted_text, round_text, through, view_of, with_round}
+use Rattle.cf_rounds.proofs.Onward.{round_says}
+use Rattle.cf_window.specs.Windows.{rows_in_all, window}
 use Rattle.cf_window.proofs.Rows.{rows_one}
-use Rattle.cf_follow.specs.Followed.{AreRead, AreTaken, AreTakenFrom, HasBrokenOff, IsAhead, IsAtLast, IsDueOfStream, IsFollowed, IsGoingOn, IsTurnedAway, WritesPast, halted, spoken, truncated_line, whole}
+use Rattle.cf_follow.specs.Followed.{AreRead, AreTaken, AreTakenFrom, HasBrokenOff, HasSaidBefore, IsAhead, IsAtLast, IsDueOfStream, IsFollowed, IsGoingOn, IsTurnedAway, WritesPast, behind, halted, spoken, truncated_line, whole}
 use Rattle.cf_follow.specs.Followed.IsAhead.{uncalled, moved, ended, failed}
 use Rattle.cf_follow.specs.Followed.IsDueOfStream.{done, broken, refused, unread}
-use Rattle.cf_follow.specs.Followed.IsFollowed.{wrote, cut, cut_round, out}
-use Rattle.cf_follow.specs.Heard.{AreTakenBehind, Concludes, Hears, Refuses, SaysAll, SaysPart, StopsAfterRound, through}
+use Rattle.cf_follow.specs.Followed.IsFollowed.{wrote, cut, cut_round, cut_forced, out, out_within}
+use Rattle.cf_follow.specs.Heard.{AreTakenBehind, Concludes, EndsAmong, EndsAtRead, Hears, IsHere, Refuses, StopsAfterRound, ended_text, said_by}
+use Rattle.cf_follow.specs.Heard.EndsAmong.{turned as turned_away, turned_cut, forced_cut, lost}
 use Rattle.cf_follow.specs.declared.ending.Ending.{Ending}
 use Rattle.cf_follow.specs.declared.ending.Ending.TheVariants.{Done, Refused, Stopped, Unwritten}
-use Rattle.cf_follow.proofs.Hearing.{set_refl, set_trans}
-use Rattle.cf_follow.proofs.MoreReads.{length_one, read_more, read_none, read_nothing, read_some, reads_one, said_then}
+use Rattle.cf_follow.proofs.Hearing.{appends_kept, count_at, here_as, set_refl, set_trans, took_append, turned_by}
+use Rattle.cf_follow.proofs.MoreReads.{length_one, read_more, read_none, read_nothing, read_some, reads_one}
 
 same_three : {A B C D : Type 0} (f : A → B → C → D) (a x : A) (b y : B) (c z : C) → a ≡ x → b ≡ y → c ≡ z → f a b c ≡ f x y z
 same_three {A} {B} {C} {D} f a x b y c z p q r = ap₂ (λ (u : A) (v : B). f u v c) p q ∙ ap (λ (w : C). f x y w) r
 
--- What is written more stays.
-
-pub appends_kept : (a b c : Option (List ℕ)) (xs : List ℕ) → Appends a b xs → Keeps b c → Appends a c xs
-appends_kept None b c xs p q = tt
-appends_kept (Some x) None c xs p q = absurd p
-appends_kept (Some x) (Some y) None xs p q = absurd q
-appends_kept (Some x) (Some y) (Some z) xs p q = q ∙ p
-
-took_append : (shape : ShapeValue) (most : ℕ) (segments : List (List RowValue)) (xs ys : List RowValue) → AreTakenFrom shape most segments xs
-    → AreTakenFrom shape most (fold (after_row shape most) segments xs) ys → AreTakenFrom shape most segments (xs ++ ys)
-took_append shape most segments [] ys took more = more
-took_append shape most segments (x ∷ xs) ys took more = (took.0, took_append shape most (after_row shape most segments x) xs ys took.1 more)
-
--- What rounds have said, by how they are set.
-said_at : (begun m : RoundsValue) (rows : List RowValue) (course : Course) (text : List ℕ) → IsSetAs begun m → IsAt m rows course text
-    → (said_on (begun.window).shape begun.setup begun.every rows course.rounds).text ≡ text
-said_at begun m rows course text set at =
-    same_three (λ (s : ShapeValue) (u : SetupValue) (e : ℕ). (said_on s u e rows course.rounds).text) (begun.window).shape (m.window).shape begun.setup m.setup
-    begun.every m.every (sym set.shape) (sym set.setup) (sym set.every)
-    ∙ ap (λ (said : Said). said.text) at.said
-
-at_same : (m : RoundsValue) (xs ys : List RowValue) (c d : Course) (t u : List ℕ) → xs ≡ ys → c ≡ d → t ≡ u → IsAt m xs c t → IsAt m ys d u
-at_same m xs ys c d t u rows course text at =
-    subst (λ (zs : List RowValue). IsAt m zs d u) rows (subst (λ (e : Course). IsAt m xs e u) course (subst (λ (v : List ℕ). IsAt m xs c v) text at))
-
 -- Nothing was read.
-pub begins : (m : RoundsValue) (reading : Reads) (now : ShelfView) (held : Option (List ℕ)) → HaveRead reading [] [] → IsAt m [] start []
-    → (m.window).is_spent ≡ false
+pub begins : (m : RoundsValue) (reading : Reads) (now : ShelfView) (held : Option (List ℕ)) → HaveRead reading [] [] → IsAt m [] (begun_stream m.terms)
+    → m.is_spent ≡ false
     → (on : IsGoingOn reading.schema m m reading now now held held) × (length on.reads ≡ 0)
 begins m reading now held have at unspent = (
   record {
@@ -82,7 +55,7 @@ begins m reading now held have at unspent = (
     at = at;
     took = record { few = omega arith; each = tt };
     unspent = unspent;
-    within = (let count : count_of m.window ≡ 0 = at.count in omega (arith, count));
+    within = (let count : (m.now).count ≡ 0 = ap (λ (now : Standing). now.count) at.stands in omega (arith, count));
     written = Appends-nil held;
   },
   refl,
@@ -92,17 +65,11 @@ begins m reading now held have at unspent = (
 module _ (schema : PacketSchema) (begun m : RoundsValue) (old new : Reads) (before mid now : ShelfView) (held told : Option (List ℕ))
     (given : List RowValue) (on : IsGoingOn schema begun m old before mid held told) (sound : ShowNoFault schema on.bytes) (few : length given ≤ 4097)
     (moves : MovesOn old new mid now given) where
-  abbrev shape : ShapeValue
-  shape = (begun.window).shape
-
-  abbrev most : ℕ
-  most = (begun.window).most
-
   abbrev rows : List RowValue
   rows = rows_in_all on.reads
 
-  abbrev course : Course
-  course = after_reads shape most on.reads
+  abbrev stream : Stream
+  stream = after_reads begun.terms on.reads
 
   abbrev bytes : List ℕ
   bytes = on.bytes ++ moves.piece
@@ -124,15 +91,20 @@ module _ (schema : PacketSchema) (begun m : RoundsValue) (old new : Reads) (befo
       read_more schema before mid now on.bytes moves.piece on.reads given on.read sound moved_piece few
       (subst (λ (s : PacketSchema). AreRowsGiven s bytes (rows ++ given)) kind_now (rows_given new bytes (rows ++ given) have_more))
 
+  here : IsHere m rows stream held told
+  here = record { at = on.at; written = on.written }
+
   -- Those that were taken were taken behind these.
-  took_more : (xs : List RowValue) → AreTakenBehind m rows course xs → AreTaken begun (rows ++ xs)
-  took_more xs behind =
+  took_more : (xs : List RowValue) → AreTakenBehind m rows stream xs → AreTaken begun (rows ++ xs)
+  took_more xs taken =
       let limit = (on.set).limit in
-      let most_few = behind.0 in
-      let here = subst (λ (ss : List (List RowValue)). AreTakenFrom (m.window).shape (m.window).most ss xs) on.at.come.segments behind.1 in
-      let shaped = subst (λ (s : ShapeValue). AreTakenFrom s (m.window).most (window s (m.window).most rows) xs) (on.set).shape here in record {
+      let most_few = taken.0 in
+      let shaped = subst (λ (t : Terms). AreTakenFrom t.shape t.most (stream.now).segments xs) (on.set).terms taken.1 in
+      let segments : (stream.now).segments ≡ window (begun.terms).shape (begun.terms).most rows =
+      on.at.come.segments ∙ ap (λ (t : Terms). window t.shape t.most rows) (on.set).terms in record {
         few = omega (arith, most_few, limit);
-        each = took_append shape most [] rows xs on.took.each (subst (λ (k : ℕ). AreTakenFrom shape k (window shape k rows) xs) (on.set).most shaped);
+        each = took_append (begun.terms).shape (begun.terms).most [] rows xs on.took.each
+            (subst (λ (ss : List (List RowValue)). AreTakenFrom (begun.terms).shape (begun.terms).most ss xs) segments shaped);
       }
 
   have_now : HaveRead new bytes (rows_in_all reads)
@@ -144,9 +116,7 @@ module _ (schema : PacketSchema) (begun m : RoundsValue) (old new : Reads) (befo
   more_none none =
       let empty : rows ++ given ≡ rows = nothing given none in
       let rows_same : rows_in_all reads ≡ rows = rows_one on.reads given ∙ empty in
-      let course_same : after_reads shape most reads ≡ course = reads_one shape most on.reads given ∙ read_none shape most course given none in
-      let text_same : spoken begun reads ≡ spoken begun on.reads =
-      ap₂ (λ (rs : List RowValue) (c : Course). (said_on shape begun.setup begun.every rs c.rounds).text) rows_same course_same in (
+      let stream_same : after_reads begun.terms reads ≡ stream = reads_one begun.terms on.reads given ∙ read_none begun.terms stream given none in (
         record {
           bytes = bytes;
           reads = reads;
@@ -154,12 +124,12 @@ module _ (schema : PacketSchema) (begun m : RoundsValue) (old new : Reads) (befo
           have = have_now;
           kind = kind_now;
           set = on.set;
-          at = at_same m rows (rows_in_all reads) course (after_reads shape most reads) (spoken begun on.reads) (spoken begun reads) (sym rows_same)
-              (sym course_same) (sym text_same) on.at;
+          at = subst (λ (rs : List RowValue). IsAt m rs (after_reads begun.terms reads)) (sym rows_same)
+              (subst (λ (s : Stream). IsAt m rows s) (sym stream_same) on.at);
           took = subst (λ (rs : List RowValue). AreTaken begun rs) (sym rows_same) on.took;
           unspent = on.unspent;
           within = on.within;
-          written = subst (λ (t : List ℕ). Appends held told t) (sym text_same) on.written;
+          written = subst (λ (s : Stream). Appends held told s.text) (sym stream_same) on.written;
         },
         length_one on.reads given,
       )
@@ -168,111 +138,86 @@ module _ (schema : PacketSchema) (begun m : RoundsValue) (old new : Reads) (befo
       nothing [] none = append-nil rows
       nothing (x ∷ xs) none = absurd (omega (arith, none))
 
-  through_is : (front : List RowValue) → through m course front ≡ fold (came shape most) course front
-  through_is front = ap₂ (λ (s : ShapeValue) (k : ℕ). fold (came s k) course front) (on.set).shape (on.set).most
+  -- the stream behind the first of the records that it ended
+  behind_is : (front : List RowValue) → through m.terms stream front ≡ behind begun on.reads front
+  behind_is front = ap (λ (t : Terms). through t stream front) (on.set).terms
 
-  -- It ended some, and these were heard.
-  module _ (next : RoundsValue) (set : IsSetAs m next) where
-    abbrev set_now : IsSetAs begun next
-    set_now = set_trans begun m next on.set set
+  -- after all of them
+  stream_all : 0 < length given → after_reads begun.terms reads ≡ with_round begun.terms false (behind begun on.reads given)
+  stream_all some = reads_one begun.terms on.reads given ∙ read_some begun.terms stream given some
 
-    at_all : (text : List ℕ) → 0 < length given → SaysAll m given next text
-        → IsAt next (rows_in_all reads) (after_reads shape most reads) (spoken begun on.reads ++ text)
-    at_all text some says =
-        at_same next (rows ++ given) (rows_in_all reads) (with_round (through m course given)) (after_reads shape most reads)
-        (spoken begun on.reads ++ text) (spoken begun on.reads ++ text) (sym (rows_one on.reads given))
-        (ap with_round (through_is given) ∙ sym (reads_one shape most on.reads given ∙ read_some shape most course given some)) refl
-        (says.at rows course (spoken begun on.reads) on.at).0
+  -- They were heard.
+  pub more_some : (next : RoundsValue) (kept : Option (List ℕ)) (made : Unit {0}) → IsSetAs m next → 0 < length given
+      → Hears m given told next kept (Ok made) → next.is_spent ≡ false → (next.now).count ≤ next.limit
+      → (more : IsGoingOn schema begun next new before now held kept) × (length more.reads ≡ length on.reads + 1)
+  more_some next kept made set some hears unspent within =
+      let all = hears rows stream held here in
+      let same : with_round m.terms false (through m.terms stream given) ≡ after_reads begun.terms reads =
+      ap (λ (t : Terms). with_round t false (through t stream given)) (on.set).terms ∙ sym (stream_all some) in (
+        record {
+          bytes = bytes;
+          reads = reads;
+          read = are_read;
+          have = have_now;
+          kind = kind_now;
+          set = set_trans begun m next on.set set;
+          at = subst (λ (rs : List RowValue). IsAt next rs (after_reads begun.terms reads)) (sym (rows_one on.reads given))
+              (subst (λ (s : Stream). IsAt next (rows ++ given) s) same (all.0).at);
+          took = subst (λ (rs : List RowValue). AreTaken begun rs) (sym (rows_one on.reads given)) (took_more given all.1);
+          unspent = unspent;
+          within = within;
+          written = subst (λ (s : Stream). Appends held kept s.text) same (all.0).written;
+        },
+        length_one on.reads given,
+      )
 
-    took_all : (text : List ℕ) → SaysAll m given next text → AreTaken begun (rows_in_all reads)
-    took_all text says =
-        subst (λ (rs : List RowValue). AreTaken begun rs) (sym (rows_one on.reads given))
-        (took_more given (says.at rows course (spoken begun on.reads) on.at).1)
+  module _ (truncated : Bool) (kept : Option (List ℕ)) (front rest : List RowValue) where
+    read_so : (others : List RowValue) → given ≡ front ++ others → AreRead schema before now bytes (on.reads ++ (front ++ others) ∷ [])
+    read_so others are = subst (λ (rs : List RowValue). AreRead schema before now bytes (on.reads ++ rs ∷ [])) are are_read
 
-    spoken_all : (text : List ℕ) → 0 < length given → SaysAll m given next text → spoken begun reads ≡ spoken begun on.reads ++ text
-    spoken_all text some says =
-        said_at begun next (rows_in_all reads) (after_reads shape most reads) (spoken begun on.reads ++ text) set_now (at_all text some says)
+    module _ (row : RowValue) (why : Refusal) (are : given ≡ front ++ row ∷ rest) (taken : AreTakenBehind m rows stream front)
+        (away : IsTurnedAway m (rows ++ front) row why) where
+      halted_is : halted_text m.terms (through m.terms stream front) (line_of why) ≡ halted begun (behind begun on.reads front) (line_of why)
+      halted_is = ap (λ (t : Terms). halted_text t (through t stream front) (line_of why)) (on.set).terms
 
-    pub more_some : (text : List ℕ) (kept : Option (List ℕ)) → 0 < length given → SaysAll m given next text → Appends told kept text
-        → (next.window).is_spent ≡ false → count_of next.window ≤ next.limit
-        → (more : IsGoingOn schema begun next new before now held kept) × (length more.reads ≡ length on.reads + 1)
-    more_some text kept some says appends unspent within = (
-      record {
-        bytes = bytes;
-        reads = reads;
-        read = are_read;
-        have = have_now;
-        kind = kind_now;
-        set = set_now;
-        at = subst (λ (t : List ℕ). IsAt next (rows_in_all reads) (after_reads shape most reads) t) (sym (spoken_all text some says))
-            (at_all text some says);
-        took = took_all text says;
-        unspent = unspent;
-        within = within;
-        written = subst (λ (t : List ℕ). Appends held kept t) (sym (spoken_all text some says))
-            (Appends-trans held told kept (spoken begun on.reads) text on.written appends);
-      },
-      length_one on.reads given,
-    )
+      due_so : IsDueOfStream schema begun truncated before now (Refused why) (behind begun on.reads front).text
+          (halted_text m.terms (through m.terms stream front) (line_of why))
+      due_so =
+          refused bytes on.reads front rest row why (read_so (row ∷ rest) are) (took_more front taken) (turned_by begun m (rows ++ front) row why on.set away)
+          refl refl halted_is
 
-    pub cut_all : (truncated : Bool) (text : List ℕ) (kept : Option (List ℕ)) → 0 < length given → SaysAll m given next text → WritesFront told kept text
-        → IsFollowed schema begun truncated before now held kept Unwritten
-    cut_all truncated text kept some says front =
-        cut_round bytes on.reads given refl are_read (took_all text says)
-        (record { told = told; more = text; text_is = spoken_all text some says; before = on.written; front = front })
+  -- The stream ended at them.
+  by_end : (truncated : Bool) (kept : Option (List ℕ)) (ending : Ending) → EndsAmong m given rows stream held kept ending
+      → IsFollowed schema begun truncated before now held kept ending
+  by_end truncated kept ending (turned_away front rest row why are taken away is appends) =
+      subst (λ (e : Ending). IsFollowed schema begun truncated before now held kept e) (sym is)
+      (wrote (behind begun on.reads front).text (halted_text m.terms (through m.terms stream front) (line_of why))
+      (due_so truncated kept front rest row why are taken away) appends)
+  by_end truncated kept ending (turned_cut front rest row why are taken away is past) =
+      cut (Refused why) (behind begun on.reads front).text (halted_text m.terms (through m.terms stream front) (line_of why)) is
+      (due_so truncated kept front rest row why are taken away)
+      (subst (λ (s : Stream). WritesPast held kept s.text (halted_text m.terms (through m.terms stream front) (line_of why))) (behind_is front) past)
+  by_end truncated kept ending (forced_cut front rest row are taken forced is past) =
+      cut_forced bytes on.reads front rest row is (read_so truncated kept front rest (row ∷ rest) are) (took_more front taken)
+      (ap (λ (t : Terms). forces t (through t stream front).now row) (sym (on.set).terms) ∙ forced)
+      (subst (λ (t : Terms). WritesPast held kept (through t stream front).text (with_round t false (through t stream front)).text) (on.set).terms past)
+  by_end truncated kept ending (lost front rest said are taken is before_it appends) =
+      out_within bytes on.reads front rest said is (read_so truncated kept front rest rest are) (took_more front taken)
+      (subst (λ (t : Terms). HasSaidBefore t (through t stream front) rest said) (on.set).terms before_it) appends
 
-  -- One of them was turned away.
-  module _ (next : RoundsValue) (set : IsSetAs m next) (why : Refusal) (text : List ℕ) (part : SaysPart m given next why text) where
-    abbrev front_reads : List (List RowValue)
-    front_reads = on.reads ++ part.front ∷ []
+  by_round : (truncated : Bool) (kept : Option (List ℕ)) (ending : Ending) → 0 < length given → AreTakenBehind m rows stream given → ending ≡ Unwritten
+      → WritesPast held kept (through m.terms stream given).text (with_round m.terms false (through m.terms stream given)).text
+      → IsFollowed schema begun truncated before now held kept ending
+  by_round truncated kept ending some taken is past =
+      cut_round bytes on.reads given is are_read (took_more given taken)
+      (subst (λ (s : Stream). WritesPast held kept (behind begun on.reads given).text s.text) (sym (stream_all some))
+      (subst (λ (t : Terms). WritesPast held kept (through t stream given).text (with_round t false (through t stream given)).text) (on.set).terms past))
 
-    said_front : (said_on shape begun.setup begun.every (rows_in_all front_reads) (with_round (after_reads shape most front_reads)).rounds).text
-        ≡ spoken begun on.reads ++ part.said
-    said_front =
-        ap₂ (λ (rs : List RowValue) (c : Course). (said_on shape begun.setup begun.every rs (with_round c).rounds).text) (rows_one on.reads part.front)
-        (reads_one shape most on.reads part.front)
-        ∙ (ap (λ (said : Said). said.text) (said_then shape begun.setup most begun.every (rows ++ part.front) course part.front)
-        ∙ (ap (λ (c : Course). (said_on shape begun.setup begun.every (rows ++ part.front) (with_round c).rounds).text) (sym (through_is part.front))
-        ∙ said_at begun next (rows ++ part.front) (with_round (through m course part.front)) (spoken begun on.reads ++ part.said)
-        (set_trans begun m next on.set set) (part.at.at rows course (spoken begun on.reads) on.at).0))
-
-    text_front : spoken begun on.reads ++ text ≡ halted begun front_reads (line_of why)
-    text_front =
-        ap (λ (t : List ℕ). spoken begun on.reads ++ t) part.text_is
-        ∙ (sym (append_assoc (spoken begun on.reads) part.said (line_of why)) ∙ ap (λ (t : List ℕ). t ++ line_of why) (sym said_front))
-
-    turned_by : IsTurnedAway m (rows ++ part.front) part.row why → IsTurnedAway begun (rows ++ part.front) part.row why
-    turned_by (IsTurnedAway.full low is) =
-        let limit = (on.set).limit in IsTurnedAway.full (low ∙ limit) (is ∙ ap refusals.Full limit)
-    turned_by (IsTurnedAway.nodes low is nodes) =
-        let limit = (on.set).limit in
-        IsTurnedAway.nodes (omega (arith, low, limit))
-        (ap₂ (λ (s : ShapeValue) (k : ℕ). Rattle.cf_window.specs.Windows.is_refused s (Rattle.cf_window.specs.Windows.window s k (rows ++ part.front)) part.row)
-        (sym (on.set).shape) (sym (on.set).most) ∙ is) (nodes ∙ ap (λ (s : ShapeValue). refusals.Nodes s.nodes) (on.set).shape)
-
-    pub due_part : (truncated : Bool)
-        → IsDueOfStream schema begun truncated before now (Refused why) (spoken begun on.reads) (spoken begun on.reads ++ text)
-    due_part truncated =
-        refused bytes on.reads part.front part.rest part.row why
-        (subst (λ (rs : List RowValue). AreRead schema before now bytes (on.reads ++ rs ∷ [])) part.rows_are are_read)
-        (took_more part.front (part.at.at rows course (spoken begun on.reads) on.at).1)
-        (turned_by (part.turned rows course (spoken begun on.reads) on.at)) refl refl text_front
-
-  -- Whatever came of it.
-  pub heard : (next : RoundsValue) (kept : Option (List ℕ)) (truncated : Bool) (ending : Ending) → IsSetAs m next → 0 < length given
-      → Hears m given next told kept (Err ending) → IsFollowed schema begun truncated before now held kept ending
-  heard next kept truncated Done set some hears = absurd hears
-  heard next kept truncated (Refused why) set some hears =
-      wrote (spoken begun on.reads) (spoken begun on.reads ++ hears.0) (due_part next set why hears.0 hears.1 truncated)
-      (Appends-trans held told kept (spoken begun on.reads) hears.0 on.written hears.2)
-  heard next kept truncated (Stopped stops.ReadFault) set some hears = absurd hears
-  heard next kept truncated (Stopped stops.Memory) set some hears =
-      out mid on.bytes on.reads refl on.read (moved moves.piece sound moved_piece) on.took
-      (appends_kept held told kept (spoken begun on.reads) on.written hears)
-  heard next kept truncated Unwritten set some hears = elim hears.1 [
-    | inl all ↦ cut_all next set truncated hears.0 kept some all hears.2
-    | inr part ↦ cut (Refused part.0) (spoken begun on.reads) (spoken begun on.reads ++ hears.0) refl (due_part next set part.0 hears.0 part.1 truncated)
-        (record { told = told; more = hears.0; text_is = refl; before = on.written; front = hears.2 })
+  pub heard : (next : RoundsValue) (kept : Option (List ℕ)) (truncated : Bool) (ending : Ending) → 0 < length given
+      → Hears m given told next kept (Err ending) → IsFollowed schema begun truncated before now held kept ending
+  heard next kept truncated ending some hears = elim (hears rows stream held here) [
+    | inl among ↦ by_end truncated kept ending among
+    | inr round ↦ by_round truncated kept ending some round.0 round.1 round.2
   ]
 
 -- The end of the capture is found.
@@ -305,8 +250,8 @@ module _ (schema : PacketSchema) (begun m : RoundsValue) (reading : Reads) (befo
   abbrev now_rows : List RowValue
   now_rows = rows_in_all on.reads
 
-  abbrev now_course : Course
-  now_course = after_reads (begun.window).shape (begun.window).most on.reads
+  abbrev now_stream : Stream
+  now_stream = after_reads begun.terms on.reads
 
   -- Memory ran out.
   pub out_now : (truncated : Bool) (now : ShelfView) (kept : Option (List ℕ)) → IsAhead schema on.bytes mid now → Keeps told kept
@@ -326,83 +271,76 @@ module _ (schema : PacketSchema) (begun m : RoundsValue) (reading : Reads) (befo
   ahead_of truncated now at code (inl bad) = ended bad.1 bad.0
   ahead_of truncated now at code (inr bad) = uncalled bad.0
 
-  -- A round more was made.
-  module _ (next : RoundsValue) (set : IsSetAs m next) (after : List ℕ) (round : HasRound m [] next after) where
-    said_more : (said_on (begun.window).shape begun.setup begun.every now_rows (with_round now_course).rounds).text ≡ spoken begun on.reads ++ after
-    said_more =
-        said_at begun next now_rows (with_round now_course) (spoken begun on.reads ++ after) (set_trans begun m next on.set set)
-        (round now_rows now_course (spoken begun on.reads)
-        (subst (λ (t : List ℕ). IsAt m now_rows now_course t) (sym (append-nil (spoken begun on.reads))) on.at))
-
-    pub halted_now : (line : List ℕ) → spoken begun on.reads ++ (after ++ line) ≡ halted begun on.reads line
-    halted_now line = sym (append_assoc (spoken begun on.reads) after line) ∙ ap (λ (t : List ℕ). t ++ line) (sym said_more)
-
-    pub halted_bare : spoken begun on.reads ++ after ≡ halted begun on.reads []
-    halted_bare = sym said_more ∙ sym (append-nil (said_on (begun.window).shape begun.setup begun.every now_rows (with_round now_course).rounds).text)
+  -- The last round was made.
+  pub halted_now : (line : List ℕ) → spoken begun on.reads ++ said_by true m line ≡ halted begun now_stream line
+  halted_now line =
+      sym (append_assoc (spoken begun on.reads) (round_text m.terms true m.now) line)
+      ∙ ap (λ (t : List ℕ). t ++ line)
+      (sym (round_says m now_rows now_stream on.at true) ∙ ap (λ (t : Terms). (with_round t true now_stream).text) (on.set).terms)
 
   -- The shelf failed.
-  pub unread_now : (truncated : Bool) (now : ShelfView) (kept : Option (List ℕ)) (next : RoundsValue) (ending : Ending) → IsSetAs m next
+  pub unread_now : (truncated : Bool) (now : ShelfView) (kept : Option (List ℕ)) (ending : Ending)
       → ShowNoFault schema on.bytes → FailsToRead mid now
-      → StopsAfterRound m next told kept ending → IsFollowed schema begun truncated before now held kept ending
-  unread_now truncated now kept next Done set sound fails gave = absurd gave
-  unread_now truncated now kept next (Refused why) set sound fails gave = absurd gave
-  unread_now truncated now kept next (Stopped stops.ReadFault) set sound fails gave =
-      wrote (spoken begun on.reads) (spoken begun on.reads ++ gave.0)
-      (unread mid on.bytes on.reads on.read fails sound on.took refl refl (halted_bare next set gave.0 gave.1))
-      (Appends-trans held told kept (spoken begun on.reads) gave.0 on.written gave.2)
-  unread_now truncated now kept next (Stopped stops.Memory) set sound fails gave = out_now truncated now kept (failed sound fails) gave
-  unread_now truncated now kept next Unwritten set sound fails gave =
-      cut (Stopped stops.ReadFault) (spoken begun on.reads) (spoken begun on.reads ++ gave.0) refl
-      (unread mid on.bytes on.reads on.read fails sound on.took refl refl (halted_bare next set gave.0 gave.1)) (past kept gave.0 gave.2)
+      → StopsAfterRound m told kept ending → IsFollowed schema begun truncated before now held kept ending
+  unread_now truncated now kept Done sound fails gave = absurd gave
+  unread_now truncated now kept (Refused why) sound fails gave = absurd gave
+  unread_now truncated now kept (Stopped stops.ReadFault) sound fails gave =
+      wrote (spoken begun on.reads) (spoken begun on.reads ++ said_by true m [])
+      (unread mid on.bytes on.reads on.read fails sound on.took refl refl (halted_now []))
+      (Appends-trans held told kept (spoken begun on.reads) (said_by true m []) on.written gave)
+  unread_now truncated now kept (Stopped stops.Memory) sound fails gave = out_now truncated now kept (failed sound fails) gave
+  unread_now truncated now kept Unwritten sound fails gave =
+      cut (Stopped stops.ReadFault) (spoken begun on.reads) (spoken begun on.reads ++ said_by true m []) refl
+      (unread mid on.bytes on.reads on.read fails sound on.took refl refl (halted_now [])) (past kept (said_by true m []) gave)
 
   -- The capture has a fault.
-  pub broken_now : (truncated : Bool) (now : ShelfView) (kept : Option (List ℕ)) (next : RoundsValue) (why : Refusal) (ending : Ending) (at code : ℕ)
-      → why ≡ refusals.Capture at code → HasBrokenOff reading.schema truncated mid now on.bytes at code → IsSetAs m next
-      → Refuses m [] why next told kept ending → IsFollowed schema begun truncated before now held kept ending
-  broken_now truncated now kept next why Done at code is bad set refuses = absurd refuses
-  broken_now truncated now kept next why (Refused other) at code is bad set refuses =
+  pub broken_now : (truncated : Bool) (now : ShelfView) (kept : Option (List ℕ)) (why : Refusal) (ending : Ending) (at code : ℕ)
+      → why ≡ refusals.Capture at code → HasBrokenOff reading.schema truncated mid now on.bytes at code
+      → Refuses m why told kept ending → IsFollowed schema begun truncated before now held kept ending
+  broken_now truncated now kept why Done at code is bad refuses = absurd refuses
+  broken_now truncated now kept why (Refused other) at code is bad refuses =
       let same : other ≡ refusals.Capture at code = refuses.0 ∙ is in
-      wrote (spoken begun on.reads) (spoken begun on.reads ++ (refuses.1.0 ++ line_of why))
+      wrote (spoken begun on.reads) (spoken begun on.reads ++ said_by true m (line_of why))
       (broken mid on.bytes on.reads at code on.read (of_kind truncated now at code bad) on.took (ap Refused same) refl
-      (halted_now next set refuses.1.0 refuses.1.1 (line_of why) ∙ ap (λ (w : Refusal). halted begun on.reads (line_of w)) is))
-      (Appends-trans held told kept (spoken begun on.reads) (refuses.1.0 ++ line_of why) on.written refuses.1.2)
-  broken_now truncated now kept next why (Stopped stops.ReadFault) at code is bad set refuses = absurd refuses
-  broken_now truncated now kept next why (Stopped stops.Memory) at code is bad set refuses =
+      (halted_now (line_of why) ∙ ap (λ (w : Refusal). halted begun now_stream (line_of w)) is))
+      (Appends-trans held told kept (spoken begun on.reads) (said_by true m (line_of why)) on.written refuses.1)
+  broken_now truncated now kept why (Stopped stops.ReadFault) at code is bad refuses = absurd refuses
+  broken_now truncated now kept why (Stopped stops.Memory) at code is bad refuses =
       out_now truncated now kept (ahead_of truncated now at code (of_kind truncated now at code bad)) refuses
-  broken_now truncated now kept next why Unwritten at code is bad set refuses =
-      cut (Refused (refusals.Capture at code)) (spoken begun on.reads) (spoken begun on.reads ++ (refuses.0 ++ line_of why)) refl
+  broken_now truncated now kept why Unwritten at code is bad refuses =
+      cut (Refused (refusals.Capture at code)) (spoken begun on.reads) (spoken begun on.reads ++ said_by true m (line_of why)) refl
       (broken mid on.bytes on.reads at code on.read (of_kind truncated now at code bad) on.took refl refl
-      (halted_now next set refuses.0 refuses.1 (line_of why) ∙ ap (λ (w : Refusal). halted begun on.reads (line_of w)) is))
-      (past kept (refuses.0 ++ line_of why) refuses.2)
+      (halted_now (line_of why) ∙ ap (λ (w : Refusal). halted begun now_stream (line_of w)) is))
+      (past kept (said_by true m (line_of why)) refuses)
 
   -- It is whole.
-  whole_now : (after : List ℕ) (line : List ℕ) → HasEnded m [] after → spoken begun on.reads ++ (after ++ line) ≡ whole begun on.reads ++ line
-  whole_now after line finishes =
-      sym (append_assoc (spoken begun on.reads) after line)
-      ∙ ap (λ (t : List ℕ). t ++ line)
-      (finishes now_rows now_course (spoken begun on.reads)
-      (subst (λ (t : List ℕ). IsAt m now_rows now_course t) (sym (append-nil (spoken begun on.reads))) on.at)
-      ∙ same_three (λ (s : ShapeValue) (u : SetupValue) (e : ℕ). (said_on s u e now_rows (with_round now_course).rounds).text
-      ++ end_text s u (view_of now_rows (span_of now_course))) (m.window).shape (begun.window).shape m.setup begun.setup m.every begun.every (on.set).shape
-      (on.set).setup (on.set).every)
+  whole_now : (cut_at : Option ℕ) → spoken begun on.reads ++ ended_text m cut_at ≡ whole begun on.reads ++ truncated_line cut_at
+  whole_now cut_at =
+      let round : List ℕ = round_text m.terms true m.now in
+      let ends : Terms → Standing → List ℕ = λ t now. end_text t.shape t.setup (view_of (after_round t true now)) in
+      sym (append_assoc (spoken begun on.reads) (round ++ ends m.terms m.now) (truncated_line cut_at))
+      ∙ ap (λ (t : List ℕ). t ++ truncated_line cut_at)
+      (sym (append_assoc (spoken begun on.reads) round (ends m.terms m.now))
+      ∙ (ap₂ (λ (t : List ℕ) (now : Standing). t ++ ends m.terms now) (sym (round_says m now_rows now_stream on.at true)) on.at.stands
+      ∙ ap (λ (t : Terms). (with_round t true now_stream).text ++ ends t now_stream.now) (on.set).terms))
 
   pub ended_now : (truncated : Bool) (now : ShelfView) (kept : Option (List ℕ)) (cut_at : Option ℕ) (ending : Ending) → FindsEnd mid now
       → ShowNoFault schema on.bytes → ArePacketsTo Any reading.schema truncated on.bytes (rows_in_all on.reads) cut_at
       → Concludes m cut_at told kept ending → IsFollowed schema begun truncated before now held kept ending
   ended_now truncated now kept cut_at Done end sound are concludes =
-      wrote (spoken begun on.reads) (spoken begun on.reads ++ (concludes.0 ++ truncated_line cut_at))
+      wrote (spoken begun on.reads) (spoken begun on.reads ++ ended_text m cut_at)
       (done mid on.bytes on.reads cut_at on.read end on.took
       (subst (λ (s : PacketSchema). ArePacketsTo Any s truncated on.bytes now_rows cut_at) on.kind are) refl refl
-      (whole_now concludes.0 (truncated_line cut_at) concludes.1))
-      (Appends-trans held told kept (spoken begun on.reads) (concludes.0 ++ truncated_line cut_at) on.written concludes.2)
+      (whole_now cut_at))
+      (Appends-trans held told kept (spoken begun on.reads) (ended_text m cut_at) on.written concludes)
   ended_now truncated now kept cut_at (Refused why) end sound are concludes = absurd concludes
   ended_now truncated now kept cut_at (Stopped stops.ReadFault) end sound are concludes = absurd concludes
   ended_now truncated now kept cut_at (Stopped stops.Memory) end sound are concludes = out_now truncated now kept (ended sound end) concludes
   ended_now truncated now kept cut_at Unwritten end sound are concludes =
-      cut Done (spoken begun on.reads) (spoken begun on.reads ++ (concludes.0 ++ truncated_line cut_at)) refl
+      cut Done (spoken begun on.reads) (spoken begun on.reads ++ ended_text m cut_at) refl
       (done mid on.bytes on.reads cut_at on.read end on.took
       (subst (λ (s : PacketSchema). ArePacketsTo Any s truncated on.bytes now_rows cut_at) on.kind are) refl refl
-      (whole_now concludes.0 (truncated_line cut_at) concludes.1)) (past kept (concludes.0 ++ truncated_line cut_at) concludes.2)
+      (whole_now cut_at)) (past kept (ended_text m cut_at) concludes)
 
 some_of : (n : ℕ) → (n == 0) ≡ false → 0 < n
 some_of zero is = absurd (cc is)
@@ -440,9 +378,9 @@ pub concludes_never : (m : RoundsValue) (cut_at : Option ℕ) (held kept : Optio
     → ending ≡ Stopped stops.ReadFault → ⊥
 concludes_never m cut_at held kept ending concludes is = subst (λ (e : Ending). Concludes m cut_at held kept e) is concludes
 
-pub refuses_never : (m n : RoundsValue) (text : List ℕ) (why : Refusal) (held kept : Option (List ℕ)) (ending : Ending) → Refuses m text why n held kept ending
+pub refuses_never : (m : RoundsValue) (why : Refusal) (held kept : Option (List ℕ)) (ending : Ending) → Refuses m why held kept ending
     → ending ≡ Stopped stops.ReadFault → ⊥
-refuses_never m n text why held kept ending refuses is = subst (λ (e : Ending). Refuses m text why n held kept e) is refuses
+refuses_never m why held kept ending refuses is = subst (λ (e : Ending). Refuses m why held kept e) is refuses
 
 -- It goes on with rounds that are the same.
 pub going_still : (schema : PacketSchema) (begun m n : RoundsValue) (reading : Reads) (before now : ShelfView) (held kept : Option (List ℕ))
@@ -462,3 +400,16 @@ pub ended_out : (schema : PacketSchema) (begun m : RoundsValue) (reading : Reads
     → IsGoingOn schema begun m reading before now held told → IsFollowed schema begun truncated before now held told (Stopped stops.Memory)
 ended_out schema begun m reading before now held told truncated on =
     out_now schema begun m reading before now held told on truncated now told (uncalled refl) (Keeps-refl told)
+
+-- The records of a read end nothing as the shelf's failure does.
+among_never : (m : RoundsValue) (rows come : List RowValue) (stream : Stream) (first kept : Option (List ℕ)) (ending : Ending)
+    → EndsAmong m rows come stream first kept ending → ending ≡ Stopped stops.ReadFault → ⊥
+among_never m rows come stream first kept ending (turned_away front rest row why are taken away is appends) read = cc (sym is ∙ read)
+among_never m rows come stream first kept ending (turned_cut front rest row why are taken away is past) read = cc (sym is ∙ read)
+among_never m rows come stream first kept ending (forced_cut front rest row are taken forced is past) read = cc (sym is ∙ read)
+among_never m rows come stream first kept ending (lost front rest said are taken is before appends) read = cc (sym is ∙ read)
+
+pub hears_never : (m : RoundsValue) (rows come : List RowValue) (stream : Stream) (first kept : Option (List ℕ)) (ending : Ending)
+    → EndsAtRead m rows come stream first kept ending → ending ≡ Stopped stops.ReadFault → ⊥
+hears_never m rows come stream first kept ending (inl among) read = among_never m rows come stream first kept ending among read
+hears_never m rows come stream first kept ending (inr round) read = cc (sym round.1 ∙ read)

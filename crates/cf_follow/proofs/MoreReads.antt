@@ -1,5 +1,5 @@
 -- One more read.
-use Rattle.std.proofs.Common.{◌≡◌, ◌∙◌, ℕ, ◌+◌, ◌<◌, ◌≤◌, inl, inr, List, [], ◌∷◌, ◌++◌, length, map, take, fold, Bool, true, nat_lt, if◌then◌else◌, refl, sym, ap, subst, arith, length-append, append-nil}
+use Rattle.std.proofs.Common.{◌≡◌, ◌∙◌, ℕ, ◌+◌, ◌<◌, ◌≤◌, inl, inr, List, [], ◌∷◌, ◌++◌, length, map, take, Bool, true, false, nat_lt, if◌then◌else◌, refl, sym, ap, subst, arith, length-append, append-nil}
 use Rattle.std.proofs.lemmas.Bool.{cases_lt}
 use Rattle.std.proofs.lemmas.Bool.Decides.{nat_tests}
 use Rattle.std.proofs.KnownBytes.{Appends-nil, Appends-trans, Consumes-nil, Consumes-trans}
@@ -9,16 +9,11 @@ use Rattle.std.proofs.lemmas.List.Elements.{All-push}
 use Rattle.std.proofs.lemmas.List.Sums.{fold_push}
 use Rattle.cf_packet6.specs.declared.PacketSchema.{PacketSchema}
 use Rattle.cf_row.specs.Row.{RowValue}
-use Rattle.cf_setup.specs.Setups.{SetupValue}
-use Rattle.cf_shape.specs.Lanes.{ShapeValue}
 use Rattle.std.specs.Io.KnownBytes.{Appends}
 use Rattle.cf_outside.specs.Files.{ShelfView}
 use Rattle.cf_intake.specs.Faults.{ShowNoFault}
 use Rattle.cf_intake.specs.Reads.{AreRowsGiven, MovesPiece}
-use Rattle.cf_rounds.specs.Lines.{Said, nothing_said}
-use Rattle.cf_rounds.specs.Texts.{said_on, view_of, with_span}
-use Rattle.cf_rounds.proofs.Again.{again}
-use Rattle.cf_window.specs.Rounds.{Course, Span, after_reads, came, span_of, start, was_read, with_round}
+use Rattle.cf_rounds.specs.Streams.{Stream, Terms, after_reads, begun, through, was_read, with_round}
 use Rattle.cf_window.specs.Watched.{AreEnded, bytes_in_all}
 use Rattle.cf_window.specs.Windows.{rows_in_all}
 use Rattle.cf_window.proofs.Rows.{rows_one}
@@ -105,43 +100,21 @@ read_nothing schema view none = record {
   few = λ i d low. absurd (omega (arith, low));
 }
 
--- The course after one more read.
+-- The stream after one more read.
 
-pub reads_one : (shape : ShapeValue) (most : ℕ) (reads : List (List RowValue)) (given : List RowValue)
-    → after_reads shape most (reads ++ given ∷ []) ≡ was_read shape most (after_reads shape most reads) given
-reads_one shape most reads given = fold_push (was_read shape most) start reads given
+pub reads_one : (terms : Terms) (reads : List (List RowValue)) (given : List RowValue)
+    → after_reads terms (reads ++ given ∷ []) ≡ was_read terms (after_reads terms reads) given
+reads_one terms reads given = fold_push (was_read terms) (begun terms) reads given
 
 some_true : (n : ℕ) → 0 < n → nat_lt 0 n ≡ true
 some_true n some = grind (arith, nat_tests)
 
 -- one that ended no record changes nothing
-pub read_none : (shape : ShapeValue) (most : ℕ) (course : Course) (given : List RowValue) → length given ≡ 0 → was_read shape most course given ≡ course
-read_none shape most course given none =
-    ap (λ (n : ℕ). if nat_lt 0 n then with_round (fold (came shape most) course given) else course) none
+pub read_none : (terms : Terms) (stream : Stream) (given : List RowValue) → length given ≡ 0 → was_read terms stream given ≡ stream
+read_none terms stream given none = ap (λ (n : ℕ). if nat_lt 0 n then with_round terms false (through terms stream given) else stream) none
 
 -- after one that ended some a round comes
-pub read_some : (shape : ShapeValue) (most : ℕ) (course : Course) (given : List RowValue) → 0 < length given
-    → was_read shape most course given ≡ with_round (fold (came shape most) course given)
-read_some shape most course given some =
-    ap (λ (b : Bool). if b then with_round (fold (came shape most) course given) else course) (some_true (length given) some)
-
--- A round again says nothing.
-pub said_twice : (shape : ShapeValue) (setup : SetupValue) (every : ℕ) (rows : List RowValue) (course : Course)
-    → said_on shape setup every rows (with_round (with_round course)).rounds ≡ said_on shape setup every rows (with_round course).rounds
-said_twice shape setup every rows course =
-    let say : Said → Span → Said = with_span shape setup every rows in
-    let once : said_on shape setup every rows (with_round course).rounds
-    ≡ say (said_on shape setup every rows course.rounds) (span_of course) = fold_push say nothing_said course.rounds (span_of course) in
-    fold_push say nothing_said (with_round course).rounds (span_of course)
-    ∙ (ap (λ (said : Said). say said (span_of course)) once
-    ∙ (again shape setup every (said_on shape setup every rows course.rounds) (view_of rows (span_of course))
-    ∙ sym once))
-
--- What a round says after some records of a read is what the last one says after these.
-pub said_then : (shape : ShapeValue) (setup : SetupValue) (most every : ℕ) (rows : List RowValue) (course : Course) (front : List RowValue)
-    → said_on shape setup every rows (with_round (was_read shape most course front)).rounds
-    ≡ said_on shape setup every rows (with_round (fold (came shape most) course front)).rounds
-said_then shape setup most every rows course [] = refl
-said_then shape setup most every rows course (row ∷ front) =
-    ap (λ (c : Course). said_on shape setup every rows (with_round c).rounds) (read_some shape most course (row ∷ front) (omega arith))
-    ∙ said_twice shape setup every rows (fold (came shape most) course (row ∷ front))
+pub read_some : (terms : Terms) (stream : Stream) (given : List RowValue) → 0 < length given
+    → was_read terms stream given ≡ with_round terms false (through terms stream given)
+read_some terms stream given some =
+    ap (λ (b : Bool). if b then with_round terms false (through terms stream given) else stream) (some_true (length given) some)

@@ -41,8 +41,8 @@ taken_never begun rows front row rest why took is (IsTurnedAway.full all same) =
     let size : length rows ≡ length front + length (row ∷ rest) = ap (λ (rs : List RowValue). length rs) is ∙ length-append front (row ∷ rest) in
     omega (arith, few, size, all)
 taken_never begun rows front row rest why took is (IsTurnedAway.nodes low away same) =
-    let each = subst (λ (rs : List RowValue). AreTakenFrom (begun.window).shape (begun.window).most [] rs) is took.each in
-    not_both _ away (took_at (begun.window).shape (begun.window).most [] front row rest each)
+    let each = subst (λ (rs : List RowValue). AreTakenFrom (begun.terms).shape (begun.terms).most [] rs) is took.each in
+    not_both _ away (took_at (begun.terms).shape (begun.terms).most [] front row rest each)
 
 -- Of two lists that begin the same, one is the begin of the other.
 comparable : {A : Type 0} (a b r s : List A) → a ++ r ≡ b ++ s → ((m : List A) × (b ≡ a ++ m)) ⊎ ((m : List A) × (a ≡ b ++ m))

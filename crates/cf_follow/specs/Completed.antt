@@ -16,7 +16,7 @@ pub record IsWatchable (schema : PacketSchema) (begun : RoundsValue) (truncated 
   pub what : CaptureValue
   pub says : ArePacketsTo Any schema truncated file what.rows what.cut
   pub few : length what.rows ≤ begun.limit
-  pub small : All (λ (row : RowValue). is_small (begun.window).shape row ≡ true) what.rows
+  pub small : All (λ (row : RowValue). is_small (begun.terms).shape row ≡ true) what.rows
 
 -- the endings that a capture doesn't decide
 abbrev pub Yields : Ending → Type 0

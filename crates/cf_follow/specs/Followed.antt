@@ -15,11 +15,9 @@ use Rattle.cf_intake.specs.declared.reads.Reads.{Reads}
 use Rattle.cf_intake.specs.declared.refusal.Refusal.{Refusal}
 use Rattle.cf_intake.specs.declared.refusal.Refusal.TheVariants as refusals
 use Rattle.cf_intake.specs.declared.refusal.Stop.TheVariants as stops
-use Rattle.cf_rounds.specs.Held.{IsAt, IsSetAs, RoundsValue}
-use Rattle.cf_rounds.specs.Texts.{halted_text, said_on, watch_text}
-use Rattle.cf_window.specs.Held.{count_of}
+use Rattle.cf_rounds.specs.Held.{IsAt, IsSetAs, RoundsValue, begun_on}
+use Rattle.cf_rounds.specs.Streams.{Stream, Terms, after_reads, begun as begun_stream, forces, halted_text, through, watch_text, with_round}
 use Rattle.cf_setup.specs.Setups.{SetupValue, shaped}
-use Rattle.cf_window.specs.Rounds.{after_reads, start}
 use Rattle.cf_window.specs.Watched.{AreCut, AreEnded, bytes_in_all}
 use Rattle.cf_window.specs.Windows.{after_row, is_refused, rows_in_all, window}
 use Rattle.cf_follow.specs.declared.ending.Ending.{Ending}
@@ -52,19 +50,23 @@ AreTakenFrom shape most segments (row ∷ rows) =
 -- The records of a stream were taken: there are no more than there may be, and none needs more nodes than a segment has.
 pub record AreTaken (begun : RoundsValue) (rows : List RowValue) : Type 0 where
   pub few : length rows ≤ begun.limit
-  pub each : AreTakenFrom (begun.window).shape (begun.window).most [] rows
+  pub each : AreTakenFrom (begun.terms).shape (begun.terms).most [] rows
+
+-- The stream after these reads and the first records of another.
+abbrev pub behind : RoundsValue → List (List RowValue) → List RowValue → Stream
+behind begun reads front = through begun.terms (after_reads begun.terms reads) front
 
 -- What rounds that began so have said after these reads.
 abbrev pub spoken : RoundsValue → List (List RowValue) → List ℕ
-spoken begun reads =
-    (said_on (begun.window).shape begun.setup begun.every (rows_in_all reads) (after_reads (begun.window).shape (begun.window).most reads).rounds).text
+spoken begun reads = (after_reads begun.terms reads).text
 
--- the text of a stream that ends without a fault, and of one that ends with a fault of this line
+-- the text of a stream that ends without a fault
 abbrev pub whole : RoundsValue → List (List RowValue) → List ℕ
-whole begun reads = watch_text (begun.window).shape begun.setup (begun.window).most begun.every reads
+whole begun reads = watch_text begun.terms reads
 
-abbrev pub halted : RoundsValue → List (List RowValue) → List ℕ → List ℕ
-halted begun reads fault = halted_text (begun.window).shape begun.setup (begun.window).most begun.every reads fault
+-- the text of one that ends with a fault of this line
+abbrev pub halted : RoundsValue → Stream → List ℕ → List ℕ
+halted begun stream fault = halted_text begun.terms stream fault
 
 -- `truncated: record K`, where a capture ends within that record, and no line where it ends well
 abbrev pub truncated_line : Option ℕ → List ℕ
@@ -74,8 +76,8 @@ truncated_line (Some k) = codes "truncated: record " ++ (decimal k ++ 10 ∷ [])
 -- Why a record doesn't go in behind these: there are as many as there may be; or else it needs more nodes than a segment has.
 pub data IsTurnedAway (begun : RoundsValue) (rows : List RowValue) (row : RowValue) (why : Refusal) : Type 0 where
   full : length rows ≡ begun.limit → why ≡ refusals.Full begun.limit → IsTurnedAway begun rows row why
-  nodes : length rows < begun.limit → is_refused (begun.window).shape (window (begun.window).shape (begun.window).most rows) row ≡ true
-      → why ≡ refusals.Nodes ((begun.window).shape).nodes → IsTurnedAway begun rows row why
+  nodes : length rows < begun.limit → is_refused (begun.terms).shape (window (begun.terms).shape (begun.terms).most rows) row ≡ true
+      → why ≡ refusals.Nodes ((begun.terms).shape).nodes → IsTurnedAway begun rows row why
 
 -- The capture has this fault: its end shows it, or what was read does, whatever follows. No call is made behind bytes that show one.
 abbrev pub HasBrokenOff : PacketSchema → (truncated : Bool) → (before now : ShelfView) → List ℕ → ℕ → ℕ → Type 0
@@ -83,8 +85,8 @@ HasBrokenOff schema truncated before now bytes at code =
     (FindsEnd before now × ShowNoFault schema bytes × HasPacketFaultTo Any schema truncated bytes at code)
     ⊎ ((now ≡ before) × ShowsFault schema bytes at code × ((more : List ℕ) → HasPacketFaultTo Any schema truncated (bytes ++ more) at code))
 
--- With which text the following of a capture ends so, from what the shelf told to what it tells, and what rounds said before the last call
--- of it. All records before the end were taken. The whole capture was read, and says its rows, or it has a fault. Or a record is turned
+-- With which text the following of a capture ends so, from what the shelf told to what it tells, and what rounds said before the last of
+-- them. All records before the end were taken. The whole capture was read, and says its rows, or it has a fault. Or a record is turned
 -- away: those before it in its read have gone in. Or the shelf failed.
 pub data IsDueOfStream (schema : PacketSchema) (begun : RoundsValue) (truncated : Bool) (before now : ShelfView) (ending : Ending)
     (said text : List ℕ) : Type 0 where
@@ -93,15 +95,15 @@ pub data IsDueOfStream (schema : PacketSchema) (begun : RoundsValue) (truncated 
       → text ≡ whole begun reads ++ truncated_line cut → IsDueOfStream schema begun truncated before now ending said text
   broken : (mid : ShelfView) (bytes : List ℕ) (reads : List (List RowValue)) (at code : ℕ) → AreRead schema before mid bytes reads
       → HasBrokenOff schema truncated mid now bytes at code → AreTaken begun (rows_in_all reads) → ending ≡ Refused (refusals.Capture at code)
-      → said ≡ spoken begun reads → text ≡ halted begun reads (line_of (refusals.Capture at code))
+      → said ≡ spoken begun reads → text ≡ halted begun (after_reads begun.terms reads) (line_of (refusals.Capture at code))
       → IsDueOfStream schema begun truncated before now ending said text
   refused : (bytes : List ℕ) (reads : List (List RowValue)) (front rest : List RowValue) (row : RowValue) (why : Refusal)
       → AreRead schema before now bytes (reads ++ (front ++ row ∷ rest) ∷ []) → AreTaken begun (rows_in_all reads ++ front)
-      → IsTurnedAway begun (rows_in_all reads ++ front) row why → ending ≡ Refused why → said ≡ spoken begun reads
-      → text ≡ halted begun (reads ++ front ∷ []) (line_of why) → IsDueOfStream schema begun truncated before now ending said text
+      → IsTurnedAway begun (rows_in_all reads ++ front) row why → ending ≡ Refused why → said ≡ (behind begun reads front).text
+      → text ≡ halted begun (behind begun reads front) (line_of why) → IsDueOfStream schema begun truncated before now ending said text
   unread : (mid : ShelfView) (bytes : List ℕ) (reads : List (List RowValue)) → AreRead schema before mid bytes reads → FailsToRead mid now
       → ShowNoFault schema bytes → AreTaken begun (rows_in_all reads) → ending ≡ Stopped stops.ReadFault → said ≡ spoken begun reads
-      → text ≡ halted begun reads [] → IsDueOfStream schema begun truncated before now ending said text
+      → text ≡ halted begun (after_reads begun.terms reads) [] → IsDueOfStream schema begun truncated before now ending said text
 
 -- A front of the text is written, with all of what was said before.
 pub record WritesPast (held kept : Option (List ℕ)) (said text : List ℕ) : Type 0 where
@@ -111,9 +113,16 @@ pub record WritesPast (held kept : Option (List ℕ)) (said text : List ℕ) : T
   pub before : Appends held told said
   pub front : WritesFront told kept more
 
+-- What a stream has said when memory ran out before some records of a read: what its rounds said, the one among them that the first of
+-- these records forced, or none.
+abbrev pub HasSaidBefore : Terms → Stream → List RowValue → List ℕ → Type 0
+HasSaidBefore terms stream [] text = text ≡ stream.text
+HasSaidBefore terms stream (row ∷ rest) text =
+    (text ≡ stream.text) ⊎ ((forces terms stream.now row ≡ true) × (text ≡ (with_round terms false stream).text))
+
 -- What was written, from what the sink held to what it holds. The text that is due is written whole. Or the sink failed within it, or within
--- what is said after a read: then what rounds said before that read, or before the end, is written whole, and nothing is read behind it. Or
--- memory ran out, and what the rounds said before stays.
+-- what a round said that a record forced, or one after a read: then what rounds said before is written whole, and nothing is read behind it.
+-- Or memory ran out, between two reads or within the records of one, and what the rounds said before stays.
 pub data IsFollowed (schema : PacketSchema) (begun : RoundsValue) (truncated : Bool) (before now : ShelfView) (held kept : Option (List ℕ))
     (ending : Ending) : Type 0 where
   wrote : (said text : List ℕ) → IsDueOfStream schema begun truncated before now ending said text → Appends held kept text
@@ -121,27 +130,31 @@ pub data IsFollowed (schema : PacketSchema) (begun : RoundsValue) (truncated : B
   cut : (due : Ending) (said text : List ℕ) → ending ≡ Unwritten → IsDueOfStream schema begun truncated before now due said text
       → WritesPast held kept said text → IsFollowed schema begun truncated before now held kept ending
   cut_round : (bytes : List ℕ) (reads : List (List RowValue)) (last : List RowValue) → ending ≡ Unwritten
-      → AreRead schema before now bytes (reads ++ last ∷ []) → AreTaken begun (rows_in_all (reads ++ last ∷ []))
-      → WritesPast held kept (spoken begun reads) (spoken begun (reads ++ last ∷ [])) → IsFollowed schema begun truncated before now held kept ending
+      → AreRead schema before now bytes (reads ++ last ∷ []) → AreTaken begun (rows_in_all reads ++ last)
+      → WritesPast held kept (behind begun reads last).text (spoken begun (reads ++ last ∷ []))
+      → IsFollowed schema begun truncated before now held kept ending
+  cut_forced : (bytes : List ℕ) (reads : List (List RowValue)) (front rest : List RowValue) (row : RowValue) → ending ≡ Unwritten
+      → AreRead schema before now bytes (reads ++ (front ++ row ∷ rest) ∷ []) → AreTaken begun (rows_in_all reads ++ front)
+      → forces begun.terms (behind begun reads front).now row ≡ true
+      → WritesPast held kept (behind begun reads front).text (with_round begun.terms false (behind begun reads front)).text
+      → IsFollowed schema begun truncated before now held kept ending
   out : (mid : ShelfView) (bytes : List ℕ) (reads : List (List RowValue)) → ending ≡ Stopped stops.Memory → AreRead schema before mid bytes reads
       → IsAhead schema bytes mid now → AreTaken begun (rows_in_all reads) → Appends held kept (spoken begun reads)
       → IsFollowed schema begun truncated before now held kept ending
+  out_within : (bytes : List ℕ) (reads : List (List RowValue)) (front rest : List RowValue) (said : List ℕ) → ending ≡ Stopped stops.Memory
+      → AreRead schema before now bytes (reads ++ (front ++ rest) ∷ []) → AreTaken begun (rows_in_all reads ++ front)
+      → HasSaidBefore begun.terms (behind begun reads front) rest said → Appends held kept said
+      → IsFollowed schema begun truncated before now held kept ending
 
 -- the rounds of a setup on a window of so many segments of that capacity and with so many nodes, before the first record
-abbrev pub begun_with : SetupValue → (capacity segments most_nodes every limit : ℕ) → RoundsValue
-begun_with setup capacity segments most_nodes every limit = record {
-  setup = setup;
-  window = record { shape = shaped setup capacity 1 most_nodes; most = segments; from = 0; segments = []; is_spent = false };
-  every = every;
-  limit = limit;
-  marks = [];
-  asked = 0;
-}
+abbrev pub begun_with : SetupValue → (capacity segments most_nodes every beat limit : ℕ) → RoundsValue
+begun_with setup capacity segments most_nodes every beat limit =
+    begun_on (record { setup = setup; shape = shaped setup capacity 1 most_nodes; most = segments; every = every; beat = beat }) limit
 
 -- No record has come, no round was made, and nothing was read.
 pub record IsReady (rounds : RoundsValue) (reading : Reads) : Type 0 where
-  pub at : IsAt rounds [] start []
-  pub unspent : (rounds.window).is_spent ≡ false
+  pub at : IsAt rounds [] (begun_stream rounds.terms)
+  pub unspent : rounds.is_spent ≡ false
   pub have : HaveRead reading [] []
 
 -- The following of a capture goes on: these reads were made, their records have gone in, and what the rounds said is written.
@@ -152,10 +165,10 @@ pub record IsGoingOn (schema : PacketSchema) (begun rounds : RoundsValue) (readi
   pub have : HaveRead reading bytes (rows_in_all reads)
   pub kind : reading.schema ≡ schema
   pub set : IsSetAs begun rounds
-  pub at : IsAt rounds (rows_in_all reads) (after_reads (begun.window).shape (begun.window).most reads) (spoken begun reads)
+  pub at : IsAt rounds (rows_in_all reads) (after_reads begun.terms reads)
   pub took : AreTaken begun (rows_in_all reads)
-  pub unspent : (rounds.window).is_spent ≡ false
-  pub within : count_of rounds.window ≤ rounds.limit
+  pub unspent : rounds.is_spent ≡ false
+  pub within : (rounds.now).count ≤ rounds.limit
   pub written : Appends held kept (spoken begun reads)
 
 -- The end of the capture is found, behind bytes that show no fault.

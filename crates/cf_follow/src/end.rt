@@ -1,11 +1,11 @@
 // The end of a capture.
-ghost use Rattle.std.specs.Prelude.{◌≡◌, ◌≤◌, Bool, ℕ, List, Option, IfOk, [], ◌++◌, string_bytes};
+ghost use Rattle.std.specs.Prelude.{◌≡◌, ◌≤◌, ℕ, List, Option, IfOk, string_bytes};
 ghost use Rattle.cf_outside.specs.Causes.{Rose};
 ghost use Rattle.cf_outside.specs.Files.{ShelfView};
 ghost use Rattle.cf_packet6.specs.declared.PacketSchema.{PacketSchema};
-ghost use Rattle.cf_rounds.specs.Held.{HasEnded, RoundsValue};
-ghost use Rattle.cf_follow.specs.Followed.{IsAtLast, IsFollowed, truncated_line};
-ghost use Rattle.cf_follow.specs.Heard.{Concludes};
+ghost use Rattle.cf_rounds.specs.Held.{RoundsValue};
+ghost use Rattle.cf_follow.specs.Followed.{IsAtLast, IsFollowed};
+ghost use Rattle.cf_follow.specs.Heard.{Concludes, ended_text};
 ghost use Rattle.cf_intake.specs.declared.refusal.Stop.TheVariants as stops;
 ghost use Rattle.cf_follow.specs.declared.ending.Ending.TheVariants as endings;
 
@@ -20,7 +20,7 @@ use std::alloc::Global;
 
 // The text of the end.
 fn end_text(alloc: Global, rounds: &mut Rounds, cut: Option<u64>) -> Result<String, Memory>
-    ensures { IfOk result (λ text. (after : List ℕ) × HasEnded rounds.old [] after × (string_bytes text ≡ after ++ truncated_line cut)) }
+    ensures { IfOk result (λ text. string_bytes text ≡ ended_text rounds.old cut) }
 {
     let mut text = String::new(alloc);
     rounds.finish(alloc, &mut text)?;
@@ -59,7 +59,7 @@ pub(crate) fn end<K: Sink>(
 {
     match reads.finish(alloc, truncated) {
         Ok(cut) => conclude(alloc, &mut rounds, cut, sink),
-        Err(Halt::Refused(why)) => refuse(alloc, &mut rounds, String::new(alloc), why, sink),
+        Err(Halt::Refused(why)) => refuse(alloc, &mut rounds, why, sink),
         Err(Halt::Stopped(stop)) => Ending::Stopped(stop),
     }
 }

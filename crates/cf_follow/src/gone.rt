@@ -1,46 +1,79 @@
 // The rows of a read go into the window.
-ghost use Rattle.std.specs.Prelude.{◌≡◌, ◌≤◌, All, IfOk, IsNone, false, string_bytes};
+ghost use Rattle.std.specs.Prelude.{◌≡◌, ◌≤◌, All, Err, IfOk, IsNone, false, [], ◌∷◌};
+ghost use Rattle.cf_outside.specs.Causes.{Rose};
 ghost use Rattle.cf_row.specs.Row.{Fits};
-ghost use Rattle.cf_intake.specs.Reads.{AreNumberedFrom};
 ghost use Rattle.cf_rounds.specs.Held.{IsSetAs};
-ghost use Rattle.cf_window.specs.Held.{count_of};
 ghost use Rattle.cf_follow.specs.Heard.{HaveGone};
+ghost use Rattle.cf_follow.specs.declared.ending.Ending.TheVariants as endings;
 
+use crate::Ending;
+use crate::said::tell;
 use cf_intake::Refusal;
+use cf_outside::Sink;
 use cf_rounds::{Rounds, Taken};
-use cf_row::{Memory, Row};
+use cf_row::Row;
 use std::alloc::Global;
 use std::thread::Threads;
 
-/// The rows go in, one after another, until one is turned away. What is said where segments are dropped for them goes behind the text.
-pub(crate) fn take_rows<R: Threads>(
+// A row goes in, or is turned away. If a round has to be made before it, what that says is written first.
+fn take_row<R: Threads, K: Sink>(
     rt: &R,
     alloc: Global,
     rounds: &mut Rounds,
-    text: &mut String,
-    rows: &[Row],
-) -> Result<Option<Refusal>, Memory>
-    requires fits { All (Fits rounds.old.window.shape.schema) rows.now }
-    requires numbered { AreNumberedFrom (count_of rounds.old.window) rows.now }
-    requires open { rounds.old.window.is_spent ≡ false }
-    requires within { count_of rounds.old.window ≤ rounds.old.limit }
+    row: &Row,
+    sink: &mut K,
+) -> Result<Option<Refusal>, Ending>
+    requires fits { Fits rounds.old.terms.shape.schema row.now }
+    requires open { rounds.old.is_spent ≡ false }
+    requires within { rounds.old.now.count ≤ rounds.old.limit }
     ensures set { IsSetAs rounds.old rounds.new }
-    ensures gone { IfOk result (λ found. HaveGone rounds.old rows.now (string_bytes text.old) rounds.new (string_bytes text.new) found) }
-    ensures open { IfOk result (λ found. IsNone found → rounds.new.window.is_spent ≡ false) }
-    ensures within { IfOk result (λ found. count_of rounds.new.window ≤ rounds.new.limit) }
+    ensures gone { HaveGone rounds.old (row.now ∷ []) (K.held sink.old) rounds.new (K.held sink.new) result }
+    ensures open { IfOk result (λ found. IsNone found → rounds.new.is_spent ≡ false) }
+    ensures within { IfOk result (λ found. rounds.new.now.count ≤ rounds.new.limit) }
+    ensures later { K.faults sink.old ≤ K.faults sink.new }
+    ensures cause { result ≡ Err endings.Unwritten → Rose (K.faults sink.old) (K.faults sink.new) }
+{
+    match rounds.take(rt, alloc, row)? {
+        Taken::Gone => Ok(None),
+        Taken::Waits => {
+            tell(alloc, rounds, false, "", sink)?;
+            rounds.take_waited(rt, alloc, row)?;
+            Ok(None)
+        }
+        Taken::Full => {
+            let most = rounds.count();
+            Ok(Some(Refusal::Full { most }))
+        }
+        Taken::NoNodes => {
+            let nodes = rounds.shape().nodes();
+            Ok(Some(Refusal::Nodes { nodes }))
+        }
+    }
+}
+
+/// The rows go in, one after another, until one is turned away. What a round says that a row forces is written before it goes in.
+pub(crate) fn take_rows<R: Threads, K: Sink>(
+    rt: &R,
+    alloc: Global,
+    rounds: &mut Rounds,
+    rows: &[Row],
+    sink: &mut K,
+) -> Result<Option<Refusal>, Ending>
+    requires fits { All (Fits rounds.old.terms.shape.schema) rows.now }
+    requires open { rounds.old.is_spent ≡ false }
+    requires within { rounds.old.now.count ≤ rounds.old.limit }
+    ensures set { IsSetAs rounds.old rounds.new }
+    ensures gone { HaveGone rounds.old rows.now (K.held sink.old) rounds.new (K.held sink.new) result }
+    ensures open { IfOk result (λ found. IsNone found → rounds.new.is_spent ≡ false) }
+    ensures within { IfOk result (λ found. rounds.new.now.count ≤ rounds.new.limit) }
+    ensures later { K.faults sink.old ≤ K.faults sink.new }
+    ensures cause { result ≡ Err endings.Unwritten → Rose (K.faults sink.old) (K.faults sink.new) }
 {
     for row in rows {
-        let _few = rounds.count();
-        match rounds.take(rt, alloc, text, row)? {
-            Taken::Gone => {}
-            Taken::Full => {
-                let most = rounds.count() as u64;
-                return Ok(Some(Refusal::Full { most }));
-            }
-            Taken::NoNodes => {
-                let nodes = rounds.shape().nodes();
-                return Ok(Some(Refusal::Nodes { nodes }));
-            }
+        match take_row(rt, alloc, rounds, row, sink) {
+            Ok(None) => {}
+            Ok(Some(why)) => return Ok(Some(why)),
+            Err(ending) => return Err(ending),
         }
     }
     Ok(None)

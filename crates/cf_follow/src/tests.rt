@@ -1,5 +1,5 @@
 // Captures of a few records are followed.
-ghost use Rattle.std.specs.Prelude.{◌≡◌, ◌≤◌, ◌<◌, true, IfOk};
+ghost use Rattle.std.specs.Prelude.{◌≡◌, ◌≤◌, ◌<◌, ◌^◌, true, IfOk};
 ghost use Rattle.cf_packet6.specs.Schema6.{attrs_by};
 ghost use Rattle.cf_packet6.specs.declared.PacketSchema.TheVariants.{Packet};
 ghost use Rattle.cf_setup.specs.declared.source.Source.TheVariants.{Packets};
@@ -11,7 +11,7 @@ use cf_command::WindowSizes;
 use cf_intake::{Reads, Refusal, Stop, read_setup};
 use cf_outside::{MemShelf, MemSink, NotingShelf, Shelf};
 use cf_packet6::PacketSchema;
-use cf_rounds::Rounds;
+use cf_rounds::{Intervals, Rounds};
 use cf_row::Memory;
 use cf_setup::{Setup, Source, shape_of};
 use std::alloc::Global;
@@ -57,7 +57,8 @@ struct Case {
     segments: u32,
     nodes: u32,
     every: u32,
-    limit: u32,
+    beat: u32,
+    limit: u64,
     truncated: bool,
     status: u8,
     text: &'static [&'static str],
@@ -72,7 +73,8 @@ const PLAIN: Case = Case {
     segments: 4,
     nodes: 64,
     every: 1,
-    limit: u32::MAX,
+    beat: 0,
+    limit: 9_007_199_254_740_991,
     truncated: false,
     status: 0,
     text: &[ROUND, END],
@@ -110,19 +112,22 @@ fn watch_of(alloc: Global, setup: Setup, case: &Case) -> Result<Watch, Memory>
     requires capacity { (1 ≤ case.now.capacity) × (case.now.capacity ≤ 64) }
     requires segments { (1 ≤ case.now.segments) × (case.now.segments ≤ 4) }
     requires nodes { case.now.nodes ≤ 64 }
-    ensures packets { IfOk result (λ watch. watch.rounds.window.shape.schema ≡ attrs_by watch.reads.schema) }
+    requires limit { case.now.limit < 2 ^ 53 }
+    ensures packets { IfOk result (λ watch. watch.rounds.terms.shape.schema ≡ attrs_by watch.reads.schema) }
     ensures ready { IfOk result (λ watch. IsReady watch.rounds watch.reads) }
 {
     let shape = shape_of(alloc, &setup, case.capacity, 1, case.nodes)?;
     let Case {
         segments,
         every,
+        beat,
         limit,
         truncated,
         ..
     } = *case;
+    let intervals = Intervals { lives: every, beat };
     Ok(Watch {
-        rounds: Rounds::begin(alloc, setup, shape, segments, every, limit)?,
+        rounds: Rounds::begin(alloc, setup, shape, segments, intervals, limit)?,
         reads: Reads::begin(alloc, PacketSchema::Packet)?,
         truncated,
     })
@@ -137,7 +142,7 @@ fn followed<R: Abort + Threads>(rt: &R, alloc: Global, case: &Case) -> Result<(u
     let mut sink = MemSink::new(alloc, 1000, case.failing_writes.to_vec(alloc)?, 1000)?;
     assert!(rt; shelf.open("c").is_ok());
     assert!(rt; 1 <= case.capacity && case.capacity <= 64 && case.nodes <= 64);
-    assert!(rt; 1 <= case.segments && case.segments <= 4);
+    assert!(rt; 1 <= case.segments && case.segments <= 4 && case.limit < 1 << 53);
     let setup = read(rt, alloc)?;
     let watch = watch_of(alloc, setup, case)?;
     let ending = follow(rt, alloc, watch, &mut shelf, &mut sink);
@@ -174,8 +179,14 @@ fn rounds_come_as_reads_cut_the_capture(rt: HostRuntime) -> Result<(), Fail> {
             text: &[
                 "alert t 1 60 @1\nlive q @0..1 list 1: 0\n",
                 "alert t 2 100 @2\nlive q @1..2 list 1: 1\n",
-                "records 2\nwindow 1\nask q list 1: 1\nalert t 2 100\n",
+                "records 2\nwindow 1\nask q list 1: 1\nalert t 1 60\nalert t 2 100\n",
             ],
+            ..PLAIN
+        },
+        // a beat after each round, which is the last one too
+        Case {
+            beat: 1,
+            text: &[ROUND, "at 2 2\ntotal a count 2 sum 160\n", END],
             ..PLAIN
         },
         // pcapng, whose first four bytes may come in several reads
@@ -305,6 +316,15 @@ fn faults_come_after_a_round(rt: HostRuntime) -> Result<(), Fail> {
             text: &["capture: record 0 code 1\n"],
             ..PLAIN
         },
+        // a beat comes before the line
+        Case {
+            capture: short,
+            every: 0,
+            beat: 9,
+            status: 3,
+            text: &["alert t 1 60 @1\nat 1 1\ntotal a count 1 sum 60\ncapture: record 1 code 5\n"],
+            ..PLAIN
+        },
         // as many as there may be; and a record that no segment takes
         Case {
             limit: 1,
@@ -375,6 +395,23 @@ fn devices_fail_at_each_call(rt: HostRuntime) -> Result<(), Fail> {
             text: &["alert t 1 60 @1\nalert t 2 100 @2\n"],
             ..cut
         },
+        // what a forced round says is written before the next record
+        Case {
+            most: 65536,
+            capacity: 1,
+            segments: 1,
+            failing_writes: &[2],
+            status: 5,
+            text: &["alert t 1 60 @1\n"],
+            ..cut
+        },
+        Case {
+            failing_reads: &[3],
+            beat: 9,
+            status: 4,
+            text: &["alert t 1 60 @1\nat 1 1\ntotal a count 1 sum 60\n"],
+            ..cut
+        },
     ] {
         assert!(rt; 0 < case.most);
         expect(&rt, alloc, &case)?;
@@ -396,7 +433,8 @@ fn a_watch_begins_with_its_sizes(rt: HostRuntime) -> Result<(), Fail> {
         nodes: 2048,
     };
     let schema = PacketSchema::Packet;
-    let watch = Watch::begin(alloc, read(&rt, alloc)?, sizes, 0, false, schema)?;
+    let intervals = Intervals { lives: 0, beat: 0 };
+    let watch = Watch::begin(alloc, read(&rt, alloc)?, sizes, intervals, false, schema)?;
     let ending = follow(&rt, alloc, watch, &mut shelf, &mut sink);
     assert_eq!(rt; number_of(ending), 0);
     assert_eq!(rt; shelf.moved(), [59, 0].as_slice());

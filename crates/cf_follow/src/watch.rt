@@ -20,14 +20,14 @@ use cf_command::WindowSizes;
 use cf_intake::{Reads, Stop};
 use cf_outside::{Shelf, Sink};
 use cf_packet6::PacketSchema;
-use cf_rounds::Rounds;
+use cf_rounds::{Intervals, Rounds};
 use cf_row::Memory;
 use cf_setup::{Setup, shape_of};
 use std::alloc::Global;
 use std::thread::Threads;
 
-/// Records are numbered below 2^32 - 1.
-const LIMIT: u32 = u32::MAX;
+/// Records are numbered below 2^53 - 1, so that each program can read the numbers exactly.
+const LIMIT: u64 = 9_007_199_254_740_991;
 
 /// A capture to follow, before its first round and its first read. If it may be truncated, an end within a record is no fault.
 #[derive(Drop)]
@@ -38,25 +38,24 @@ pub struct Watch {
 }
 
 impl Watch {
-    /// Has a window of these sizes for the records of a setup. The live questions are asked once `every` records came since they were
-    /// last asked.
+    /// Has a window of these sizes for the records of a setup.
     pub fn begin(
         alloc: Global,
         setup: Setup,
         sizes: WindowSizes,
-        every: u32,
+        intervals: Intervals,
         truncated: bool,
         schema: PacketSchema,
     ) -> Result<Watch, Memory>
         requires sizes { AreWindowSizes sizes }
-        ensures begun { IfOk result (λ watch. watch.rounds ≡ begun_with setup sizes.capacity sizes.segments sizes.nodes every (2 ^ 32 - 1)) }
+        ensures begun { IfOk result (λ watch. watch.rounds ≡ begun_with setup sizes.capacity sizes.segments sizes.nodes intervals.lives intervals.beat (2 ^ 53 - 1)) }
         ensures ready { IfOk result (λ watch. IsReady watch.rounds watch.reads) }
         ensures truncated { IfOk result (λ watch. watch.truncated ≡ truncated) }
         ensures schema { IfOk result (λ watch. watch.reads.schema ≡ schema) }
     {
         let shape = shape_of(alloc, &setup, sizes.capacity, 1, sizes.nodes)?;
         Ok(Watch {
-            rounds: Rounds::begin(alloc, setup, shape, sizes.segments, every, LIMIT)?,
+            rounds: Rounds::begin(alloc, setup, shape, sizes.segments, intervals, LIMIT)?,
             reads: Reads::begin(alloc, schema)?,
             truncated,
         })
@@ -66,11 +65,11 @@ impl Watch {
 // The shelf failed: a round is made of what was read.
 fn stop<K: Sink>(alloc: Global, rounds: &mut Rounds, sink: &mut K) -> Ending
     ensures set { IsSetAs rounds.old rounds.new }
-    ensures stopped { StopsAfterRound rounds.old rounds.new (K.held sink.old) (K.held sink.new) result }
+    ensures stopped { StopsAfterRound rounds.old (K.held sink.old) (K.held sink.new) result }
     ensures later { K.faults sink.old ≤ K.faults sink.new }
     ensures cause { result ≡ endings.Unwritten → Rose (K.faults sink.old) (K.faults sink.new) }
 {
-    match tell(alloc, rounds, String::new(alloc), "", sink) {
+    match tell(alloc, rounds, true, "", sink) {
         Ok(()) => Ending::Stopped(Stop::ReadFault),
         Err(ending) => ending,
     }
@@ -86,10 +85,10 @@ fn step<R: Threads, F: Shelf, K: Sink>(
     shelf: &mut F,
     sink: &mut K,
 ) -> Result<bool, Ending>
-    requires packets { rounds.old.window.shape.schema ≡ attrs_by reads.old.schema }
+    requires packets { rounds.old.terms.shape.schema ≡ attrs_by reads.old.schema }
     requires going { (begun : RoundsValue) × (before : ShelfView) × (held : Option (List ℕ)) × (schema : PacketSchema)
         × IsGoingOn schema begun rounds.old reads.old before (view_by (F.rest shelf.old) (F.moved shelf.old)) held (K.held sink.old) }
-    ensures packets { OnOk result (rounds.new.window.shape.schema ≡ attrs_by reads.new.schema) }
+    ensures packets { OnOk result (rounds.new.terms.shape.schema ≡ attrs_by reads.new.schema) }
     ensures files { F.files shelf.new ≡ F.files shelf.old }
     ensures goes { (schema : PacketSchema) (begun : RoundsValue) (before : ShelfView) (held : Option (List ℕ))
         → (on : IsGoingOn schema begun rounds.old reads.old before (view_by (F.rest shelf.old) (F.moved shelf.old)) held (K.held sink.old))
@@ -100,7 +99,7 @@ fn step<R: Threads, F: Shelf, K: Sink>(
     ensures write_cause { result ≡ Err endings.Unwritten → Rose (K.faults sink.old) (K.faults sink.new) }
 {
     if let Some(why) = reads.fault() {
-        return Err(refuse(alloc, rounds, String::new(alloc), why, sink));
+        return Err(refuse(alloc, rounds, why, sink));
     }
     match reads.next(alloc, shelf) {
         Ok(None) => Ok(false),
@@ -124,7 +123,7 @@ fn read_on<R: Threads, F: Shelf, K: Sink>(
     shelf: &mut F,
     sink: &mut K,
 ) -> Result<bool, Ending>
-    requires packets { rounds.old.window.shape.schema ≡ attrs_by reads.old.schema }
+    requires packets { rounds.old.terms.shape.schema ≡ attrs_by reads.old.schema }
     requires ready { IsReady rounds.old reads.old }
     ensures files { F.files shelf.new ≡ F.files shelf.old }
     ensures come { ReadsComeTo reads.old.schema rounds.old rounds.new reads.new (view_by (F.rest shelf.old) (F.moved shelf.old))
@@ -145,8 +144,8 @@ fn read_on<R: Threads, F: Shelf, K: Sink>(
     Ok(false)
 }
 
-/// Follows the opened capture of packets to its end: a round comes after each read that ended a record, and what it says is written
-/// before the next read. A fault is told behind the read that shows it. The segment that the window needs next is opened in a thread of its
+/// Follows the opened capture of packets to its end: a round comes after each read that ended a record, and before a record that forces
+/// one, and what it says is written before the next record. A fault is told behind the read that shows it. The segment that the window needs next is opened in a thread of its
 /// own beside the reads, which has ended when this returns. After 2^64 - 1 reads it ends as without memory.
 pub fn follow<R: Threads, F: Shelf, K: Sink>(
     rt: &R,
@@ -155,7 +154,7 @@ pub fn follow<R: Threads, F: Shelf, K: Sink>(
     shelf: &mut F,
     sink: &mut K,
 ) -> Ending
-    requires packets { watch.rounds.window.shape.schema ≡ attrs_by watch.reads.schema }
+    requires packets { watch.rounds.terms.shape.schema ≡ attrs_by watch.reads.schema }
     requires ready { IsReady watch.rounds watch.reads }
     // What was written is, for the reads that the shelf made, the text of those, or a front of it.
     ensures followed { IsFollowed watch.reads.schema watch.rounds watch.truncated (view_by (F.rest shelf.old) (F.moved shelf.old))

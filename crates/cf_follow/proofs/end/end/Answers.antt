@@ -1,4 +1,4 @@
-use Rattle.std.proofs.Common.{[], inl}
+use Rattle.std.proofs.Common.{inl}
 use Rattle.cf_window.specs.Windows.{rows_in_all}
 use Rattle.cf_follow.proofs.Going.{broken_now, concludes_never, ended_now, kind_sound, refuses_never, stopped_now}
 use Rattle.cf_follow.proofs.end.end.Goals as goal
@@ -18,11 +18,11 @@ returns-in-Err-Refused-clause-ended g c = λ schema begun before now held last.
     let on = last.on in
     let found = rw c.in-Err-Refused.is at c.finish.ensures in
     let bad = rw c.in-Err-Refused.field-0-is at found on.bytes (rows_in_all on.reads) on.have in
-    let refuses = rw c.new.ensures.bytes at c.refuse.ensures.refused in (
+    let refuses = c.refuse.ensures.refused in (
       broken_now schema begun c.args.rounds c.args.reads before last.mid held (g.K.Sink.held c.args.sink.now) on c.args.truncated now
-          (g.K.Sink.held c.refuse.new.sink) c.refuse.new.rounds c.in-Err-Refused.why c.refuse.result bad.0 bad.1 bad.2
-          (inl (last.end, kind_sound schema c.args.reads.schema on.bytes on.kind last.sound, bad.3)) c.refuse.ensures.set refuses,
-      refuses_never c.args.rounds c.refuse.new.rounds [] c.in-Err-Refused.why (g.K.Sink.held c.args.sink.now) (g.K.Sink.held c.refuse.new.sink)
+          (g.K.Sink.held c.refuse.new.sink) c.in-Err-Refused.why c.refuse.result bad.0 bad.1 bad.2
+          (inl (last.end, kind_sound schema c.args.reads.schema on.bytes on.kind last.sound, bad.3)) refuses,
+      refuses_never c.args.rounds c.in-Err-Refused.why (g.K.Sink.held c.args.sink.now) (g.K.Sink.held c.refuse.new.sink)
           c.refuse.result refuses,
     )
 

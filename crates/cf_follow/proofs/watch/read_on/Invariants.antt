@@ -9,7 +9,7 @@ invariant-loop-made g l = record {
   going : (on : IsGoingOn l.initial.reads.schema l.initial.rounds l.rounds l.reads
       (view_by (g.F.Shelf.rest l.initial.shelf) (g.F.Shelf.moved l.initial.shelf))
       (view_by (g.F.Shelf.rest l.shelf) (g.F.Shelf.moved l.shelf)) (g.K.Sink.held l.initial.sink) (g.K.Sink.held l.sink)) × (length on.reads ≡ l._made);
-  packets : ((l.rounds.window).shape).schema ≡ attrs_by l.reads.schema;
+  packets : ((l.rounds.terms).shape).schema ≡ attrs_by l.reads.schema;
   files : g.F.Shelf.files l.shelf ≡ g.F.Shelf.files l.initial.shelf;
   shelf_later : g.F.Shelf.faults l.initial.shelf ≤ g.F.Shelf.faults l.shelf;
   sink_later : g.K.Sink.faults l.initial.sink ≤ g.K.Sink.faults l.sink;

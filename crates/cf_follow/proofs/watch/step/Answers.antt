@@ -7,7 +7,10 @@ use Rattle.cf_intake.specs.Reads.{view_by}
 use Rattle.cf_window.specs.Windows.{rows_in_all}
 use Rattle.cf_follow.specs.Followed.IsAhead.{moved}
 use Rattle.cf_follow.specs.Heard.{Hears}
-use Rattle.cf_follow.proofs.Going.{at_end, broken_now, heard, more_none, more_some, none_of, not_empty, out_now, sound_kind, unread_now}
+use Rattle.cf_follow.proofs.Going.{at_end, broken_now, heard, hears_never, more_none, more_some, none_of, not_empty, out_now, sound_kind, unread_now}
+use Rattle.cf_follow.specs.declared.ending.Ending.TheVariants.{Stopped}
+use Rattle.cf_intake.specs.declared.refusal.Stop.TheVariants.{ReadFault}
+use Rattle.cf_rounds.specs.Streams.{after_reads}
 use Rattle.cf_follow.proofs.watch.step.Goals as goal
 
 pub returns-in-Ok-None-clause-goes : goal.returns-in-Ok-None-clause-goes
@@ -44,7 +47,7 @@ returns-in-Ok-clause-goes g c = λ schema begun before held on.
     more_some schema begun c.args.rounds.now c.args.reads.now c.next.new.self before
     (view_by (g.F.Shelf.rest c.args.shelf.now) (g.F.Shelf.moved c.args.shelf.now))
     (view_by (g.F.Shelf.rest c.next.new.shelf) (g.F.Shelf.moved c.next.new.shelf)) held
-    (g.K.Sink.held c.args.sink.now) given on sound few moves c.hear.new.rounds c.hear.ensures.set says.0 (g.K.Sink.held c.hear.new.sink) some says.1 says.2
+    (g.K.Sink.held c.args.sink.now) given on sound few moves c.hear.new.rounds (g.K.Sink.held c.hear.new.sink) c.in-Ok.field-0 c.hear.ensures.set some says
     c.in-Ok.ensures.open c.in-Ok.ensures.within
 
 pub returns-in-Ok-Some-2-clause-goes : goal.returns-in-Ok-Some-2-clause-goes
@@ -53,15 +56,14 @@ returns-in-Ok-Some-2-clause-goes g c = λ schema begun before held on truncated.
     let moves = rw c.in-Ok-Some.field-0-is at found in
     let given : List RowValue = c.in-Ok-Some.rows.items in
     let some : 0 < length given = not_empty given (ap (λ (n : ℕ). n == 0) (sym c.in-Ok-Some.rows.ok.0) ∙ sym c.if-is_empty.ensures) in
-    let hears = subst (λ (rs : List RowValue). Hears c.args.rounds.now rs c.hear.new.rounds (g.K.Sink.held c.args.sink.now) (g.K.Sink.held c.hear.new.sink)
+    let hears = subst (λ (rs : List RowValue). Hears c.args.rounds.now rs (g.K.Sink.held c.args.sink.now) c.hear.new.rounds (g.K.Sink.held c.hear.new.sink)
     (Err c.in-Err.ending)) c.deref.ensures.value c.in-Err.ensures.heard in
     let few_found = rw c.in-Ok-Some.is at c.next.ensures.few in
     let few : length given ≤ 4097 = rw c.in-Ok-Some.field-0-is at few_found on.bytes (rows_in_all on.reads) on.have in
     let sound = sound_kind schema c.args.reads.now.schema on.bytes on.kind (c.fault.ensures.none (none_of c.fault.result c.in_default.not-Some) on.bytes (rows_in_all on.reads) on.have) in
     heard schema begun c.args.rounds.now c.args.reads.now c.next.new.self before (view_by (g.F.Shelf.rest c.args.shelf.now) (g.F.Shelf.moved c.args.shelf.now))
     (view_by (g.F.Shelf.rest c.next.new.shelf) (g.F.Shelf.moved c.next.new.shelf)) held
-    (g.K.Sink.held c.args.sink.now) given on sound few moves c.hear.new.rounds (g.K.Sink.held c.hear.new.sink) truncated c.in-Err.ending c.hear.ensures.set some
-    hears
+    (g.K.Sink.held c.args.sink.now) given on sound few moves c.hear.new.rounds (g.K.Sink.held c.hear.new.sink) truncated c.in-Err.ending some hears
 
 pub returns-in-Err-Memory-clause-goes : goal.returns-in-Err-Memory-clause-goes
 returns-in-Err-Memory-clause-goes g c = λ schema begun before held on truncated.
@@ -76,14 +78,22 @@ returns-clause-goes g c = λ schema begun before held on truncated.
     let sound = sound_kind schema c.args.reads.now.schema on.bytes on.kind (c.fault.ensures.none (none_of c.fault.result c.in_default.not-Some) on.bytes (rows_in_all on.reads) on.have) in
     unread_now schema begun c.args.rounds.now c.args.reads.now before (view_by (g.F.Shelf.rest c.args.shelf.now) (g.F.Shelf.moved c.args.shelf.now)) held
     (g.K.Sink.held c.args.sink.now) on truncated (view_by (g.F.Shelf.rest c.next.new.shelf) (g.F.Shelf.moved c.next.new.shelf))
-    (g.K.Sink.held c.stop.new.sink) c.stop.new.rounds c.stop.result c.stop.ensures.set sound
+    (g.K.Sink.held c.stop.new.sink) c.stop.result sound
     (c.next.ensures.failed (c.in-Err-ReadFault.is ∙ ap Err c.in-Err-ReadFault.field-0-is)) c.stop.ensures.stopped
 
 pub returns-in-Some-clause-goes : goal.returns-in-Some-clause-goes
 returns-in-Some-clause-goes g c = λ schema begun before held on truncated.
     let bad = c.in-Some.ensures.found on.bytes (rows_in_all on.reads) on.have in
-    let refuses = rw c.new.ensures.bytes at c.refuse.ensures.refused in
     let view = view_by (g.F.Shelf.rest c.args.shelf.now) (g.F.Shelf.moved c.args.shelf.now) in
     broken_now schema begun c.args.rounds.now c.args.reads.now before view held (g.K.Sink.held c.args.sink.now) on truncated view
-    (g.K.Sink.held c.refuse.new.sink) c.refuse.new.rounds c.in-Some.why c.refuse.result bad.0 bad.1 bad.2 (inr (refl, bad.4, λ more. bad.3 truncated more))
-    c.refuse.ensures.set refuses
+    (g.K.Sink.held c.refuse.new.sink) c.in-Some.why c.refuse.result bad.0 bad.1 bad.2 (inr (refl, bad.4, λ more. bad.3 truncated more))
+    c.refuse.ensures.refused
+
+pub returns-in-Ok-Some-2-clause-read_cause : goal.returns-in-Ok-Some-2-clause-read_cause
+returns-in-Ok-Some-2-clause-read_cause g c = λ is.
+    let going = c.requires.going in
+    let on = going.4 in
+    let hears = c.in-Err.ensures.heard (rows_in_all on.reads) (after_reads (going.0).terms on.reads) going.2 (record { at = on.at; written = on.written }) in
+    let same : c.in-Err.ending ≡ Stopped ReadFault = cc is in
+    absurd (hears_never c.args.rounds.now c.deref.result.now (rows_in_all on.reads) (after_reads (going.0).terms on.reads) going.2
+    (g.K.Sink.held c.hear.new.sink) c.in-Err.ending hears same)
