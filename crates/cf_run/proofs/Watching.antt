@@ -5,7 +5,7 @@ use Rattle.cf_command.specs.Call.Call.{watch}
 use Rattle.cf_follow.specs.Completed.{IsWatchable, Yields as EndingYields}
 use Rattle.cf_follow.specs.Followed.{IsDueOfStream, IsFollowed, IsTurnedAway}
 use Rattle.cf_follow.specs.Followed.IsDueOfStream.{done, broken, refused as turned, unread}
-use Rattle.cf_follow.specs.Followed.IsFollowed.{wrote as wrote_all, cut as cut_text, cut_round, out}
+use Rattle.cf_follow.specs.Followed.IsFollowed.{wrote as wrote_all, cut as cut_text, cut_round, cut_forced, out, out_within}
 use Rattle.cf_follow.specs.Followed.IsTurnedAway.{full, nodes}
 use Rattle.cf_follow.specs.declared.ending.Ending.{Ending}
 use Rattle.cf_follow.specs.declared.ending.Ending.TheVariants as endings
@@ -175,7 +175,10 @@ followed_words schema begun truncated before now held kept ending (wrote_all sai
     due_words schema begun truncated before now ending said text due why same words
 followed_words schema begun truncated before now held kept ending (cut_text due said text is of past) why same words = cc (is, same)
 followed_words schema begun truncated before now held kept ending (cut_round bytes reads last is read took past) why same words = cc (is, same)
+followed_words schema begun truncated before now held kept ending (cut_forced bytes reads front rest row is read took forced past) why same words = cc (is, same)
 followed_words schema begun truncated before now held kept ending (out mid bytes reads is read ahead took appends) why same words = cc (is, same)
+followed_words schema begun truncated before now held kept ending (out_within bytes reads front rest said is read took before_it appends) why same words =
+    cc (is, same)
 
 -- an ending of the devices or for want of memory
 ending_yields : (ending : Ending) → (ending ≡ endings.Done) ⊎ EndingYields ending → (ending_status ending ≡ statuses.Done) ⊎ Yields (ending_status ending)

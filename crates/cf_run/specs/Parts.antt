@@ -84,7 +84,7 @@ pub record IsBegun (told : Option (List File)) (call : WatchCall) (now : Option 
   pub begun : watching.rounds ≡ begun_for call setup
   pub truncated : watching.truncated ≡ call.truncated
   pub ready : IsReady watching.rounds watching.reads
-  pub packets : ((watching.rounds).window).shape.schema ≡ attrs_by watching.reads.schema
+  pub packets : ((watching.rounds).terms).shape.schema ≡ attrs_by watching.reads.schema
 
 -- a watch has begun, or the line of its refusal is due, or it was stopped
 abbrev pub WatchBegins : Option (List File) → WatchCall → Option (List ℕ) → Option (List ℕ) → Result Watch Halt → Type 0

@@ -14,9 +14,9 @@ use Rattle.cf_setup.specs.declared.source.Source.TheVariants.{Packets}
 use Rattle.cf_run.specs.Refusals.{ending_status}
 use Rattle.cf_run.specs.declared.status.Status.{Status}
 
--- the rounds that a watch begins with: of the setup, on a window of its sizes, for at most 2^32 - 1 records
+-- the rounds that a watch begins with: of the setup, on a window of its sizes, for at most 2^53 - 1 records
 abbrev pub begun_for : WatchCall → SetupValue → RoundsValue
-begun_for call setup = begun_with setup call.sizes.capacity call.sizes.segments call.sizes.nodes call.every (2 ^ 32 - 1)
+begun_for call setup = begun_with setup call.sizes.capacity call.sizes.segments call.sizes.nodes call.every call.beat (2 ^ 53 - 1)
 
 -- where the shelf tells its files: what is left is the whole file of that name
 abbrev pub IsOpened : Option (List File) → List ℕ → Option (List ℕ) → Type 0

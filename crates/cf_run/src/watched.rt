@@ -16,6 +16,7 @@ use cf_follow::{Watch, follow};
 use cf_intake::{Halt, Refusal, Stop, read_setup, write_all};
 use cf_outside::{OpenFault, Shelf, Sink};
 use cf_packet6::PacketSchema;
+use cf_rounds::Intervals;
 use cf_setup::{Setup, Source};
 use std::alloc::Global;
 use std::thread::Threads;
@@ -60,10 +61,12 @@ fn begin<F: Shelf>(alloc: Global, command: &WatchCommand, shelf: &mut F) -> Resu
     let WatchCommand {
         sizes,
         every,
+        beat,
         truncated,
         ..
     } = *command;
-    let watching = Watch::begin(alloc, setup, sizes, every, truncated, schema)?;
+    let intervals = Intervals { lives: every, beat };
+    let watching = Watch::begin(alloc, setup, sizes, intervals, truncated, schema)?;
     Ok(watching)
 }
 

@@ -56,6 +56,6 @@ returns-clause-begins g c =
       begun = made.begun;
       truncated = made.truncated;
       ready = made.ready;
-      packets = ap (λ (r : RoundsValue). ((r.window).shape).schema) made.begun
+      packets = ap (λ (r : RoundsValue). ((r.terms).shape).schema) made.begun
           ∙ (c.in_ok-setup.ensures.lawful.schema c.in_ok-schema.schema kind ∙ ap attrs_by (sym made.schema));
     }
