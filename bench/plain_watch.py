@@ -20,11 +20,12 @@ sys.path[:0] = [str(ROOT / "tools"), str(ROOT / "bench")]
 import plain  # noqa: E402
 from confluo_report.commands import WordsFault, parse_words  # noqa: E402
 from confluo_report.setups import SetupFault, parse_setup  # noqa: E402
-from plain_answers import Answers  # noqa: E402
+from plain_answers import Answers, quad  # noqa: E402
 
 MOST_READ = 65536
-MOST_RECORDS = 2**32 - 1
-DEFAULTS = {"capacity": 65536, "segments": 4, "nodes": 65536, "every": 4096}
+MOST_RECORDS = 2**53 - 1
+MOST_KEPT = 4096
+DEFAULTS = {"capacity": 65536, "segments": 4, "nodes": 65536, "every": 4096, "beat": 0}
 BITS = {"u8": 8, "u16": 16, "u32": 32, "u64": 64}
 SECTION, INTERFACE, SIMPLE, ENHANCED = 0x0A0D0D0A, 1, 3, 6
 
@@ -99,14 +100,49 @@ def is_known(data, at, order):
 
 
 class Window(Answers):
-    """Answers on the records from `first` on, whose numbers are those in the capture."""
+    """Answers on the records from `first` on, whose numbers are those in the capture; triggers see whole buckets."""
 
-    def __init__(self, setup, first, rows):
+    def __init__(self, setup, first, rows, marks_of=None):
         super().__init__(setup, rows)
-        self.first = first
+        self.first, self.marks_of = first, marks_of or super().marks
 
     def found(self, holds):
         return [self.first + k for k in super().found(holds)]
+
+    def marks(self, trigger):
+        return self.marks_of(trigger)
+
+
+OPERATORS = {"==": int.__eq__, "!=": int.__ne__, "<": int.__lt__, "<=": int.__le__, ">": int.__gt__, ">=": int.__ge__}
+GROWING = {"count": (">", ">="), "sum": (">", ">="), "greatest": (">", ">="), "least": ("<", "<=")}
+
+
+class Kept:
+    """Whole buckets of an aggregate, first the one whose last record came first; of each its values, and for which triggers it was told."""
+
+    def __init__(self):
+        self.buckets, self.told, self.count, self.sum = {}, set(), 0, 0
+
+    def first(self):
+        return next(iter(self.buckets))
+
+    def forgets(self, bucket):
+        return bucket not in self.buckets and len(self.buckets) == MOST_KEPT
+
+    def take(self, bucket, value):
+        if self.forgets(bucket):
+            first = self.first()
+            del self.buckets[first]
+            self.told = {it for it in self.told if it[1] != first}
+        self.buckets[bucket] = self.buckets.pop(bucket, []) + [value]
+        self.count, self.sum = self.count + 1, (self.sum + value) % 2**64
+
+    def marks(self, trigger, is_final):
+        settled = list(self.buckets)
+        if not is_final and trigger.operator not in GROWING[trigger.part]:
+            settled = settled[: max(len(settled) - 2, 0)]
+        parts = ((bucket, quad(self.buckets[bucket])[trigger.part]) for bucket in settled)
+        return sorted((b, min(part, 2**64 - 1)) for b, part in parts if OPERATORS[trigger.operator](part, trigger.number))
 
 
 class Segment:
@@ -117,21 +153,40 @@ class Segment:
 
 
 class Watch:
-    """The window and the rounds of a stream of rows; the lines gather in `lines`."""
+    """The window, the kept buckets and the rounds of a stream of rows; the lines gather in `lines`."""
 
-    def __init__(self, setup, capacity=65536, segments=4, nodes=65536, every=4096, most=MOST_RECORDS):
+    def __init__(self, setup, capacity=65536, segments=4, nodes=65536, every=4096, beat=0, most=MOST_RECORDS):
         self.setup, self.capacity, self.most_segments, self.most_nodes = setup, capacity, segments, nodes
-        self.every, self.most = every, most
-        self.count, self.asked, self.last, self.segments = 0, 0, None, []
-        self.marked = {it.name: set() for it in setup.triggers}
+        self.every, self.beat, self.most = every, beat, most
+        self.count, self.asked, self.beaten, self.second, self.segments = 0, 0, 0, 0, []
+        self.kept = {it.name: Kept() for it in setup.lanes if it.family == "aggregate"}
         self.lines = []
 
     @property
     def first(self):
         return self.segments[0].first if self.segments else 0
 
-    def window(self):
-        return Window(self.setup, self.first, [row for it in self.segments for row in it.rows])
+    def marks(self, trigger, is_final=True):
+        return self.kept[trigger.aggregate.name].marks(trigger, is_final)
+
+    def window(self, marks_of):
+        return Window(self.setup, self.first, [row for it in self.segments for row in it.rows], marks_of)
+
+    def selected(self, row):
+        """What is kept of each aggregate that selects the row, the row's bucket and what is measured of it."""
+        for lane in self.setup.lanes:
+            if lane.family == "aggregate" and lane.select.holds(row):
+                yield self.kept[lane.name], row[0] // self.setup.nanoseconds, row[lane.measure]
+
+    def untold(self, row):
+        """Whether a bucket is forgotten with the row that has a mark not yet told."""
+        for kept, bucket, _ in self.selected(row):
+            if kept.forgets(bucket):
+                for it in self.setup.triggers:
+                    if self.kept[it.aggregate.name] is kept and (it.name, kept.first()) not in kept.told:
+                        if any(b == kept.first() for b, _ in kept.marks(it, False)):
+                            return True
+        return False
 
     def nodes_of(self, row):
         """The nodes on the paths of a row: a lane and a proper beginning of its key, of one digit or more."""
@@ -150,40 +205,46 @@ class Watch:
         if self.count == self.most:
             raise Stop(6, f"full: more than {self.most} records")
         now = self.segments[-1] if self.segments else None
-        if now is None or len(now.rows) == self.capacity or len(now.nodes | nodes) > self.most_nodes:
-            if len(nodes) > self.most_nodes:
-                raise Stop(7, f"nodes: more than {self.most_nodes} nodes")
-            if len(self.segments) == self.most_segments:
-                self.round()
-                del self.segments[0]
+        needs_new = now is None or len(now.rows) == self.capacity or len(now.nodes | nodes) > self.most_nodes
+        if needs_new and len(nodes) > self.most_nodes:
+            raise Stop(7, f"nodes: more than {self.most_nodes} nodes")
+        drops = needs_new and len(self.segments) == self.most_segments
+        if drops or self.untold(row):
+            self.round()
+        if drops:
+            del self.segments[0]
+        if needs_new:
             now = Segment(self.count)
             self.segments.append(now)
         now.rows.append(row)
         now.nodes |= nodes
-        self.count += 1
+        for kept, bucket, value in self.selected(row):
+            kept.take(bucket, value)
+        self.count, self.second = self.count + 1, row[0] // 10**9
 
-    def round(self):
-        """A round, which writes nothing at the place of the one before."""
-        if self.last == (self.first, self.count):
-            return
-        self.last = (self.first, self.count)
-        window = self.window()
+    def round(self, is_last=False):
+        """A round, which may be the last of all."""
         for trigger in self.setup.triggers:
-            marks = window.marks(trigger)
-            for bucket, value in marks:
-                if bucket not in self.marked[trigger.name]:
+            kept = self.kept[trigger.aggregate.name]
+            for bucket, value in kept.marks(trigger, False):
+                if (trigger.name, bucket) not in kept.told:
+                    kept.told.add((trigger.name, bucket))
                     self.lines.append(f"alert {trigger.name} {bucket} {value} @{self.count}")
-            self.marked[trigger.name] = {bucket for bucket, _ in marks}
         if self.every and self.count - self.asked >= self.every:
             self.asked = self.count
+            window = self.window(lambda trigger: self.marks(trigger, False))
             for name in self.setup.lives:
                 body = window.body(self.setup.question(name))
                 self.lines.append(f"live {name} @{self.first}..{self.count} {body}")
+        if self.beat and self.count - self.beaten >= (1 if is_last else self.beat):
+            self.beaten = self.count
+            self.lines.append(f"at {self.count} {self.second}")
+            self.lines += [f"total {name} count {it.count} sum {it.sum}" for name, it in self.kept.items()]
 
     def finish(self, is_cut):
         """The final part."""
-        self.round()
-        front, *rest = self.window().lines()
+        self.round(True)
+        front, *rest = self.window(self.marks).lines()
         self.lines += [f"records {self.count}", f"window {self.first}", *rest]
         self.lines += [f"truncated: record {self.count}"] * is_cut
 
@@ -202,7 +263,7 @@ class Run:
         return "".join(f"{it}\n" for it in lines)
 
     def stop(self, status, line):
-        self.watch.round()
+        self.watch.round(True)
         self.watch.lines.append(line)
         self.status = status
 

@@ -12,14 +12,14 @@ _confluo() {
         synth) options="--setup --seed --count --writers --capacity --segments --nodes" ;;
         snapshot) options="--setup --after --turn --capacity --nodes --truncated" ;;
         dump) options="--schema --truncated" ;;
-        watch) options="--setup --capacity --segments --nodes --every --truncated" ;;
+        watch) options="--setup --capacity --segments --nodes --every --beat --truncated" ;;
         *) options="" ;;
     esac
     case $before in
         --writers) mapfile -t COMPREPLY < <(compgen -W "1 2 4 8 15" -- "$word"); return ;;
         --nodes) mapfile -t COMPREPLY < <(compgen -W "1024 8192 65536" -- "$word"); return ;;
         --segments) mapfile -t COMPREPLY < <(compgen -W "1 2 4 16" -- "$word"); return ;;
-        --every) mapfile -t COMPREPLY < <(compgen -W "0 1 4096" -- "$word"); return ;;
+        --every | --beat) mapfile -t COMPREPLY < <(compgen -W "0 1 4096" -- "$word"); return ;;
         --schema) mapfile -t COMPREPLY < <(compgen -W "packet packet6" -- "$word"); return ;;
         --capacity | --live | --seed | --count | --after | --turn) return ;;
     esac

@@ -24,3 +24,4 @@ complete -c confluo -n "__fish_seen_subcommand_from synth" -l count -x -d "How m
 complete -c confluo -n "__fish_seen_subcommand_from snapshot" -l after -x -d "Turns before the cut"
 complete -c confluo -n "__fish_seen_subcommand_from snapshot" -l turn -x -d "Packets of a turn, 1 to 4096"
 complete -c confluo -n "__fish_seen_subcommand_from watch" -l every -x -a "0 1 4096" -d "Packets between live answers"
+complete -c confluo -n "__fish_seen_subcommand_from watch" -l beat -x -a "0 1 4096" -d "Packets between beats"

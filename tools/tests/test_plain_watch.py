@@ -45,8 +45,19 @@ ROWS = (
         [
             "alert t 1 60 @1 / live q @0..1 list 1: 0 / alert t 2 100 @2 / live q @1..2 list 1: 1",
         ],
-        "records 2 / window 1 / ask q list 1: 1 / alert t 2 100",
+        "records 2 / window 1 / ask q list 1: 1 / alert t 1 60 / alert t 2 100",
     ),
+    # A beat ends a round, and comes before the line of a refusal.
+    (
+        S,
+        C2,
+        [42, 17],
+        {"every": 0, "beat": 2},
+        0,
+        ["alert t 1 60 @1", "alert t 2 100 @2 / at 2 2 / total a count 2 sum 160"],
+        END,
+    ),
+    (S, C2[:-1], [58], {"every": 0, "beat": 5}, 3, ["alert t 1 60 @1"], "at 1 1 / total a count 1 sum 60 / capture: record 1 code 5"),
     (S, C2[:-1], [58], {"every": 0}, 3, ["alert t 1 60 @1"], "capture: record 1 code 5"),
     (
         S,
@@ -81,9 +92,8 @@ ROWS = (
     (b"# x\n schema records ts:u64\n", C2, [59], {}, 2, [], "setup: line 2 code 4"),
     (b"schema records ts:u64\nask q list nope==1\n", C2, [59], {}, 2, [], "setup: line 2 code 11"),
 )
-# A trigger that fires where little comes: bucket 1 stops firing, and is new again in a window without its second record.
-FEW = LANES.replace(b"> 50", b"< 150")
-THREE = pcap([(1, frame()), (1, frame()), (2, frame())], length=100)
+# A trigger whose marks more records may undo: it waits for two later buckets.
+FEW = LANES.replace(b"sum > 50", b"count < 3") + b"ask g fired t\nlive g\n"
 
 
 def lines(text: str) -> str:
@@ -97,11 +107,33 @@ class Rows(unittest.TestCase):
                 found = plain_watch.watch(setup, capture, reads, **options)
                 self.assertEqual(found, (status, [lines(it) for it in texts], lines(end)))
 
-    def test_a_bucket_that_fires_again_is_told_again(self) -> None:
-        status, texts, end = plain_watch.watch(FEW, THREE, [24, 70], capacity=1, segments=2)
+    def test_marks_that_may_be_undone_wait_for_two_later_buckets(self) -> None:
+        seconds = (1, 4_000_000_000, 2, 3, 4)
+        capture = pcap([(second, frame()) for second in seconds])
+        size = (len(capture) - 24) // len(seconds)
+        status, texts, end = plain_watch.watch(FEW, capture, [24] + [size] * 5, every=0)
         self.assertEqual(status, 0)
-        self.assertEqual(texts, ["", "alert t 1 100 @1\n", "", "alert t 1 100 @3\nalert t 2 100 @3\n"])
-        self.assertEqual(end, "records 3\nwindow 1\nalert t 1 100\nalert t 2 100\n")
+        self.assertEqual(texts, ["", "", "", "alert t 1 1 @3\n", "alert t 4000000000 1 @4\n", "alert t 2 1 @5\n"])
+        fired = "".join(f" {it}=1" for it in sorted(seconds))
+        alerts = "".join(f"alert t {it} 1\n" for it in sorted(seconds))
+        self.assertEqual(end, f"records 5\nwindow 0\nask g fired 5:{fired}\n{alerts}")
+
+    def test_a_bucket_longer_than_the_window_is_told_once(self) -> None:
+        setup = LANES.replace(b"sum > 50", b"count > 5") + b"ask g fired t\n"
+        capture = pcap([(1, frame())] * 100)
+        _, texts, end = plain_watch.watch(setup, capture, [2**20], capacity=2, segments=2)
+        self.assertEqual(texts, ["alert t 1 6 @6\n"])
+        self.assertEqual(end, "records 100\nwindow 96\nask g fired 1: 1=100\nalert t 1 100\n")
+
+    def test_what_was_not_told_is_told_before_it_is_forgotten(self) -> None:
+        setup = LANES.replace(b"sum > 50", b"count >= 1")
+        for seconds in (range(5000), range(5000, 0, -1)):
+            capture = pcap([(second, frame()) for second in seconds])
+            _, texts, end = plain_watch.watch(setup, capture, [2**22], every=0)
+            told = [it.split()[2] for it in "".join(texts).splitlines()]
+            self.assertEqual(sorted(told, key=int), [str(it) for it in sorted(seconds)])
+            alerts = [it.split()[2] for it in end.splitlines()[2:]]
+            self.assertEqual(alerts, [str(it) for it in sorted(list(seconds)[-4096:])])
 
     def test_nodes_open_a_segment(self) -> None:
         setup = b"schema packet\nindex i src\nask q find i 0 4294967295\nlive q\n"
@@ -141,8 +173,9 @@ def wanted_end(read: plain.Read) -> tuple[int, str]:
 
 
 def final_of_window(setup: bytes, rows: list, first: int) -> list[str]:
-    """The final part by the answers of a run over the window's rows alone."""
-    window = plain_watch.Window(plain_watch.parse_setup(setup), first, rows[first:])
+    """The final part by the answers of a run over the window's rows, and the alerts of one over all."""
+    whole = plain_answers.Answers(plain_watch.parse_setup(setup), rows)
+    window = plain_watch.Window(plain_watch.parse_setup(setup), first, rows[first:], whole.marks)
     return [f"records {len(rows)}", f"window {first}", *list(window.lines())[1:]]
 
 
@@ -160,6 +193,7 @@ class Drawn(unittest.TestCase):
                 "every": draw.randrange(4),
             }
             options["truncated"] = draw.random() < 0.5
+            options["beat"] = draw.randrange(4)
             sizes = [draw.randrange(1, 200) for _ in range(1 + draw.randrange(40))]
             status, texts, end = plain_watch.watch(setup, data, sizes, **options)
             read = plain.read(data, plain.LINKS["packet"], options["truncated"])
@@ -196,14 +230,14 @@ class Long(unittest.TestCase):
         setup = S.replace(b"live q\n", b"")
         # The end does not depend on the reads; long ones are fewer rounds.
         status, _, end = plain_watch.watch(setup, data, [2**22], capacity=4096, segments=3)
-        rest = plain.read(data, {1}).frames[188_416:]
-        rows = [tuple(plain.row(it, "packet").values()) for it in rest]
-        answers = list(plain_answers.Answers(plain_watch.parse_setup(setup), rows).lines())
+        rows = [tuple(plain.row(it, "packet").values()) for it in plain.read(data, {1}).frames]
+        answers = list(plain_answers.Answers(plain_watch.parse_setup(setup), rows[188_416:]).lines())
+        alerts = [it for it in plain_answers.Answers(plain_watch.parse_setup(setup), rows).lines() if it.startswith("alert")]
         numbers = " ".join(str(188_416 + k) for k in range(11_584))
         self.assertEqual(answers[0], "records 11584")
         self.assertEqual(
             end.splitlines(),
-            ["records 200000", "window 188416", f"ask q list 11584: {numbers}", *answers[2:]],
+            ["records 200000", "window 188416", f"ask q list 11584: {numbers}", *alerts],
         )
         self.assertEqual(status, 0)
 
