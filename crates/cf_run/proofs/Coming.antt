@@ -196,12 +196,6 @@ module _ (told : Option (List File)) (call : SnapshotCall) (before now : Option 
       pub snapshot_stopped : StopsAt told (Some (snapshot call)) stops.Memory before now
       snapshot_stopped = inr (setup, set.0, all_taken (captures setup.source call.truncated setup.schema) told call.captures now (captured_each hosts) read)
 
-      pub snapshot_unmade : (why : Unmade) → All (λ rows. length rows ≤ call.sizes.capacity) (rows_each hosts)
-          → (why ≡ unmade.Nodes → Any (λ rows. call.sizes.nodes < distinct (shape_for setup call.sizes) rows) (rows_each hosts))
-          → EndsWith told (Some (snapshot call)) before now (Err (halt_of call.sizes.nodes why))
-      snapshot_unmade unmade.Nodes few many = snapshot_exceeds (refusals.Nodes call.sizes.nodes) (some_short few (many refl) refl)
-      snapshot_unmade unmade.Memory few many = snapshot_stopped
-
       pub snapshot_told : (text : List ℕ) (seals : List SealValue) → All (LogHasRoom call.sizes setup) (rows_each hosts)
           → IsSnapshotOf call setup (rows_each hosts) (ends_each hosts) text → seals ≡ []
           → IsDue told (Some (snapshot call)) before now Done text seals

@@ -1,4 +1,5 @@
 pub mod OneHost
+pub mod Taken
 pub mod Deciding
 pub mod Ending
 pub mod Coming

@@ -35,10 +35,6 @@ use Rattle.cf_run.specs.declared.status.Status.TheVariants.{Done, Memory, WriteF
 abbrev pub ends_each : List Captured → List (Option ℕ)
 ends_each hosts = map (λ host. host.cut) hosts
 
--- a cut has no more rows of a host than it has
-abbrev pub AreWithin : List ℕ → List (List RowValue) → Type 0
-AreWithin cut hosts = (host : ℕ) → slice_index_or cut host 0 ≤ length (slice_index_or hosts host [])
-
 -- a call's product is due, or the line of its refusal, or it was stopped
 abbrev pub EndsWith : Option (List File) → Option Call → Option (List ℕ) → Option (List ℕ) → Result Product Halt → Type 0
 EndsWith told call before now (Ok product) = IsDue told call before now Done product.text.items product.seals.items

@@ -9,15 +9,16 @@ ghost use Rattle.cf_fill.specs.Work.{draws as draws_from};
 
 use crate::listed::list_rows;
 use crate::reply::{WorkReply, refused};
-use crate::snapshot::{cut_text, is_some_full, load_hosts};
+use crate::snapshot::{is_some_full, snapshot_text};
 use crate::truncated::with_truncated;
-use cf_command::{Command, DumpCommand, LogSizes, RunCommand, SnapshotCommand, SynthCommand};
+use cf_command::{Command, DumpCommand, RunCommand, SnapshotCommand, SynthCommand};
 use cf_fill::{Context, Product, fill_drawn, fill_rows, final_of, opened, report_of};
 use cf_intake::{Halt, Manner, Refusal, Stop, format_of, read_hosts, read_setup};
 use cf_outside::{Gate, Shelf};
 use cf_packet6::PacketSchema;
 use cf_report::Listing;
 use cf_setup::Source;
+use cf_snapshot::Untaken;
 use std::alloc::Global;
 use std::thread::Threads;
 
@@ -117,8 +118,8 @@ fn dump_listing<F: Shelf>(
 }
 
 // The answers of a snapshot, at its cut.
-fn snapshot_answers<R: Threads + Sync, F: Shelf, G: Gate>(
-    context: &Context<'_, R, G>,
+fn snapshot_answers<F: Shelf>(
+    alloc: Global,
     command: &SnapshotCommand,
     shelf: &mut F,
 ) -> Result<Product, Halt>
@@ -127,29 +128,25 @@ fn snapshot_answers<R: Threads + Sync, F: Shelf, G: Gate>(
     ensures ends { EndsWith (F.files shelf.old) (Some (snapshot (snapshot_by command.now))) (F.rest shelf.old) (F.rest shelf.new) result }
     ensures cause { HasHaltCause (F.faults shelf.old) (F.faults shelf.new) result }
 {
-    let alloc = context.alloc;
     let setup = read_setup(alloc, shelf, command.setup)?;
     let manner = Manner {
         format: format_of(&setup),
         truncated: command.truncated,
     };
-    let hosts = read_hosts(alloc, shelf, &command.captures, manner)?;
-    let LogSizes {
-        capacity,
-        nodes,
-        ..
-    } = command.sizes;
-    if is_some_full(&hosts, capacity) {
-        let most = capacity as u64;
+    let captures = read_hosts(alloc, shelf, &command.captures, manner)?;
+    let sizes = command.sizes;
+    if is_some_full(&captures, sizes.capacity) {
+        let most = sizes.capacity as u64;
         return Err(Halt::Refused(Refusal::Full { most }));
     }
-    match load_hosts(context, &setup, &hosts, command.sizes) {
-        Ok(()) => {}
-        Err(why) => return Err(why.halt(nodes)),
+    match snapshot_text(alloc, command, &setup, captures) {
+        Ok(text) => {
+            let seals = Vec::new(alloc);
+            Ok(Product { text, seals })
+        }
+        Err(Untaken::Nodes) => Err(Halt::Refused(Refusal::Nodes { nodes: sizes.nodes })),
+        Err(Untaken::Memory) => Err(Halt::Stopped(Stop::Memory)),
     }
-    let text = cut_text(context, command, &setup, &hosts)?;
-    let seals = Vec::new(alloc);
-    Ok(Product { text, seals })
 }
 
 // The product of a command, which is no watch. No command means that the words are none.
@@ -169,7 +166,7 @@ fn product_of<R: Threads + Sync, F: Shelf, G: Gate>(
         Some(Command::Run(command)) => run_report(context, &command, shelf),
         Some(Command::Synth(command)) => synth_answers(context, &command, shelf),
         Some(Command::Dump(command)) => dump_listing(context.alloc, &command, shelf),
-        Some(Command::Snapshot(command)) => snapshot_answers(context, &command, shelf),
+        Some(Command::Snapshot(command)) => snapshot_answers(context.alloc, &command, shelf),
         // A watch is no report.
         Some(Command::Watch(_)) => unreachable!(),
         None => Err(Halt::Refused(Refusal::Words)),

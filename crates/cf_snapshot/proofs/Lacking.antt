@@ -19,7 +19,8 @@ use Rattle.cf_shape.specs.Lanes.{IsShape}
 use Rattle.cf_table.specs.Moves.{HasPaths}
 use Rattle.cf_table.specs.Values.{LogValue, PassValue, book_of}
 use Rattle.cf_words.specs.Words.{Spot}
-use Rattle.cf_snapshot.specs.Hosts.{AreEnough, IsAlone, LacksNodes}
+use Rattle.cf_alone.specs.Alone.{IsAlone}
+use Rattle.cf_snapshot.specs.Hosts.{AreEnough, LacksNodes}
 
 -- the one book of a pass at rest
 one_book : (P : Book → Type 0) (p : Pass) → Rests p → P (book_of p) → (k : ℕ) (c : Book) → Holds p k c → P c

@@ -7,8 +7,9 @@ use Rattle.cf_row.specs.Row.{RowValue}
 use Rattle.cf_append.specs.declared.appends.AppendFault.{AppendFault}
 use Rattle.cf_snapshot.specs.Snapshots.{SnapValue, IsSnapshot, is_host, tail_of, is_frozen, is_under_way, is_lawful}
 use Rattle.cf_snapshot.specs.declared.event.SnapEvent.TheVariants.{Cover, Freeze, Thaw}
-use Rattle.cf_snapshot.specs.Hosts.{HostValue, HasCovered, IsEvent}
-use Rattle.cf_snapshot.proofs.Hosting.{covered_more}
+use Rattle.cf_alone.specs.Alone.{HasCovered}
+use Rattle.cf_snapshot.specs.Hosts.{HostValue, IsEvent}
+use Rattle.cf_alone.proofs.Alone.{covered_more}
 use Rattle.cf_snapshot.proofs.Lawful.{taken}
 
 pub cover_event : (m n : HostValue) → m.is_frozen ≡ false → length m.entries < 2 ^ 20 → length n.entries ≡ length m.entries + 1 → n.is_frozen ≡ m.is_frozen

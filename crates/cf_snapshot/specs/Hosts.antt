@@ -1,20 +1,12 @@
 -- What contracts see of a host, what its calls do, and which event of a snapshot each of them is.
-use Rattle.std.specs.Prelude.{◌≡◌, ℕ, ◌<◌, ◌≤◌, Bool, true, false, List, ◌∷◌, [], ◌++◌, length, Some, slice_get}
-use Rattle.std.specs.declared.result.Result.{Result}
-use Rattle.std.specs.declared.result.Result.TheVariants.{Ok, Err}
+use Rattle.std.specs.Prelude.{◌≡◌, ℕ, ◌<◌, ◌≤◌, Bool, true, false, List, [], length, Some, slice_get}
 use Rattle.cf_row.specs.Row.{RowValue}
 use Rattle.cf_row.specs.declared.row.Entry.{Entry}
 use Rattle.cf_segments.specs.Needed.{IsNeeded}
 use Rattle.cf_shape.specs.Lanes.{ShapeValue}
 use Rattle.cf_shape.specs.Nodes.{distinct}
 use Rattle.cf_words.specs.Words.{Spot}
-use Rattle.cf_table.specs.Values.{PassValue, LogValue, IsOf, book_of}
-use Rattle.cf_table.specs.Moves.{HasAll, AreFit, MarkedIsFull}
-use Rattle.cf_append.specs.Appends.{Rests}
-use Rattle.cf_append.specs.Paths.{IsOnPath}
 use Rattle.cf_plain.specs.Asks.{rows_in}
-use Rattle.cf_append.specs.declared.appends.AppendFault.{AppendFault}
-use Rattle.cf_append.specs.declared.appends.AppendFault.TheVariants.{Full, NodesFull}
 use Rattle.cf_snapshot.specs.declared.event.SnapEvent.{SnapEvent}
 use Rattle.cf_snapshot.specs.Snapshots.{SnapValue, IsSnapshot, is_host, tail_of, is_frozen, is_lawful, after}
 
@@ -29,32 +21,6 @@ pub record HostValue : Type 0 where
 -- a host that has covered nothing
 abbrev pub empty_host : ShapeValue → HostValue
 empty_host shape = record { shape = shape; entries = []; used = []; is_frozen = false }
-
--- The log has one writer, whose pass is at rest and has seen all that it has finished. Its book is marked only where all places
--- are covered.
-pub record IsAlone (log : LogValue) (pass : PassValue) : Type 0 where
-  pub of : IsOf pass log
-  pub one : (log.shape).writers ≡ 1
-  pub rest : Rests pass.view
-  pub writer : (book_of pass.view).writer ≡ 0
-  pub all : HasAll pass.view
-  pub fit : AreFit log.shape pass.view
-  pub full : MarkedIsFull log.shape pass.view
-
--- How a row was covered, by the entries before and after: as the next entry, which had a place; not at all where all places are
--- covered; and not at all where a node was wanting.
-abbrev pub HasCovered : ShapeValue → RowValue → List Entry → List Entry → Result ℕ AppendFault → Type 0
-HasCovered shape row before entries (Ok offset) = (offset ≡ length before) × (length before < shape.capacity)
-    × (entries ≡ before ++ record { writer = 0; row = row } ∷ [])
-HasCovered shape row before entries (Err Full) = (length before ≡ shape.capacity) × (entries ≡ before)
-HasCovered shape row before entries (Err NodesFull) = entries ≡ before
-
--- What nodes were used, by those before and after: more ones for the row's paths alone; and where one was wanting, all are used.
-pub record HasUsedFor (shape : ShapeValue) (row : RowValue) (before used : List Spot) (answer : Result ℕ AppendFault) : Type 0 where
-  pub spots : List Spot
-  pub is : used ≡ before ++ spots
-  pub on : (j : ℕ) (s : Spot) → slice_get spots j ≡ Some s → IsOnPath shape row s
-  pub full : answer ≡ Err NodesFull → length used ≡ shape.nodes
 
 -- the path of some of these rows goes through each used node
 abbrev pub AreNeeded : ShapeValue → List RowValue → List Spot → Type 0

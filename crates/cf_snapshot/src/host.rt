@@ -4,7 +4,8 @@ ghost use Rattle.cf_row.specs.Row.{Fits};
 ghost use Rattle.cf_append.specs.declared.appends.AppendFault.TheVariants.{NodesFull};
 ghost use Rattle.cf_table.specs.Values.{book_of};
 ghost use Rattle.cf_plain.specs.Asks.{Suits, eval};
-ghost use Rattle.cf_snapshot.specs.Hosts.{AreEnough, IsAlone, HasCovered, HasEnough, HasUsedFor, IsEvent, LacksNodes, empty_host};
+ghost use Rattle.cf_alone.specs.Alone.{IsAlone, HasCovered, HasUsedFor};
+ghost use Rattle.cf_snapshot.specs.Hosts.{AreEnough, HasEnough, IsEvent, LacksNodes, empty_host};
 ghost use Rattle.cf_snapshot.specs.Snapshots.{is_under_way};
 ghost use Rattle.cf_snapshot.specs.declared.event.SnapEvent.TheVariants.{Cover, Freeze, Thaw};
 
@@ -30,7 +31,8 @@ pub struct Host {
 
 impl Model for Host {
     ghost use Rattle.cf_table.specs.Values.{book_of};
-    ghost use Rattle.cf_snapshot.specs.Hosts.{HostValue, IsAlone};
+    ghost use Rattle.cf_alone.specs.Alone.{IsAlone};
+    ghost use Rattle.cf_snapshot.specs.Hosts.{HostValue};
 
     ghost Value = { HostValue };
 

@@ -11,9 +11,6 @@ mod host;
 #[cfg(test)]
 mod host_tests;
 mod laws;
-mod plan;
-#[cfg(test)]
-mod plan_tests;
 mod snap;
 mod take;
 #[cfg(test)]
@@ -28,6 +25,5 @@ pub use laws::{
     cuts_are_of_one_moment, cuts_come_by_release, cuts_end_at_the_last_freeze,
     cuts_have_all_earlier, plans_have_cuts,
 };
-pub use plan::cut_of_turns;
 pub use snap::{Snap, snap_step};
 pub use take::{Pace, Snapshot, take_snapshot};

@@ -4,7 +4,7 @@ ghost use Rattle.cf_plain.specs.Asks.{Suits};
 ghost use Rattle.cf_row.specs.Row.{Fits};
 
 use crate::host_tests::{row_of, shape_of};
-use crate::{Course, Pace, Snapshot, Untaken, cut_of_turns, take_snapshot};
+use crate::{Course, Pace, Snapshot, Untaken, take_snapshot};
 use cf_plain::{Answer, Ask, Body, suits};
 use cf_row::{Memory, Row, fits};
 use cf_shape::Shape;

@@ -25,13 +25,13 @@ use Rattle.cf_plain.specs.Asks.{rows_in}
 use Rattle.cf_segments.specs.Needed.{IsNeeded, IsOut, HasNodes}
 use Rattle.cf_segments.proofs.Nodes.{too_many, few_enough}
 use Rattle.cf_segments.proofs.Pigeons.{in_either, from_map}
-use Rattle.cf_snapshot.specs.Hosts.{IsAlone, HasCovered, HasUsedFor}
+use Rattle.cf_alone.specs.Alone.{IsAlone, HasCovered, HasUsedFor}
 use Rattle.std.specs.declared.alloc.AllocError.{AllocError}
 use Rattle.cf_plain.specs.Segments.{finding_in}
 use Rattle.cf_plain.specs.declared.ask.Ask.{Ask}
 use Rattle.cf_plain.specs.declared.finding.Finding.{Finding}
 use Rattle.cf_query.specs.Asking.{HasAsked}
-use Rattle.cf_snapshot.proofs.Hosting.{alone_still, seen_still}
+use Rattle.cf_alone.proofs.Alone.{alone_still, seen_still}
 use Rattle.cf_window.specs.Segments.{WindowSegmentValue, IsWindowSegment, with_row}
 use Rattle.cf_window.specs.Windows.{takes}
 

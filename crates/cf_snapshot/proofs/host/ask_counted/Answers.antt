@@ -1,4 +1,4 @@
-use Rattle.cf_snapshot.proofs.Hosting.{asked_either, asked_seen, alone_still, seen_still}
+use Rattle.cf_alone.proofs.Alone.{asked_either, asked_seen, alone_still, seen_still}
 use Rattle.cf_snapshot.proofs.host.ask_counted.Goals as goal
 
 pub returns-clause-alone : goal.returns-clause-alone

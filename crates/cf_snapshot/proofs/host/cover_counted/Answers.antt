@@ -1,5 +1,5 @@
 use Rattle.std.proofs.Common.{arith}
-use Rattle.cf_snapshot.proofs.Hosting.{placed, alone_then, covered, used_for}
+use Rattle.cf_alone.proofs.Alone.{placed, alone_then, covered, used_for}
 use Rattle.cf_snapshot.proofs.Lacking.{enough_ok, lacking}
 use Rattle.cf_snapshot.proofs.host.cover_counted.Goals as goal
 

@@ -1,6 +1,6 @@
 use Rattle.std.proofs.Common.{◌∙◌, List, length, ap}
 use Rattle.cf_row.specs.declared.row.Entry.{Entry}
-use Rattle.cf_snapshot.proofs.Hosting.{seen_still}
+use Rattle.cf_alone.proofs.Alone.{seen_still}
 use Rattle.cf_window.proofs.Taken.{still}
 use Rattle.cf_window.proofs.segment.count_counted.Goals as goal
 

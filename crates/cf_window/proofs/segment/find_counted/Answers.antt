@@ -1,6 +1,6 @@
 use Rattle.std.proofs.Common.{◌≤◌, List, length, subst}
 use Rattle.cf_row.specs.declared.row.Entry.{Entry}
-use Rattle.cf_snapshot.proofs.Hosting.{seen_still}
+use Rattle.cf_alone.proofs.Alone.{seen_still}
 use Rattle.cf_window.proofs.Taken.{asked_by, found_by, still}
 use Rattle.cf_window.proofs.segment.find_counted.Goals as goal
 

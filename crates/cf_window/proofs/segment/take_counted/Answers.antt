@@ -1,5 +1,5 @@
 use Rattle.std.proofs.Common.{◌∙◌, Bool, not, ap, sym, subst, arith}
-use Rattle.cf_snapshot.proofs.Hosting.{placed, alone_then, covered, used_for}
+use Rattle.cf_alone.proofs.Alone.{placed, alone_then, covered, used_for}
 use Rattle.cf_window.specs.Segments.{IsWindowSegment, with_row}
 use Rattle.cf_plain.specs.Asks.{rows_in}
 use Rattle.cf_window.proofs.Taken.{taken, taken_all, taken_answer, taken_rows}

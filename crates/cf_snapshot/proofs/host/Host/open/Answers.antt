@@ -2,7 +2,8 @@ use Rattle.std.proofs.Common.{◌≡◌, ◌∙◌, Some, slice_get, ap, sym, ar
 use Rattle.std.proofs.lemmas.Option.{slice_get-get_or}
 use Rattle.cf_shape.specs.Lanes.{ShapeValue}
 use Rattle.cf_table.specs.Values.{PassValue, book_of}
-use Rattle.cf_snapshot.proofs.Hosting.{opened, opened_count, opened_seen, opened_used, empty_by}
+use Rattle.cf_alone.proofs.Alone.{opened, opened_count, opened_seen, opened_used}
+use Rattle.cf_snapshot.proofs.Hosting.{empty_by}
 use Rattle.cf_snapshot.proofs.host.Host.open.Goals as goal
 
 pub swap_remove-pass-requires : goal.swap_remove-pass-requires

@@ -2,7 +2,7 @@ use Rattle.std.proofs.Common.{◌≡◌, ◌∙◌, Some, slice_get, ap, sym, ar
 use Rattle.std.proofs.lemmas.Option.{slice_get-get_or}
 use Rattle.cf_shape.specs.Lanes.{ShapeValue}
 use Rattle.cf_table.specs.Values.{PassValue}
-use Rattle.cf_snapshot.proofs.Hosting.{opened, opened_count, opened_seen, opened_used}
+use Rattle.cf_alone.proofs.Alone.{opened, opened_count, opened_seen, opened_used}
 use Rattle.cf_window.proofs.Taken.{empty_segment, empty_value}
 use Rattle.cf_window.proofs.segment.WindowSegment.open.Goals as goal
 
