@@ -1,5 +1,5 @@
 -- How the log of some rows is loaded.
-use Rattle.std.specs.Prelude.{◌≡◌, ◌<◌, ◌*◌, ℕ, List, length, map}
+use Rattle.std.specs.Prelude.{◌≡◌, ◌<◌, ◌≤◌, ◌*◌, ℕ, List, length, map}
 use Rattle.cf_row.specs.Row.{RowValue}
 use Rattle.cf_row.specs.declared.row.Entry.{Entry}
 use Rattle.cf_history.specs.Order.{IsLogOf, order_of}
@@ -13,6 +13,7 @@ use Rattle.cf_load.specs.Loading.{HasAnswered}
 use Rattle.cf_load.specs.Planned.{asks_of, finding_on, marks_on, tails_of}
 use Rattle.cf_query.specs.Tags.{nums_of}
 use Rattle.cf_load.specs.declared.plan.LivePlan.{LivePlan}
+use Rattle.cf_segments.specs.Blocks.{block}
 use Rattle.cf_segments.specs.declared.segments.Sealing.{Sealing}
 use Rattle.cf_report.specs.Tags.{bare}
 use Rattle.cf_command.specs.declared.words.LogSizes.{LogSizes}
@@ -66,7 +67,7 @@ pub record IsLogFound (shape : ShapeValue) (plan : LivePlan) (rows : List RowVal
   pub writers : sealing.writers.items ≡ order_of entries
   pub is : IsLogOf rows shape.writers entries
   pub found_are : found ≡ map (finding_on shape entries) (asks_of plan)
-  pub few_nodes : NeedsAtMost shape (shape.writers * shape.nodes) rows
+  pub few_nodes : (k : ℕ) → distinct shape (block shape.capacity k rows) ≤ shape.writers * shape.nodes
 
 -- the paths of the rows of each segment need no more different nodes than all writers have in it
 abbrev pub NodesSuffice : SetupValue → LogSizes → List RowValue → Type 0

@@ -27,7 +27,7 @@ weaker P Q so [] all = tt
 weaker P Q so (m ∷ ms) all = (so m all.0, weaker P Q so ms all.1)
 
 -- the numbers of a range that pass are in it
-in_range : (p : ℕ → Bool) (k n : ℕ) → AllByRecursion (λ m. (k ≤ m) × (m < k + n)) (filter p (range_with_len k n))
+pub in_range : (p : ℕ → Bool) (k n : ℕ) → AllByRecursion (λ m. (k ≤ m) × (m < k + n)) (filter p (range_with_len k n))
 in_range p k zero = tt
 in_range p k (suc n) =
     let rest = weaker (λ m. (k + 1 ≤ m) × (m < k + 1 + n)) (λ m. (k ≤ m) × (m < k + suc n))
@@ -39,7 +39,7 @@ in_range p k (suc n) =
     ]
 
 -- and ascend
-climbs_range : (p : ℕ → Bool) (k n : ℕ) → Climbs (filter p (range_with_len k n))
+pub climbs_range : (p : ℕ → Bool) (k n : ℕ) → Climbs (filter p (range_with_len k n))
 climbs_range p k zero = tt
 climbs_range p k (suc n) =
     let rest : Climbs (filter p (range_with_len (k + 1) n)) = climbs_range p (k + 1) n in
@@ -67,7 +67,7 @@ told : (f : RowValue → ℕ) (p : RowValue → Bool) (rows : List RowValue) →
 told f p rows = told_from f p rows rows 0 (λ i. ap (row_at rows) (omega arith))
 
 -- what stays as it is, each of some numbers
-all_stay : (f : ℕ → ℕ) (P : ℕ → Type 0) → ((m : ℕ) → P m → f m ≡ m) → (ms : List ℕ) → AllByRecursion P ms → map f ms ≡ ms
+pub all_stay : (f : ℕ → ℕ) (P : ℕ → Type 0) → ((m : ℕ) → P m → f m ≡ m) → (ms : List ℕ) → AllByRecursion P ms → map f ms ≡ ms
 all_stay f P stays [] all = refl
 all_stay f P stays (m ∷ ms) all = ap₂ (λ (n : ℕ) (ns : List ℕ). n ∷ ns) (stays m all.0) (all_stay f P stays ms all.1)
 
@@ -78,7 +78,7 @@ num_at (e ∷ es) zero = refl
 num_at (e ∷ es) (suc place) = num_at es place
 
 -- numbers that ascend are sorted
-sorted_stay : (ms : List ℕ) → Climbs ms → sort ms ≡ ms
+pub sorted_stay : (ms : List ℕ) → Climbs ms → sort ms ≡ ms
 sorted_stay ms up = climbing_is_one (sort ms) ms (climbs_sort ms) up (λ n. count_sort n ms)
 
 module _ (shape : ShapeValue) (first : ℕ) (entries : List Entry) (rows : List RowValue) (same : SameRows (rows_in entries) rows)
@@ -118,9 +118,9 @@ module _ (shape : ShapeValue) (first : ℕ) (entries : List Entry) (rows : List 
       (quad_is_one (amounts attr expr (rows_in entries)) (amounts attr expr rows) (often (λ row. number_at row attr) (holds_of expr) (rows_in entries) rows same))
 
   -- what all questions find
-  pub all_by_row : (questions : List Ask) → map (by_row first nums) (found_in shape questions (rows_in entries)) ≡ found_in shape questions rows
-  all_by_row [] = refl
-  all_by_row (ask ∷ questions) = ap₂ (λ (f : Finding) (fs : List Finding). f ∷ fs) (found_by_row ask) (all_by_row questions)
+  pub all_told : (questions : List Ask) → map (by_row first nums) (found_in shape questions (rows_in entries)) ≡ found_in shape questions rows
+  all_told [] = refl
+  all_told (ask ∷ questions) = ap₂ (λ (f : Finding) (fs : List Finding). f ∷ fs) (found_by_row ask) (all_told questions)
 
 -- places that are found are within
 places_within : (p : RowValue → Bool) (rows : List RowValue) → All (λ place. place < length rows) (places p rows)

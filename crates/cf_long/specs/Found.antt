@@ -4,8 +4,6 @@ use Rattle.cf_row.specs.Row.{RowValue}
 use Rattle.cf_shape.specs.Lanes.{ShapeValue}
 use Rattle.cf_plain.specs.Segments.{body_of, finding_in, joined}
 use Rattle.cf_plain.specs.declared.answer.Body.{Body}
-use Rattle.cf_plain.specs.declared.answer.Body.TheVariants as bodies
-use Rattle.cf_plain.specs.declared.answer.Fired.{Fired}
 use Rattle.cf_plain.specs.declared.ask.Ask.{Ask}
 use Rattle.cf_plain.specs.declared.finding.Finding.{Finding}
 
@@ -24,10 +22,3 @@ abbrev pub body_of_each : List Ask → List Finding → List Body
 body_of_each [] found = []
 body_of_each (ask ∷ asks) [] = []
 body_of_each (ask ∷ asks) (finding ∷ found) = body_of ask finding ∷ body_of_each asks found
-
--- the marks of an answer about a trigger
-abbrev pub marks_of : Body → List Fired
-marks_of (bodies.Places places) = []
-marks_of (bodies.Total quad) = []
-marks_of (bodies.Marks marks) = marks
-marks_of (bodies.Tops tops) = []

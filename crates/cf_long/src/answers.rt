@@ -1,9 +1,13 @@
 // The answers that findings tell.
 ghost use Rattle.std.specs.Prelude.{◌≡◌, List, length, map, IfOk};
+ghost use Rattle.cf_load.specs.Planned.{asks_of};
 ghost use Rattle.cf_row.specs.Row.{RowValue};
 ghost use Rattle.cf_shape.specs.Lanes.{ShapeValue};
-ghost use Rattle.cf_long.specs.Found.{body_of_each, marks_of as marks_in};
+ghost use Rattle.cf_report.specs.Report.{marks_of as marks_in};
+ghost use Rattle.cf_long.specs.Answered.{AreAnswers};
+ghost use Rattle.cf_long.specs.Found.{body_of_each, found_in};
 
+use cf_load::LivePlan;
 use cf_plain::{Ask, Body, Finding, Marks};
 use cf_row::Memory;
 use std::alloc::Global;
@@ -51,4 +55,26 @@ fn marks_of_each(alloc: Global, bodies: Vec<Body>) -> Result<Vec<Marks>, Memory>
         all.push(marks_of(alloc, body))?;
     }
     Ok(all)
+}
+
+/// The answers to all that a plan asks, by what each question and then each trigger found in so many rows.
+pub(crate) fn answers_of(
+    alloc: Global,
+    plan: &LivePlan,
+    count: u32,
+    found: Vec<Finding>,
+) -> Result<Answers, Memory>
+    requires each { length found.items ≡ length (asks_of plan.now) }
+    ensures { (shape : ShapeValue) (rows : List RowValue) → count ≡ length rows → found.items ≡ found_in shape (asks_of plan.now) rows
+        → IfOk result (AreAnswers shape plan.now.asks.items plan.now.triggers.items rows) }
+{
+    let asks = plan.questions(alloc)?;
+    let mut finals = bodies_of(alloc, asks, found)?;
+    let fired = finals.split_off(plan.asks.len())?;
+    let alerts = marks_of_each(alloc, fired)?;
+    Ok(Answers {
+        count,
+        finals,
+        alerts,
+    })
 }

@@ -4,7 +4,7 @@ use Rattle.std.specs.List.{All}
 use Rattle.cf_row.specs.declared.row.Entry.{Entry}
 use Rattle.cf_shape.specs.Lanes.{ShapeValue}
 use Rattle.cf_plain.specs.Asks.{Suits}
-use Rattle.cf_plain.specs.Answered.{finding_on}
+use Rattle.cf_load.specs.Planned.{finding_on}
 use Rattle.cf_plain.specs.declared.ask.Ask.{Ask}
 use Rattle.cf_segments.specs.Segments.{SegmentsValue}
 use Rattle.cf_load.proofs.Asking.{all_findings, can_ask, questions_after}
@@ -24,8 +24,8 @@ find_each-requires g c =
           (questions_after s t keeps asks c.in_ok-questions.questions.items c.in_ok-questions.ensures.are)),
     )
 
-pub returns-clause-findings : goal.returns-clause-findings
-returns-clause-findings g c =
+pub returns-clause-found : goal.returns-clause-found
+returns-clause-found g c =
     let s : SegmentsValue = c.args.segments.now in
     let t : SegmentsValue = c.questions_of.new.segments in
     let asks : List Ask = c.args.asks.items in

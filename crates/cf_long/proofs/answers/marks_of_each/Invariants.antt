@@ -1,5 +1,5 @@
 use Rattle.std.proofs.Common.{◌≡◌, map}
-use Rattle.cf_long.specs.Found.{marks_of}
+use Rattle.cf_report.specs.Report.{marks_of}
 use Rattle.cf_long.proofs.answers.marks_of_each.Given as goal
 
 abbrev pub invariant-loop-body : goal.invariant-loop-body
