@@ -1,8 +1,7 @@
-use Rattle.std.proofs.Common.{List, map, ap, rules, ◌∙◌}
+use Rattle.std.proofs.Common.{map, rules}
 use Rattle.std.proofs.lemmas.List.Elements.{All-append, All-map}
 use Rattle.cf_fold.specs.declared.trigger.Trigger.{Trigger}
 use Rattle.cf_plain.specs.Asks.{Suits}
-use Rattle.cf_plain.specs.declared.ask.Ask.{Ask}
 use Rattle.cf_plain.specs.declared.ask.Ask.TheVariants.{Fired}
 use Rattle.cf_segments.proofs.Kept.{all_none}
 use Rattle.cf_load.proofs.finals.findings_on_all.Goals as goal
