@@ -1,5 +1,5 @@
 -- A log is filled row by row.
-use Rattle.std.proofs.Common.{append-nil, ◌≡◌, ◌⊎◌, inl, inr, ℕ, ◌+◌, ◌*◌, ◌<◌, ◌≤◌, ◌%◌, Bool, true, false, List, [], ◌++◌, length, map, All, refl, sym, ap, ap₂, subst, ◌∙◌, arith, length-append, mul_comm, ◌^◌}
+use Rattle.std.proofs.Common.{append-nil, ◌≡◌, ◌⊎◌, inl, inr, ℕ, ◌+◌, ◌*◌, ◌<◌, ◌≤◌, ◌%◌, Bool, true, false, List, [], ◌++◌, length, map, All, refl, sym, ap, ap₂, subst, ◌∙◌, arith, length-append, mul_comm}
 use Rattle.std.proofs.lemmas.Bool.{both_ways, false_from_ne_true}
 use Rattle.std.proofs.lemmas.Bool.Decides.{leb_tells}
 use Rattle.std.proofs.lemmas.List.{drop_at}
@@ -9,10 +9,12 @@ use Rattle.cf_row.specs.Row.{RowValue, Fits}
 use Rattle.cf_row.specs.declared.schema.Attr.{Attr}
 use Rattle.cf_shape.specs.Lanes.{ShapeValue}
 use Rattle.cf_plain.specs.Answered.{LoadedValue, answer_on}
+use Rattle.cf_plain.specs.declared.finding.Finding.{Finding}
 use Rattle.cf_plain.specs.declared.loaded.Live.{Live}
 use Rattle.cf_table.specs.Moves.{SealValue}
-use Rattle.cf_history.specs.Order.{IsLogOf}
-use Rattle.cf_load.specs.Loaders.{LoaderValue, IsFresh, IsLoading, IsFinished}
+use Rattle.cf_history.specs.Order.{IsLogOf, order_of}
+use Rattle.cf_query.specs.Tags.{nums_of}
+use Rattle.cf_load.specs.Loaders.{LoaderValue, IsFresh, IsLoading, IsFinished, IsFoundIn}
 use Rattle.cf_load.specs.Loading.{HasAnswered}
 use Rattle.cf_segments.specs.Segments.{SegmentsValue, HoldsRows, KeepsSegment, all_of, entries_of, room_of, sealed, told_of}
 use Rattle.cf_load.specs.Planned.{tails_of, marks_on}
@@ -23,8 +25,8 @@ use Rattle.cf_segments.proofs.Chains.{rows_are_log}
 use Rattle.cf_segments.proofs.Kept.{kept_base, kept_shape}
 use Rattle.cf_command.specs.declared.words.LogSizes.{LogSizes}
 use Rattle.cf_setup.specs.Setups.{SetupValue}
-use Rattle.cf_fill.specs.Filling.{FillingValue, KeepsLog, IsLoadedSo, AreLoaded, HasBatch, IsFilled, LoadsWaiting, IsFilledFor, most_waiting, rows_waiting}
-use Rattle.cf_fill.specs.Logs.{IsPlanOf, IsLogClosed, IsLogSealed, IsUnmade}
+use Rattle.cf_fill.specs.Filling.{FillingValue, KeepsLog, IsLoadedFor, IsLoadedSo, AreLoaded, HasBatch, IsFilled, LoadsWaiting, IsFilledFor, most_waiting, rows_waiting}
+use Rattle.cf_fill.specs.Logs.{IsPlanOf, IsLogClosed, IsLogFound, IsLogSealed, IsUnmade}
 use Rattle.cf_fill.specs.Needs.{NeedsMore}
 use Rattle.cf_fill.specs.Seals.{AreSeals}
 use Rattle.cf_fill.specs.Work.{shape_for}
@@ -135,14 +137,31 @@ log_closed s t rows loader answered entries seals so finished seen made =
 
 -- and what is told of it once it is finished and closed, with the shape and the plan that it began with
 pub closed_at : (shape : ShapeValue) (plan : LivePlan) (s t : SegmentsValue) (rows : List RowValue) (loader : LoaderValue) (answered : LoadedValue)
-    (entries : List Entry) (seals : List SealValue) → s.shape ≡ shape → loader.plan ≡ plan → AreLoaded s rows loader → loader.stopped ≡ false
+    (entries : List Entry) (seals : List SealValue) → IsLoadedFor shape plan rows s loader
     → ((all : List RowValue) → IsLoading s all loader → IsFinished all loader s t answered) → entries ≡ entries_of t → seals ≡ map sealed (all_of t)
     → IsLogClosed shape plan rows entries seals answered
-closed_at shape plan s t rows loader answered entries seals same same_plan loaded going finished seen made =
-    let so = loaded_of s rows loader loaded going in
-    subst (λ (h : ShapeValue). IsLogClosed h plan rows entries seals answered) same
-    (subst (λ (p : LivePlan). IsLogClosed s.shape p rows entries seals answered) same_plan
-    (log_closed s t rows loader answered entries seals so (finished rows so.loading) seen made))
+closed_at shape plan s t rows loader answered entries seals loaded finished seen made =
+    subst (λ (h : ShapeValue). IsLogClosed h plan rows entries seals answered) loaded.shape_is
+    (subst (λ (p : LivePlan). IsLogClosed s.shape p rows entries seals answered) loaded.plan_is
+    (log_closed s t rows loader answered entries seals loaded.so (finished rows loaded.so.loading) seen made))
+
+-- the same where what was found is told
+pub found_at : (shape : ShapeValue) (plan : LivePlan) (s t : SegmentsValue) (rows : List RowValue) (loader : LoaderValue) (sealing : Sealing)
+    (found : List Finding) → IsLoadedFor shape plan rows s loader → ((all : List RowValue) → IsLoading s all loader → IsFoundIn all loader s t found)
+    → sealing.nums.items ≡ nums_of (entries_of t) → sealing.writers.items ≡ order_of (entries_of t) → IsLogFound shape plan rows sealing found
+found_at shape plan s t rows loader sealing found loaded finds nums writers =
+    let is = finds rows loaded.so.loading in
+    let same : t.shape ≡ s.shape = kept_shape s t is.keeps in
+    let made : IsLogFound s.shape loader.plan rows sealing found = record {
+      entries = entries_of t;
+      nums = nums;
+      writers = writers;
+      is = subst (λ (h : ShapeValue). IsLogOf rows h.writers (entries_of t)) same (rows_are_log t rows is.loaded).0;
+      found_are = is.found_are;
+      few_nodes = is.few_nodes;
+    } in
+    subst (λ (h : ShapeValue). IsLogFound h plan rows sealing found) loaded.shape_is
+    (subst (λ (p : LivePlan). IsLogFound s.shape p rows sealing found) loaded.plan_is made)
 
 -- what comes of a log later keeps it too
 pub keeps_then : (a b c : FillingValue) → KeepsLog a b → KeepsLog b c → KeepsLog a c

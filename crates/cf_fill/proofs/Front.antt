@@ -1,5 +1,5 @@
 -- Of all rows the first were taken, one more than there is room for at most.
-use Rattle.std.proofs.Common.{◌≡◌, ◌⊎◌, ◌≤◌, ◌<◌, ◌+◌, ◌++◌, ◌∙◌, ℕ, List, All, length, take, drop, min, inl, inr, sym, ap, subst, arith}
+use Rattle.std.proofs.Common.{◌≡◌, ◌+◌, ◌++◌, ◌∙◌, List, All, length, take, drop, min, inl, inr, ap, subst, arith}
 use Rattle.std.proofs.lemmas.List.{length-take, take_all, take-append-drop}
 use Rattle.cf_row.specs.Row.{RowValue, Fits}
 use Rattle.cf_segments.specs.Segments.{room_of}

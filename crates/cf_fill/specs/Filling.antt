@@ -8,6 +8,8 @@ use Rattle.cf_load.specs.Planned.{tails_of}
 use Rattle.cf_command.specs.Call.{AreSizes}
 use Rattle.cf_command.specs.declared.words.LogSizes.{LogSizes}
 use Rattle.cf_setup.specs.Setups.{SetupValue}
+use Rattle.cf_shape.specs.Lanes.{ShapeValue}
+use Rattle.cf_load.specs.declared.plan.LivePlan.{LivePlan}
 use Rattle.cf_fill.specs.Logs.{IsPlanOf}
 use Rattle.cf_fill.specs.Work.{shape_for}
 
@@ -31,6 +33,12 @@ pub record IsLoadedSo (s : SegmentsValue) (rows : List RowValue) (loader : Loade
   pub loading : IsLoading s rows loader
   pub told : told_of s ≡ tails_of loader.lives
   pub begun : 0 < length s.closed → base_of s < length rows
+
+-- the same of a loader of that plan, into segments of that shape
+pub record IsLoadedFor (shape : ShapeValue) (plan : LivePlan) (rows : List RowValue) (s : SegmentsValue) (loader : LoaderValue) : Type 0 where
+  pub shape_is : s.shape ≡ shape
+  pub plan_is : loader.plan ≡ plan
+  pub so : IsLoadedSo s rows loader
 
 -- these rows are loaded, or lack nodes, which stopped the loader
 abbrev pub AreLoaded : SegmentsValue → List RowValue → LoaderValue → Type 0

@@ -1,5 +1,5 @@
 -- How the log of some rows is loaded.
-use Rattle.std.specs.Prelude.{◌≡◌, ◌<◌, ◌*◌, ℕ, List, length, map}
+use Rattle.std.specs.Prelude.{◌≡◌, ◌<◌, ◌≤◌, ◌*◌, ℕ, List, length, map}
 use Rattle.cf_row.specs.Row.{RowValue}
 use Rattle.cf_row.specs.declared.row.Entry.{Entry}
 use Rattle.cf_history.specs.Order.{IsLogOf, order_of}
@@ -7,11 +7,13 @@ use Rattle.cf_shape.specs.Lanes.{ShapeValue}
 use Rattle.cf_shape.specs.Nodes.{distinct}
 use Rattle.cf_setup.specs.Setups.{SetupValue}
 use Rattle.cf_plain.specs.Answered.{LoadedValue, answer_on}
+use Rattle.cf_plain.specs.declared.finding.Finding.{Finding}
 use Rattle.cf_table.specs.Moves.{SealValue}
 use Rattle.cf_load.specs.Loading.{HasAnswered}
-use Rattle.cf_load.specs.Planned.{marks_on, tails_of}
+use Rattle.cf_load.specs.Planned.{asks_of, finding_on, marks_on, tails_of}
 use Rattle.cf_query.specs.Tags.{nums_of}
 use Rattle.cf_load.specs.declared.plan.LivePlan.{LivePlan}
+use Rattle.cf_segments.specs.Blocks.{block}
 use Rattle.cf_segments.specs.declared.segments.Sealing.{Sealing}
 use Rattle.cf_report.specs.Tags.{bare}
 use Rattle.cf_command.specs.declared.words.LogSizes.{LogSizes}
@@ -56,6 +58,16 @@ pub record IsTagged (setup : SetupValue) (capacity writers nodes rounds : ℕ) (
   pub entries : List Entry
   pub tags_are : tags ≡ bare entries
   pub closed : IsClosed setup capacity writers nodes rounds rows entries seals answered
+
+-- A log of the rows was closed, and what the questions and triggers of the plan found in its entries is known, whose numbers and writers
+-- were read.
+pub record IsLogFound (shape : ShapeValue) (plan : LivePlan) (rows : List RowValue) (sealing : Sealing) (found : List Finding) : Type 0 where
+  pub entries : List Entry
+  pub nums : sealing.nums.items ≡ nums_of entries
+  pub writers : sealing.writers.items ≡ order_of entries
+  pub is : IsLogOf rows shape.writers entries
+  pub found_are : found ≡ map (finding_on shape entries) (asks_of plan)
+  pub few_nodes : (k : ℕ) → distinct shape (block shape.capacity k rows) ≤ shape.writers * shape.nodes
 
 -- the paths of the rows of each segment need no more different nodes than all writers have in it
 abbrev pub NodesSuffice : SetupValue → LogSizes → List RowValue → Type 0

@@ -9,7 +9,7 @@ use cf_setup::Setup;
 use std::alloc::Global;
 
 /// What a setup asks of its log, the live questions in so many rounds beside each batch.
-pub(crate) fn plan_of(alloc: Global, setup: &Setup, rounds: u32) -> Result<LivePlan, Memory>
+pub fn plan_of(alloc: Global, setup: &Setup, rounds: u32) -> Result<LivePlan, Memory>
     ensures { IfOk result (IsPlanOf setup.now rounds) }
 {
     Ok(LivePlan {

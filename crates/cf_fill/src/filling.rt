@@ -1,16 +1,17 @@
 // A log that rows fill as they come.
 ghost use Rattle.std.specs.Prelude.{◌≡◌, ◌⊎◌, ◌<◌, ◌≤◌, ◌+◌, ◌%◌, ◌++◌, List, [], All, length, min, true, false, IfOk, IsTrue, MatchResult, OnOk};
 ghost use Rattle.cf_row.specs.Row.{Fits, RowValue};
+ghost use Rattle.cf_shape.specs.Lanes.{IsShape};
 ghost use Rattle.cf_segments.specs.Segments.{AllowsSegments, room_of};
 ghost use Rattle.cf_load.specs.Planned.{IsPlan, IsSamePlan};
-ghost use Rattle.cf_fill.specs.Filling.{AreLoaded, Fills, HasBatch, HasRows, IsFilled, IsFilling, IsWaiting, KeepsLog, LoadsWaiting, LoadsWhole};
-ghost use Rattle.cf_fill.specs.Logs.{IsLogSealed, IsUnmade};
+ghost use Rattle.cf_fill.specs.Filling.{AreLoaded, Fills, HasBatch, HasRows, IsFilled, IsFilling, IsLoadedFor, IsWaiting, KeepsLog, LoadsWaiting, LoadsWhole};
+ghost use Rattle.cf_fill.specs.Logs.{IsLogFound, IsLogSealed, IsUnmade};
 
 use crate::context::Context;
 use crate::log::Unmade;
 use cf_load::{BATCH, LivePlan, LoadFault, Loader, Sealing, Segments};
 use cf_outside::Gate;
-use cf_plain::Loaded;
+use cf_plain::{Finding, Loaded};
 use cf_row::{Memory, Row};
 use cf_shape::Shape;
 use std::alloc::{AllocError, Global};
@@ -122,6 +123,21 @@ impl Filling {
         self.alloc
     }
 
+    /// The shape of its segments.
+    pub fn shape(&self) -> &Shape
+        ensures shape { result.now ≡ self.now.segments.shape }
+        ensures lawful { IsShape self.now.segments.shape }
+    {
+        self.segments.shape()
+    }
+
+    /// How many rows came, up to one more than the log may hold.
+    pub fn count(&self) -> u32
+        ensures { result ≡ self.now.count }
+    {
+        self.count
+    }
+
     /// Whether more rows came than the log may hold.
     pub fn is_full(&self) -> bool
         ensures full { IsTrue result → room_of self.now.segments < self.now.count }
@@ -223,10 +239,28 @@ impl Filling {
         load(context, &mut self.segments, &mut self.loader, &self.waiting)
     }
 
+    // The log with all of its rows.
+    fn loaded<R: Threads + Sync, G: Gate>(
+        mut self,
+        context: &Context<'_, R, G>,
+    ) -> Result<(Segments, Loader), Unmade>
+        requires filled { IsFilling self }
+        requires few { self.count ≤ room_of self.segments }
+        ensures { (rows : List RowValue) → IsFilled self rows
+            → MatchResult result (λ made. IsLoadedFor self.segments.shape self.loader.plan rows made.0 made.1)
+            (IsUnmade self.segments.shape rows) }
+    {
+        self.load_last(context)?;
+        if self.loader.stopped() {
+            return Err(Unmade::Nodes);
+        }
+        Ok((self.segments, self.loader))
+    }
+
     /// Loads the last rows, asks all questions of the whole log, and closes it: the numbers and writers of its entries are read, and
     /// no other word of them.
     pub fn finish<R: Threads + Sync, G: Gate>(
-        mut self,
+        self,
         context: &Context<'_, R, G>,
     ) -> Result<(Sealing, Loaded), Unmade>
         requires filled { IsFilling self }
@@ -235,18 +269,30 @@ impl Filling {
             → MatchResult result (λ made. IsLogSealed self.segments.shape self.loader.plan rows made.0 made.1)
             (IsUnmade self.segments.shape rows) }
     {
-        self.load_last(context)?;
-        if self.loader.stopped() {
-            return Err(Unmade::Nodes);
-        }
-        let Filling {
-            mut segments,
-            loader,
-            ..
-        } = self;
+        let (mut segments, loader) = self.loaded(context)?;
         let answers = loader.finish(context.rt, context.alloc, &mut segments)?;
         match segments.seal(context.alloc) {
             Ok(sealing) => Ok((sealing, answers)),
+            Err(_) => Err(Unmade::Memory),
+        }
+    }
+
+    /// The same, but for what the questions and triggers found in place of their answers: it can be joined with what they find in
+    /// rows elsewhere.
+    pub fn find<R: Threads + Sync, G: Gate>(
+        self,
+        context: &Context<'_, R, G>,
+    ) -> Result<(Sealing, Vec<Finding>), Unmade>
+        requires filled { IsFilling self }
+        requires few { self.count ≤ room_of self.segments }
+        ensures { (rows : List RowValue) → IsFilled self rows
+            → MatchResult result (λ made. IsLogFound self.segments.shape self.loader.plan rows made.0 made.1.items)
+            (IsUnmade self.segments.shape rows) }
+    {
+        let (mut segments, loader) = self.loaded(context)?;
+        let found = loader.find(context.rt, context.alloc, &mut segments)?;
+        match segments.seal(context.alloc) {
+            Ok(sealing) => Ok((sealing, found)),
             Err(_) => Err(Unmade::Memory),
         }
     }

@@ -11,6 +11,7 @@ mod fill;
 mod filling;
 mod log;
 
+pub use asked::plan_of;
 pub use context::Context;
 pub use drawn::fill_drawn;
 pub use fill::fill_rows;

@@ -16,12 +16,13 @@ use Rattle.cf_fold.specs.declared.trigger.Trigger.{Trigger}
 use Rattle.cf_plain.specs.declared.answer.Body.{Body}
 use Rattle.cf_plain.specs.declared.answer.Fired.{Fired}
 use Rattle.cf_plain.specs.declared.ask.Ask.{Ask}
+use Rattle.cf_plain.specs.declared.finding.Finding.{Finding}
 use Rattle.cf_plain.specs.declared.ask.Ask.TheVariants as asks_are
 use Rattle.cf_table.specs.Values.{PassValue, LogValue}
 use Rattle.cf_walk.specs.Walks.{OnlyWalked}
 use Rattle.cf_query.proofs.Walking.{walked_seen}
-use Rattle.cf_load.specs.Planned.{IsMarks, as_marks, body_of, marks_on}
-use Rattle.cf_load.specs.Readers.{AreReaders, CanBeAsked, IsQuestion, answer_by, seen_by}
+use Rattle.cf_load.specs.Planned.{IsMarks, as_marks, body_of, finding_on, marks_on}
+use Rattle.cf_load.specs.Readers.{AreReaders, CanBeAsked, IsQuestion, answer_by, finding_by, seen_by}
 use Rattle.cf_query.specs.Stretches.{goes_over_all}
 use Rattle.cf_table.specs.Moves.{IsReading}
 use Rattle.cf_scan.specs.Parts.{IsPart, behind}
@@ -122,6 +123,39 @@ answers_all s ask (questions.Walk own readers) is =
     ap₂ (λ (es : List Entry) (a : Ask). answer_on s.shape es a) (all_seen (all_of s) readers.items is.1) is.0
 answers_all s ask (questions.Scan own parts) is = ap₂ (λ (es : List Entry) (a : Ask). answer_on s.shape es a) (is.2).entries is.0
 
+-- what a question finds is what its ask does in all entries
+findings_all : (s : SegmentsValue) (ask : Ask) (q : Question) → IsQuestion s ask q → finding_by s.shape q ≡ finding_on s.shape (entries_of s) ask
+findings_all s ask (questions.Walk own readers) is =
+    ap₂ (λ (es : List Entry) (a : Ask). finding_on s.shape es a) (all_seen (all_of s) readers.items is.1) is.0
+findings_all s ask (questions.Scan own parts) is = ap₂ (λ (es : List Entry) (a : Ask). finding_on s.shape es a) (is.2).entries is.0
+
+-- what was given for each question is given for all asks
+module _ {X : Type 0} (by : Question → X) (on : Ask → X) (s : SegmentsValue) (same : (ask : Ask) (q : Question) → IsQuestion s ask q → by q ≡ on ask) where
+  all_made : (asks : List Ask) (qs : List Question) (results : List (Result X AllocError)) (all : List X)
+      → AllZip (IsQuestion s) asks qs → length results ≡ length qs
+      → ((k : ℕ) (one : Result X AllocError) (q : Question) → k < length qs
+      → IfOk (get_or results k one) (λ a. a ≡ by (get_or qs k q))) → results ≡ map (λ (a : X). Ok a) all
+      → all ≡ map on asks
+  all_made asks qs results all are long each is =
+      let d = on no_ask in
+      let whole : length results ≡ length all = ap length is ∙ length-map all (λ (a : X). Ok a) in
+      let pairs = zip_long (IsQuestion s) asks qs are in
+      let size = length-map asks on in
+      ext_get_or d all (map on asks) (omega (arith, whole, pairs, long, size))
+      (λ k lt.
+      let low : k < length asks = omega (arith, lt, whole, long, pairs) in
+      let z = zip_at (IsQuestion s) asks qs k (get_or asks k no_ask) are (slice_get-get_or asks k no_ask low) in
+      let q : Question = z.0 in
+      let there : k < length qs = omega (arith, low, pairs) in
+      let at : get_or qs k q ≡ q = (let e : Some (get_or qs k q) ≡ Some q = sym (slice_get-get_or qs k q there) ∙ z.1 in cc e) in
+      let made : get_or results k (Ok d) ≡ Ok (get_or all k d) =
+      ap (λ (rs : List (Result X AllocError)). get_or rs k (Ok d)) is ∙ get_or-map (λ (a : X). Ok a) all k d (Ok d) lt in
+      let one : get_or all k d ≡ by (get_or qs k q) =
+      subst (λ (r : Result X AllocError). IfOk r (λ a. a ≡ by (get_or qs k q))) made (each k (Ok d) q there) in
+      one
+      ∙ (ap by at
+      ∙ (same (get_or asks k no_ask) q z.2 ∙ sym (get_or-map on asks k no_ask d low))))
+
 -- the answers are those on all entries
 pub all_answers : (s : SegmentsValue) (asks : List Ask) (qs : List Question) (results : List (Result Answer AllocError)) (all : List Answer)
     → AllZip (IsQuestion s) asks qs → length results ≡ length qs
@@ -129,25 +163,16 @@ pub all_answers : (s : SegmentsValue) (asks : List Ask) (qs : List Question) (re
     → IfOk (get_or results k one) (λ a. a ≡ answer_by s.shape (get_or qs k q))) → results ≡ map (λ (a : Answer). Ok a) all
     → all ≡ map (answer_on s.shape (entries_of s)) asks
 all_answers s asks qs results all are long each is =
-    let f = answer_on s.shape (entries_of s) in
-    let d = f no_ask in
-    let whole : length results ≡ length all = ap length is ∙ length-map all (λ (a : Answer). Ok a) in
-    let pairs = zip_long (IsQuestion s) asks qs are in
-    let size = length-map asks f in
-    ext_get_or d all (map f asks) (omega (arith, whole, pairs, long, size))
-    (λ k lt.
-    let low : k < length asks = omega (arith, lt, whole, long, pairs) in
-    let z = zip_at (IsQuestion s) asks qs k (get_or asks k no_ask) are (slice_get-get_or asks k no_ask low) in
-    let q : Question = z.0 in
-    let there : k < length qs = omega (arith, low, pairs) in
-    let at : get_or qs k q ≡ q = (let e : Some (get_or qs k q) ≡ Some q = sym (slice_get-get_or qs k q there) ∙ z.1 in cc e) in
-    let made : get_or results k (Ok d) ≡ Ok (get_or all k d) =
-    ap (λ (rs : List (Result Answer AllocError)). get_or rs k (Ok d)) is ∙ get_or-map (λ (a : Answer). Ok a) all k d (Ok d) lt in
-    let one : get_or all k d ≡ answer_by s.shape (get_or qs k q) =
-    subst (λ (r : Result Answer AllocError). IfOk r (λ a. a ≡ answer_by s.shape (get_or qs k q))) made (each k (Ok d) q there) in
-    one
-    ∙ (ap (answer_by s.shape) at
-    ∙ (answers_all s (get_or asks k no_ask) q z.2 ∙ sym (get_or-map f asks k no_ask d low))))
+    all_made (answer_by s.shape) (answer_on s.shape (entries_of s)) s (answers_all s) asks qs results all are long each is
+
+-- what is found is found in all entries
+pub all_findings : (s : SegmentsValue) (asks : List Ask) (qs : List Question) (results : List (Result Finding AllocError)) (all : List Finding)
+    → AllZip (IsQuestion s) asks qs → length results ≡ length qs
+    → ((k : ℕ) (one : Result Finding AllocError) (q : Question) → k < length qs
+    → IfOk (get_or results k one) (λ a. a ≡ finding_by s.shape (get_or qs k q))) → results ≡ map (λ (a : Finding). Ok a) all
+    → all ≡ map (finding_on s.shape (entries_of s)) asks
+all_findings s asks qs results all are long each is =
+    all_made (finding_by s.shape) (finding_on s.shape (entries_of s)) s (findings_all s) asks qs results all are long each is
 
 -- what read a segment reads it still, where that keeps what it holds
 all_after : (fs gs : List Segment) (rs : List PassValue) → AllZip KeepsSegment fs gs → AllZip Reads fs rs → AllZip Reads gs rs

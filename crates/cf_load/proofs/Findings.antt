@@ -1,5 +1,6 @@
 -- What questions find in logs that stand one behind the other.
-use Rattle.std.proofs.Common.{◌≡◌, ◌≤◌, ◌+◌, ◌^◌, ℕ, List, ◌++◌, length, take, sym, ap, ap₂, subst, ◌∙◌, arith, length-append, ◌∷◌, [], ◌<◌, map, get_or}
+use Rattle.std.proofs.Common.{◌≡◌, ◌≤◌, ◌+◌, ◌^◌, ℕ, List, ◌++◌, length, take, sym, ap, ap₂, subst, ◌∙◌, arith, length-append, ◌∷◌, [], ◌<◌, map, get_or, Result, Ok, Err, IfOk}
+use Rattle.std.specs.declared.alloc.AllocError.{AllocError}
 use Rattle.std.proofs.lemmas.List.{length-map, map-append, map_push, take_more}
 use Rattle.std.proofs.Math.Seq.{take-append-add}
 use Rattle.cf_row.specs.declared.row.Entry.{Entry}
@@ -41,6 +42,13 @@ module _ (shape : ShapeValue) (ask : Ask) (entries : List Entry) (count : ℕ) (
   found_tells body is =
       ap₂ (λ (n : ℕ) (b : Body). record { tail = n; body = b }) found.count_is
       (is ∙ (ap (body_of ask) found.finding_is ∙ findings_tell shape ask (rows_in entries)))
+
+-- what is found, and how many entries there are
+pub has_found : (shape : ShapeValue) (ask : Ask) (entries : List Entry) (r : Result (ℕ × Finding) AllocError) → IfOk r (λ found. found.0 ≡ length entries)
+    → IfOk r (λ found. found.1 ≡ finding_in shape ask (rows_in entries))
+    → IfOk r (λ found. HasFound shape ask entries found.0 found.1)
+has_found shape ask entries (Ok found) count is = record { count_is = count; finding_is = is }
+has_found shape ask entries (Err e) count is = tt
 
 -- what begins a list of entries begins it behind others too
 pub begins_behind : (before xs ys : List Entry) → Begins xs ys → Begins (before ++ xs) (before ++ ys)

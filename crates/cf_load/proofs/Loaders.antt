@@ -15,6 +15,7 @@ use Rattle.cf_shape.specs.Lanes.{ShapeValue, IsShape}
 use Rattle.cf_shape.specs.Nodes.{distinct}
 use Rattle.cf_plain.specs.Answered.{LoadedValue, answer_on}
 use Rattle.cf_plain.specs.declared.ask.Ask.{Ask}
+use Rattle.cf_plain.specs.declared.finding.Finding.{Finding}
 use Rattle.cf_plain.specs.declared.loaded.Live.{Live}
 use Rattle.cf_table.proofs.Settling.{begins_then}
 use Rattle.cf_load.specs.declared.plan.LivePlan.{LivePlan}
@@ -26,8 +27,8 @@ use Rattle.cf_load.specs.Loading.{HasAnswered, AsksBeside}
 use Rattle.cf_segments.specs.Needed.{HasRunOut}
 use Rattle.cf_load.specs.Loads.{LacksNodes, HasSome, HaveStopped, IsLoaded}
 use Rattle.cf_segments.specs.Segments.{SegmentsValue, all_of, base_of, entries_of, room_of, told_of, IsSegments, HoldsRows, SegmentsGoOn, KeepsAll}
-use Rattle.cf_load.specs.Loaders.{LoaderValue, IsLoading, IsBatched, IsRefused, IsFinished}
-use Rattle.cf_load.specs.Planned.{IsPlan, IsSamePlan, marks_on, tails_of}
+use Rattle.cf_load.specs.Loaders.{LoaderValue, IsLoading, IsBatched, IsRefused, IsFinished, IsFoundIn}
+use Rattle.cf_load.specs.Planned.{IsPlan, IsSamePlan, asks_of, finding_on, marks_on, tails_of}
 use Rattle.cf_load.specs.Priors.{KnowsBefore}
 use Rattle.cf_load.proofs.Batches.{distinct_more, run_out_more}
 use Rattle.cf_segments.proofs.Chains.{base_whole, rows_are_log}
@@ -74,7 +75,7 @@ goes_on before rows old new b s t more is has same within long some few room fit
 }
 
 -- a block of rows that go on begins with the same
-block_more : (n k : ℕ) (xs ys : List RowValue) → (rest : List RowValue) × (block n k (xs ++ ys) ≡ block n k xs ++ rest)
+pub block_more : (n k : ℕ) (xs ys : List RowValue) → (rest : List RowValue) × (block n k (xs ++ ys) ≡ block n k xs ++ rest)
 block_more n k xs ys = elim (cases_lt (length xs) (n * k)) [
   | inl past ↦ (block n k (xs ++ ys), ap (λ (rs : List RowValue). rs ++ block n k (xs ++ ys)) (sym (part_after n (n * k) xs (omega (arith, past)))))
   | inr there ↦
@@ -168,6 +169,19 @@ pub finishes_if : (rows : List RowValue) (loader : LoaderValue) (s t : SegmentsV
     → MatchResult result (IsFinished rows loader s t) (λ x. KeepsAll s t × HoldsRows t rows)
 finishes_if rows loader s t (Ok answered) shape is keeps finals alerts lives = finishes rows loader s t answered shape is keeps finals alerts lives
 finishes_if rows loader s t (Err e) shape is keeps finals alerts lives = (keeps, kept_holds s t keeps rows is.loaded)
+
+-- what is found at the end, and what is left where memory is wanted
+pub finds_if : {T : Type 0} (rows : List RowValue) (loader : LoaderValue) (s t : SegmentsValue) (result : Result T AllocError) (items : T → List Finding)
+    → IsShape s.shape → IsLoading s rows loader → KeepsAll s t
+    → IfOk result (λ found. items found ≡ map (finding_on s.shape (entries_of s)) (asks_of loader.plan))
+    → MatchResult result (λ found. IsFoundIn rows loader s t (items found)) (λ x. KeepsAll s t × HoldsRows t rows)
+finds_if rows loader s t (Ok found) items shape is keeps found_are = record {
+  keeps = keeps;
+  loaded = kept_holds s t keeps rows is.loaded;
+  found_are = found_are ∙ ap (λ (es : List Entry). map (finding_on s.shape es) (asks_of loader.plan)) (sym (kept_entries s t keeps));
+  few_nodes = blocks_few s rows shape is.fit is.loaded;
+}
+finds_if rows loader s t (Err e) items shape is keeps found_are = (keeps, kept_holds s t keeps rows is.loaded)
 
 -- the part of a list from some place on, to its end or as many as a batch has
 pub part_is : {X : Type 0} (xs : List X) (from to : ℕ) → from ≤ length xs → to ≡ min (length xs) (from + 4096)

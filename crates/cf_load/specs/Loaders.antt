@@ -3,6 +3,7 @@ use Rattle.std.specs.Prelude.{◌≡◌, ◌⊎◌, ◌<◌, ◌≤◌, ◌+◌,
 use Rattle.cf_row.specs.Row.{RowValue, Fits}
 use Rattle.cf_shape.specs.Nodes.{distinct}
 use Rattle.cf_plain.specs.Answered.{LoadedValue, answer_on}
+use Rattle.cf_plain.specs.declared.finding.Finding.{Finding}
 use Rattle.cf_plain.specs.declared.loaded.Live.{Live}
 use Rattle.cf_table.specs.Moves.{Begins}
 use Rattle.cf_load.specs.declared.plan.LivePlan.{LivePlan}
@@ -13,7 +14,7 @@ use Rattle.cf_segments.specs.Blocks.{block}
 use Rattle.cf_load.specs.Loading.{HasAnswered}
 use Rattle.cf_load.specs.Loads.{LacksNodes}
 use Rattle.cf_segments.specs.Segments.{SegmentsValue, HoldsRows, SegmentsGoOn, KeepsAll, base_of, entries_of, room_of, told_of}
-use Rattle.cf_load.specs.Planned.{IsPlan, IsSamePlan, marks_on, tails_of}
+use Rattle.cf_load.specs.Planned.{IsPlan, IsSamePlan, asks_of, finding_on, marks_on, tails_of}
 use Rattle.cf_load.specs.Priors.{KnowsBefore}
 
 -- what it asks, how many rows it has loaded, the live answers so far, whether a batch was refused, and what the live questions found
@@ -73,4 +74,11 @@ pub record IsFinished (rows : List RowValue) (loader : LoaderValue) (before afte
   pub alerts : answered.alerts ≡ map (marks_on before.shape (entries_of after)) loader.plan.triggers.items
   pub lives_are : answered.lives ≡ loader.lives
   pub lives : HasAnswered before.shape loader.plan.asks.items loader.plan.lives.items loader.plan.rounds (length rows) (entries_of after) answered.lives
+  pub few_nodes : (k : ℕ) → distinct before.shape (block (before.shape).capacity k rows) ≤ (before.shape).writers * (before.shape).nodes
+
+-- What every question and then every trigger finds in all entries, which stay as they are.
+pub record IsFoundIn (rows : List RowValue) (loader : LoaderValue) (before after : SegmentsValue) (found : List Finding) : Type 0 where
+  pub keeps : KeepsAll before after
+  pub loaded : HoldsRows after rows
+  pub found_are : found ≡ map (finding_on before.shape (entries_of after)) (asks_of loader.plan)
   pub few_nodes : (k : ℕ) → distinct before.shape (block (before.shape).capacity k rows) ≤ (before.shape).writers * (before.shape).nodes

@@ -53,6 +53,10 @@ IsMarks answer = (marks : List Fired) × (answer.body ≡ as_marks marks)
 abbrev pub tails_of : List Live → List ℕ
 tails_of lives = map (λ (live : Live). live.answer.tail) lives
 
+-- what a question finds in some entries
+abbrev pub finding_on : ShapeValue → List Entry → Ask → Finding
+finding_on shape entries ask = finding_in shape ask (rows_in entries)
+
 -- what each live question of the plan finds in some entries
 abbrev pub findings_on : ShapeValue → LivePlan → List Entry → List Finding
 findings_on shape plan entries = map (λ place. finding_in shape (slice_index_or plan.asks.items place no_ask) (rows_in entries)) plan.lives.items

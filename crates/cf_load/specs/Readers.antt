@@ -8,6 +8,7 @@ use Rattle.cf_plain.specs.Asks.{Suits}
 use Rattle.cf_plain.specs.Answered.{answer_on}
 use Rattle.cf_plain.specs.declared.answer.Answer.{Answer}
 use Rattle.cf_plain.specs.declared.ask.Ask.{Ask}
+use Rattle.cf_plain.specs.declared.finding.Finding.{Finding}
 use Rattle.cf_table.specs.Values.{PassValue, LogValue}
 use Rattle.cf_table.specs.Moves.{IsReading}
 use Rattle.cf_query.specs.Stretches.{goes_over_all}
@@ -15,6 +16,9 @@ use Rattle.cf_scan.specs.Parts.{IsPart, behind, entries_in}
 use Rattle.cf_scan.specs.declared.parts.Part.{Part}
 use Rattle.cf_segments.specs.Readers.{ArePartsOf, Reads}
 use Rattle.cf_segments.specs.Segments.{SegmentsValue, all_of}
+use Rattle.cf_load.specs.Planned.{finding_on}
+use Rattle.cf_load.specs.Priors.{HasFound}
+use Rattle.cf_load.specs.declared.finals.Found.{Found}
 use Rattle.cf_load.specs.declared.finals.Question.{Question}
 use Rattle.cf_load.specs.declared.finals.Question.TheVariants as questions
 
@@ -46,6 +50,18 @@ CanBeAsked shape logs (questions.Scan ask parts) = CanScan shape logs ask parts.
 abbrev pub answer_by : ShapeValue → Question → Answer
 answer_by shape (questions.Walk ask readers) = answer_on shape (flat_map seen_by readers.items) ask
 answer_by shape (questions.Scan ask parts) = answer_on shape (flat_map entries_in parts.items) ask
+
+-- what it finds in what they have seen
+abbrev pub finding_by : ShapeValue → Question → Finding
+finding_by shape (questions.Walk ask readers) = finding_on shape (flat_map seen_by readers.items) ask
+finding_by shape (questions.Scan ask parts) = finding_on shape (flat_map entries_in parts.items) ask
+
+-- that is what was found by them, with the question and the number of entries
+abbrev pub IsFoundBy : ShapeValue → Question → Found → Type 0
+IsFoundBy shape (questions.Walk ask readers) found =
+    (found.ask ≡ ask) × HasFound shape ask (flat_map seen_by readers.items) found.tail found.finding
+IsFoundBy shape (questions.Scan ask parts) found =
+    (found.ask ≡ ask) × HasFound shape ask (flat_map entries_in parts.items) found.tail found.finding
 
 -- It is that question, with a pass for each segment. One that goes over all entries has a pass for each part of them.
 abbrev pub IsQuestion : SegmentsValue → Ask → Question → Type 0

@@ -1,13 +1,17 @@
-// The answers on all entries: the questions are asked in threads of their own, and lists and totals are split among more.
-ghost use Rattle.std.specs.Prelude.{◌≡◌, ◌+◌, ◌<◌, ◌≤◌, ℕ, All, Ok, map, length, IfOk, slice_index_or};
+// What questions find in all entries, and the answers that this tells: the questions are asked in threads of their own, and lists and
+// totals are split among more.
+ghost use Rattle.std.specs.Prelude.{◌≡◌, ◌+◌, ◌<◌, ◌≤◌, ℕ, All, List, Ok, map, length, IfOk, slice_index_or};
 ghost use Rattle.std.specs.List.{AllZip, flat_map};
 ghost use Rattle.std.specs.Thread.{IsSync};
+ghost use Rattle.cf_row.specs.declared.row.Entry.{Entry};
+ghost use Rattle.cf_shape.specs.Lanes.{ShapeValue};
 ghost use Rattle.cf_plain.specs.Asks.{Suits};
 ghost use Rattle.cf_plain.specs.Answered.{answer_on};
 ghost use Rattle.cf_query.specs.Walking.{AsksOne, AsksBucket};
 ghost use Rattle.cf_load.specs.Costs.{CountLoads, bucket_steps_in, key_steps_in};
-ghost use Rattle.cf_load.specs.Planned.{IsMarks, IsPlan, as_marks, body_of, marks_on};
-ghost use Rattle.cf_load.specs.Readers.{AreReaders, CanBeAsked, CanScan, IsQuestion, answer_by, seen_by};
+ghost use Rattle.cf_load.specs.Planned.{IsMarks, IsPlan, as_marks, asks_of, body_of, finding_on, marks_on};
+ghost use Rattle.cf_load.specs.Priors.{HasFound};
+ghost use Rattle.cf_load.specs.Readers.{AreReaders, CanBeAsked, CanScan, IsFoundBy, IsQuestion, answer_by, finding_by, seen_by};
 ghost use Rattle.cf_scan.specs.Parts.{entries_in};
 ghost use Rattle.cf_segments.specs.Segments.{KeepsAll, entries_of};
 
@@ -33,18 +37,40 @@ enum Question {
     Scan(Ask, Vec<Part>),
 }
 
-// The question's answer on all that the passes have seen, each in its log.
-fn ask_all<L: Ledger>(
+// What a question found in some entries, and how many these are.
+#[derive(Drop)]
+struct Found {
+    ask: Ask,
+    tail: u32,
+    finding: Finding,
+}
+
+impl Found {
+    // The answer that it tells.
+    fn answer(self, alloc: Global) -> Result<Answer, Memory>
+        ensures { (shape : ShapeValue) (entries : List Entry) → HasFound shape self.ask entries self.tail self.finding
+            → IfOk result (λ answer. answer ≡ answer_on shape entries self.ask) }
+    {
+        let body = self.finding.body(alloc, &self.ask)?;
+        Ok(Answer {
+            tail: self.tail,
+            body,
+        })
+    }
+}
+
+// What the question finds in all that the passes have seen, each in its log, and how many entries that is.
+fn find_all<L: Ledger>(
     shape: &Shape,
     logs: &[&MultiLog],
     alloc: Global,
     readers: &mut [ReaderPass],
     ask: &Ask,
     steps: &mut Steps<L>,
-) -> Result<Answer, Memory>
+) -> Result<(u32, Finding), Memory>
     requires suits { Suits shape.now ask.now }
     requires readers { AreReaders shape.now logs.now readers.old }
-    ensures answer { IfOk result (λ answer. answer ≡ answer_on shape.now (flat_map seen_by readers.old) ask.now) }
+    ensures found { IfOk result (λ found. HasFound shape.now ask.now (flat_map seen_by readers.old) found.0 found.1) }
     ensures steps { AsksOne ask.now → IfOk result (λ _. steps.new + length readers.old ≤ steps.old + key_steps_in shape.now ask.now readers.old) }
     ensures bucket { AsksBucket ask.now → IfOk result (λ _. steps.new + length readers.old ≤ steps.old + bucket_steps_in shape.now ask.now readers.old) }
     ensures loads { CountLoads readers.old readers.new steps.old steps.new }
@@ -57,48 +83,74 @@ fn ask_all<L: Ledger>(
         found = find_behind(log, alloc, reader, ask, found, steps)?;
         place += 1;
     }
-    let (tail, finding) = found;
-    let body = finding.body(alloc, ask)?;
-    Ok(Answer { tail, body })
+    Ok(found)
 }
 
-// The answer to a question that walks a lane. Nobody reads how many steps it made.
-fn answer_walked<L: Ledger>(
+// The same of a question that walks a lane. Nobody reads how many steps it made.
+fn find_walked<L: Ledger>(
     shape: &Shape,
     logs: &[&MultiLog],
     alloc: Global,
     ask: &Ask,
     readers: Vec<ReaderPass>,
     blank: Blank,
-) -> Result<Answer, Memory>
+) -> Result<(u32, Finding), Memory>
     requires suits { Suits shape.now ask.now }
     requires readers { AreReaders shape.now logs.now readers.items }
     requires blank { (blank.name ≡ L.name) × (blank.parts ≡ L.parts) × (0 < L.parts) }
-    ensures { IfOk result (λ answer. answer ≡ answer_on shape.now (flat_map seen_by readers.items) ask.now) }
+    ensures { IfOk result (λ found. HasFound shape.now ask.now (flat_map seen_by readers.items) found.0 found.1) }
 {
     let mut steps = Steps::<L>::new(blank);
     let mut readers = readers;
-    ask_all(shape, logs, alloc, readers.as_mut_slice(), ask, &mut steps)
+    find_all(shape, logs, alloc, readers.as_mut_slice(), ask, &mut steps)
 }
 
-// The answer to a question that goes over all entries.
-fn answer_scanned<R: Threads + Sync>(
+// The same of a question that goes over all entries.
+fn find_scanned<R: Threads + Sync>(
     rt: &R,
     shape: &Shape,
     logs: &[&MultiLog],
     alloc: Global,
     ask: &Ask,
     parts: Vec<Part>,
-) -> Result<Answer, Memory>
+) -> Result<(u32, Finding), Memory>
     requires can { CanScan shape.now logs.now ask.now parts.items }
-    ensures { IfOk result (λ answer. answer ≡ answer_on shape.now (flat_map entries_in parts.items) ask.now) }
+    ensures { IfOk result (λ found. HasFound shape.now ask.now (flat_map entries_in parts.items) found.0 found.1) }
 {
-    let (tail, found) = scan_parts(rt, alloc, shape, logs, ask, parts)?;
-    let body = found.body(alloc, ask)?;
-    Ok(Answer { tail, body })
+    scan_parts(rt, alloc, shape, logs, ask, parts)
 }
 
-// The question's answer. One that goes over all entries is split among threads.
+// What the question finds by its passes. One that goes over all entries is split among threads.
+fn find_one<R: Threads + Sync>(
+    rt: &R,
+    shape: &Shape,
+    logs: &[&MultiLog],
+    alloc: Global,
+    question: Question,
+) -> Result<Found, Memory>
+    requires can { CanBeAsked shape.now logs.now question }
+    ensures { IfOk result (IsFoundBy shape.now question) }
+{
+    match question {
+        Question::Walk(ask, readers) => {
+            let (tail, finding) = find_walked::<Brand>(
+                shape,
+                logs,
+                alloc,
+                &ask,
+                readers,
+                Blank::new(1),
+            )?;
+            Ok(Found { ask, tail, finding })
+        }
+        Question::Scan(ask, parts) => {
+            let (tail, finding) = find_scanned(rt, shape, logs, alloc, &ask, parts)?;
+            Ok(Found { ask, tail, finding })
+        }
+    }
+}
+
+// The question's answer.
 fn ask_one<R: Threads + Sync>(
     rt: &R,
     shape: &Shape,
@@ -109,12 +161,23 @@ fn ask_one<R: Threads + Sync>(
     requires can { CanBeAsked shape.now logs.now question }
     ensures { IfOk result (λ answer. answer ≡ answer_by shape.now question) }
 {
-    match question {
-        Question::Walk(ask, readers) => {
-            answer_walked::<Brand>(shape, logs, alloc, &ask, readers, Blank::new(1))
-        }
-        Question::Scan(ask, parts) => answer_scanned(rt, shape, logs, alloc, &ask, parts),
-    }
+    let found = find_one(rt, shape, logs, alloc, question)?;
+    found.answer(alloc)
+}
+
+// What the question finds, and nothing else.
+fn finding_of<R: Threads + Sync>(
+    rt: &R,
+    shape: &Shape,
+    logs: &[&MultiLog],
+    alloc: Global,
+    question: Question,
+) -> Result<Finding, Memory>
+    requires can { CanBeAsked shape.now logs.now question }
+    ensures { IfOk result (λ finding. finding ≡ finding_by shape.now question) }
+{
+    let found = find_one(rt, shape, logs, alloc, question)?;
+    Ok(found.finding)
 }
 
 // Asks each question in a thread of its own where one can be made. One that goes over all entries starts more.
@@ -140,6 +203,29 @@ fn ask_each<R: Threads + Sync>(
     )
 }
 
+// The same of what each question finds.
+fn find_each<R: Threads + Sync>(
+    rt: &R,
+    shape: &Shape,
+    logs: &[&MultiLog],
+    alloc: Global,
+    questions: Vec<Question>,
+) -> Result<Vec<Result<Finding, Memory>>, Memory>
+    requires can { All (CanBeAsked shape.now logs.now) questions.items }
+    ensures long { IfOk result (λ findings. length findings.items ≡ length questions.items) }
+    ensures each { IfOk result (λ findings. (k : ℕ) (one : _) (question : _) → k < length questions.items
+        → IfOk (slice_index_or findings.items k one) (λ finding. finding ≡ finding_by shape.now (slice_index_or questions.items k question))) }
+{
+    map_vec(
+        rt,
+        questions,
+        &|question: Question| -> Result<Finding, Memory>
+            requires { IsSync R.row × CanBeAsked shape.now logs.now question }
+            ensures { IfOk result (λ finding. finding ≡ finding_by shape.entry.now question) }
+        { finding_of(rt, shape, logs, alloc, question) },
+    )
+}
+
 // The answers, where there are all.
 fn all_given(alloc: Global, answers: Vec<Result<Answer, Memory>>) -> Result<Vec<Answer>, Memory>
     ensures { IfOk result (λ given. answers.items ≡ map (λ answer. Ok answer) given.items) }
@@ -149,6 +235,17 @@ fn all_given(alloc: Global, answers: Vec<Result<Answer, Memory>>) -> Result<Vec<
         given.push(answer?)?;
     }
     Ok(given)
+}
+
+// What was found, where all is.
+fn all_found(alloc: Global, findings: Vec<Result<Finding, Memory>>) -> Result<Vec<Finding>, Memory>
+    ensures { IfOk result (λ found. findings.items ≡ map (λ finding. Ok finding) found.items) }
+{
+    let mut found = Vec::with_capacity(alloc, findings.len())?;
+    for finding in findings {
+        found.push(finding?)?;
+    }
+    Ok(found)
 }
 
 // The question with passes of its own.
@@ -204,6 +301,38 @@ fn answers_to<R: Threads + Sync>(
     let logs = segments.logs(alloc)?;
     let answers = ask_each(rt, segments.shape(), logs.as_slice(), alloc, questions)?;
     all_given(alloc, answers)
+}
+
+// What the questions find in all entries.
+fn findings_of<R: Threads + Sync>(
+    rt: &R,
+    segments: &mut Segments,
+    alloc: Global,
+    asks: Vec<Ask>,
+) -> Result<Vec<Finding>, Memory>
+    requires suit { All (Suits segments.old.shape) asks.items }
+    ensures keeps { KeepsAll segments.old segments.new }
+    ensures found { IfOk result (λ found. found.items ≡ map (finding_on segments.old.shape (entries_of segments.old)) asks.items) }
+{
+    let questions = questions_of::<Brand>(segments, alloc, asks, Blank::new(1))?;
+    let logs = segments.logs(alloc)?;
+    let findings = find_each(rt, segments.shape(), logs.as_slice(), alloc, questions)?;
+    all_found(alloc, findings)
+}
+
+// What all questions and then all triggers find in all entries.
+pub(crate) fn findings_on_all<R: Threads + Sync>(
+    rt: &R,
+    segments: &mut Segments,
+    alloc: Global,
+    plan: &LivePlan,
+) -> Result<Vec<Finding>, Memory>
+    requires plan { IsPlan segments.old.shape plan.now }
+    ensures keeps { KeepsAll segments.old segments.new }
+    ensures found { IfOk result (λ found. found.items ≡ map (finding_on segments.old.shape (entries_of segments.old)) (asks_of plan.now)) }
+{
+    let asks = plan.questions(alloc)?;
+    findings_of(rt, segments, alloc, asks)
 }
 
 // The marks of triggers, from the answers about them.

@@ -2,17 +2,17 @@
 ghost use Rattle.std.specs.Prelude.{◌≡◌, ◌+◌, ◌<◌, ◌≤◌, ◌%◌, List, [], All, length, IfOk, MatchResult, OnErr, true};
 ghost use Rattle.cf_row.specs.Row.{Fits, RowValue};
 ghost use Rattle.cf_segments.specs.Segments.{SegmentsValue, HoldsRows, KeepsAll};
-ghost use Rattle.cf_load.specs.Loaders.{IsFresh, IsLoading, IsBatched, IsRefused, IsFinished};
+ghost use Rattle.cf_load.specs.Loaders.{IsFresh, IsLoading, IsBatched, IsRefused, IsFinished, IsFoundIn};
 ghost use Rattle.cf_load.specs.Planned.{IsPlan};
 ghost use Rattle.cf_load.specs.Priors.{KnowsBefore};
 
-use crate::finals::answers_on_all;
+use crate::finals::{answers_on_all, findings_on_all};
 use crate::prior::FoundBefore;
 use crate::reader::Beside;
 use crate::segment_asks::{load_current, make_ready};
 use crate::{LivePlan, LoadFault, Segments};
 use cf_outside::Gate;
-use cf_plain::{Live, Loaded};
+use cf_plain::{Finding, Live, Loaded};
 use cf_row::{Memory, Row};
 use std::alloc::Global;
 use std::marker::Model;
@@ -144,5 +144,22 @@ impl Loader {
         let _lawful = segments.shape();
         let Loader { plan, lives, .. } = self;
         answers_on_all(rt, segments, alloc, &plan, lives)
+    }
+
+    /// Asks every question and every trigger of all entries, as `finish` does, and gives what each found in place of its answer: the
+    /// questions' findings, and behind them the triggers'. They can be joined with what is found in rows elsewhere.
+    pub fn find<R: Threads + Sync>(
+        self,
+        rt: &R,
+        alloc: Global,
+        segments: &mut Segments,
+    ) -> Result<Vec<Finding>, Memory>
+        requires loading { (rows : List RowValue) × IsLoading segments.old rows self }
+        ensures { (rows : List RowValue) → IsLoading segments.old rows self
+            → MatchResult result (λ found. IsFoundIn rows self segments.old segments.new found.items)
+            (λ _. KeepsAll segments.old segments.new × HoldsRows segments.new rows) }
+    {
+        let _lawful = segments.shape();
+        findings_on_all(rt, segments, alloc, &self.plan)
     }
 }

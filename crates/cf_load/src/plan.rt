@@ -58,8 +58,8 @@ impl LivePlan {
         self.rounds == 0
     }
 
-    // All that is asked at the end.
-    pub(crate) fn questions(&self, alloc: Global) -> Result<Vec<Ask>, Memory>
+    /// All that is asked at the end: each question, and then what each trigger finds.
+    pub fn questions(&self, alloc: Global) -> Result<Vec<Ask>, Memory>
         ensures { IfOk result (λ asks. asks.items ≡ asks_of self.now) }
     {
         let mut asks = copy_asks(alloc, &self.asks)?;

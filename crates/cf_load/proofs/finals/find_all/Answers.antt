@@ -12,7 +12,7 @@ use Rattle.cf_table.specs.Moves.{IsReading}
 use Rattle.cf_load.specs.Readers.{seen_by}
 use Rattle.cf_load.proofs.Costs.{costs_more, loads_more}
 use Rattle.cf_segments.proofs.Changing.{changed_at, changed_long, changed_more}
-use Rattle.cf_load.proofs.finals.ask_all.Goals as goal
+use Rattle.cf_load.proofs.finals.find_all.Goals as goal
 
 pub find_behind-requires-clause-reader : goal.find_behind-requires-clause-reader
 find_behind-requires-clause-reader g c =

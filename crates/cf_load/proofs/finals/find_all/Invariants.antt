@@ -6,7 +6,7 @@ use Rattle.cf_load.specs.Costs.{CountLoads, bucket_steps_in, key_steps_in}
 use Rattle.cf_load.specs.Priors.{HasFound}
 use Rattle.cf_load.specs.Readers.{seen_by}
 use Rattle.cf_segments.proofs.Changing.{Changed}
-use Rattle.cf_load.proofs.finals.ask_all.Given as goal
+use Rattle.cf_load.proofs.finals.find_all.Given as goal
 
 abbrev pub invariant-loop-reader : goal.invariant-loop-reader
 invariant-loop-reader g l = record {

@@ -1,0 +1,5 @@
+pub mod ByRow
+pub mod Found
+pub mod Longs
+pub mod Answered
+pub mod Texts

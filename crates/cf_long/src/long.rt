@@ -1,0 +1,197 @@
+// A log of any length.
+ghost use Rattle.std.specs.Prelude.{◌≡◌, ◌-◌, ◌+◌, ◌<◌, ◌≤◌, ◌^◌, ◌++◌, List, [], All, length, IfErr, IfOk, MatchResult};
+ghost use Rattle.cf_row.specs.Row.{Fits, RowValue};
+ghost use Rattle.cf_shape.specs.Lanes.{IsShape};
+ghost use Rattle.cf_segments.specs.Segments.{AllowsSegments};
+ghost use Rattle.cf_load.specs.Planned.{IsPlan};
+ghost use Rattle.cf_fill.specs.Logs.{IsUnmade};
+ghost use Rattle.cf_long.specs.Answered.{AreAnswers};
+ghost use Rattle.cf_long.specs.Longs.{HaveNodes, IsLong, IsSomeLong, KeepsLong, MayFollow, TakesSome, count_of, shape_in};
+
+use crate::answers::{Answers, answers_of};
+use crate::joins::join_each;
+use crate::segment::{let_go, nothings};
+use cf_fill::{Context, Filling, Unmade};
+use cf_load::LivePlan;
+use cf_outside::Gate;
+use cf_plain::Finding;
+use cf_row::{Memory, Row};
+use cf_shape::Shape;
+use std::alloc::Global;
+use std::marker::Model;
+use std::mem;
+use std::thread::Threads;
+
+/// A log of any length, whose rows are numbered one by one from 0. They go into one segment, batch by batch; once it is full it is asked
+/// each question and each trigger once and let go, and the next one takes its place. What was found is kept, and no other row.
+#[derive(Drop)]
+pub struct Long {
+    plan: LivePlan,
+    // The segment that rows go to.
+    filling: Filling,
+    // What each question and then each trigger found in the rows before it.
+    found: Vec<Finding>,
+    // How many these are.
+    gone: u32,
+}
+
+impl Model for Long {
+    ghost use Rattle.cf_long.specs.Longs.{LongValue};
+
+    ghost Value = { LongValue };
+
+    ghost view = { λ l. record { plan = l.plan; filling = l.filling; found = l.found.items; gone = l.gone } };
+}
+
+impl Long {
+    /// A log with no row, in segments of the shape, of which is asked what the plan says. No live question is asked.
+    pub fn new(alloc: Global, shape: Shape, plan: LivePlan) -> Result<Long, Memory>
+        requires allowed { AllowsSegments shape 1 }
+        requires plan { IsPlan shape plan }
+        requires quiet { plan.rounds ≡ 0 }
+        ensures shape { IfOk result (λ long. shape_in long ≡ shape) }
+        ensures plan { IfOk result (λ long. long.plan ≡ plan) }
+        ensures none { IfOk result (λ long. IsLong long []) }
+    {
+        let asks = plan.questions(alloc)?;
+        let found = nothings(alloc, &asks)?;
+        let filling = Filling::new(alloc, shape, 1, &plan)?;
+        Ok(Long {
+            plan,
+            filling,
+            found,
+            gone: 0,
+        })
+    }
+
+    /// The shape of its segments.
+    pub fn shape(&self) -> &Shape
+        ensures { result.now ≡ shape_in self.now }
+    {
+        self.filling.shape()
+    }
+
+    /// How many rows came.
+    pub fn count(&self) -> u32
+        requires long { IsSomeLong self.now }
+        ensures { result ≡ count_of self.now }
+    {
+        self.gone + self.filling.count()
+    }
+
+    /// How many more rows may come.
+    pub fn room(&self) -> u32
+        requires long { IsSomeLong self.now }
+        ensures { result + count_of self.now + 1 ≡ 2 ^ 32 }
+    {
+        u32::MAX - self.count()
+    }
+
+    // Whether its segment has as many rows as it may.
+    fn is_full(&self) -> bool
+        requires long { IsSomeLong self.now }
+        ensures full { result ≡ true → self.now.filling.count ≡ (shape_in self.now).capacity }
+        ensures room { result ≡ false → self.now.filling.count < (shape_in self.now).capacity }
+    {
+        self.filling.count() >= self.filling.shape().capacity()
+    }
+
+    // Where its segment is full, asks it all that the plan asks and lets it go. The next one was opened before.
+    fn make_room<R: Threads + Sync, G: Gate>(
+        &mut self,
+        context: &Context<'_, R, G>,
+    ) -> Result<(), Unmade>
+        requires long { IsSomeLong self.old }
+        ensures keeps { KeepsLong self.old self.new }
+        ensures long { IfOk result (λ _. (rows : List RowValue) → IsLong self.old rows → IsLong self.new rows) }
+        ensures count { IfOk result (λ _. count_of self.new ≡ count_of self.old) }
+        ensures room { IfOk result (λ _. self.new.filling.count < (shape_in self.new).capacity) }
+        ensures unmade { IfErr result (λ why. (rows : List RowValue) → IsLong self.old rows → IsUnmade (shape_in self.old) rows why) }
+    {
+        if !self.is_full() {
+            return Ok(());
+        }
+        let Context { alloc, .. } = *context;
+        let shape = self.filling.shape().copy(alloc)?;
+        let next = Filling::new(alloc, shape, 1, &self.plan)?;
+        let full = mem::replace(&mut self.filling, next);
+        let count = full.count();
+        let more = let_go(context, full, self.gone)?;
+        let found = mem::replace(&mut self.found, Vec::new(alloc));
+        self.found = join_each(alloc, self.gone, found, more)?;
+        self.gone += count;
+        Ok(())
+    }
+
+    // Takes as many of the rows as its segment has room for.
+    fn take_some<R: Threads + Sync, G: Gate>(
+        &mut self,
+        context: &Context<'_, R, G>,
+        rows: &mut Vec<Row>,
+    ) -> Result<(), Unmade>
+        requires long { IsSomeLong self.old }
+        requires some { 0 < length rows.old.items }
+        requires fit { All (Fits (shape_in self.old).schema) rows.old.items }
+        requires follow { MayFollow self.old rows.old.items }
+        ensures keeps { KeepsLong self.old self.new }
+        ensures takes { IfOk result (λ _. TakesSome self.old self.new rows.old.items rows.new.items) }
+        ensures fewer { IfOk result (λ _. length rows.new.items < length rows.old.items) }
+        ensures follow { IfOk result (λ _. MayFollow self.new rows.new.items) }
+        ensures unmade { IfErr result (λ why. (before : List RowValue) → IsLong self.old before
+            → IsUnmade (shape_in self.old) (before ++ rows.old.items) why) }
+    {
+        self.make_room(context)?;
+        let room = self.filling.shape().capacity() - self.filling.count();
+        let most = rows.len().min(room as usize);
+        let rest = rows.split_off(most)?;
+        self.filling.take_rows(context, rows)?;
+        *rows = rest;
+        Ok(())
+    }
+
+    /// Takes the next rows out of the list, which are numbered on. Each batch that they end is loaded. Each segment that they fill, but for
+    /// the last, is asked all that the plan asks and let go.
+    pub fn take_rows<R: Threads + Sync, G: Gate>(
+        &mut self,
+        context: &Context<'_, R, G>,
+        rows: &mut Vec<Row>,
+    ) -> Result<(), Unmade>
+        requires long { IsSomeLong self.old }
+        requires fit { All (Fits (shape_in self.old).schema) rows.old.items }
+        requires follow { MayFollow self.old rows.old.items }
+        ensures keeps { KeepsLong self.old self.new }
+        ensures long { IfOk result (λ _. (before : List RowValue) → IsLong self.old before → IsLong self.new (before ++ rows.old.items)) }
+        ensures few { IfOk result (λ _. length self.new.filling.waiting < 4096) }
+        ensures none { IfOk result (λ _. rows.new.items ≡ []) }
+        ensures unmade { IfErr result (λ why. (before : List RowValue) → IsLong self.old before
+            → IsUnmade (shape_in self.old) (before ++ rows.old.items) why) }
+    {
+        while !rows.is_empty() {
+            self.take_some(context, rows)?;
+        }
+        Ok(())
+    }
+
+    /// Asks the last segment all that the plan asks, and answers about all rows.
+    pub fn finish<R: Threads + Sync, G: Gate>(
+        self,
+        context: &Context<'_, R, G>,
+    ) -> Result<Answers, Unmade>
+        requires long { IsSomeLong self }
+        ensures { (rows : List RowValue) → IsLong self rows
+            → MatchResult result (λ answers. AreAnswers (shape_in self) self.plan.asks.items self.plan.triggers.items rows answers × HaveNodes (shape_in self) rows)
+            (IsUnmade (shape_in self) rows) }
+    {
+        let Context { alloc, .. } = *context;
+        let count = self.count();
+        let Long {
+            plan,
+            filling,
+            found,
+            gone,
+        } = self;
+        let more = let_go(context, filling, gone)?;
+        let all = join_each(alloc, gone, found, more)?;
+        Ok(answers_of(alloc, &plan, count, all)?)
+    }
+}
