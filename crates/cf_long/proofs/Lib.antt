@@ -3,3 +3,4 @@ pub mod Found
 pub mod Nodes
 pub mod Longs
 pub mod Texts
+pub mod Setups

@@ -20,13 +20,14 @@ use Rattle.cf_segments.specs.declared.segments.Sealing.{Sealing}
 use Rattle.cf_load.specs.Planned.{IsPlan, IsSamePlan, asks_of}
 use Rattle.cf_load.specs.declared.plan.LivePlan.{LivePlan}
 use Rattle.cf_fill.specs.Filling.{FillingValue, IsFilled, KeepsLog}
-use Rattle.cf_fill.specs.Logs.{IsLogFound}
+use Rattle.cf_fill.specs.Logs.{IsLogFound, IsUnmade}
+use Rattle.cf_fill.specs.declared.log.Unmade.{Unmade}
 use Rattle.cf_long.specs.ByRow.{AreNumbered, IsFoundWithin, by_row}
 use Rattle.cf_long.specs.Found.{found_in, joined_each}
-use Rattle.cf_long.specs.Longs.{HaveNodes, IsLetGo, IsLong, LongValue, MayFollow, count_of, shape_in}
+use Rattle.cf_long.specs.Longs.{HaveNodes, IsLetGo, IsLong, LongValue, MayFollow, TakesSome, count_of, shape_in}
 use Rattle.cf_long.proofs.ByRow.{all_told, each_within}
 use Rattle.cf_long.proofs.Found.{can_join_each, joined_in}
-use Rattle.cf_long.proofs.Nodes.{few_both}
+use Rattle.cf_long.proofs.Nodes.{few_both, unmade_behind}
 
 -- Rows that are numbered one by one.
 
@@ -108,7 +109,7 @@ module _ (long : LongValue) (rows : List RowValue) (is : IsLong long rows) where
   -- those of the segment are numbered on
   pub here_numbered : AreNumbered long.gone is.here
   here_numbered =
-      subst (λ (n : ℕ). AreNumbered n is.here) (sym is.gone_count)
+      subst (λ (n : ℕ). AreNumbered n is.here) (let e = is.gone_count in let at : 0 + length is.gone ≡ long.gone = omega (arith, e) in at)
       (numbered_behind 0 is.gone is.here (subst (λ (rs : List RowValue). AreNumbered 0 rs) is.rows_are is.numbered))
 
   abbrev IsFoundHere : List Finding → Type 0
@@ -145,6 +146,11 @@ module _ (long : LongValue) (rows : List RowValue) (is : IsLong long rows) where
 
   pub nodes_all : (more : List Finding) → IsFoundHere more → HaveNodes shape rows
   nodes_all more let_go = subst (λ (rs : List RowValue). HaveNodes shape rs) (sym is.rows_are) (all_nodes more let_go)
+
+  -- where the segment isn't made, all rows lack as much
+  pub unmade_all : (why : Unmade) → IsUnmade shape is.here why → IsUnmade shape rows why
+  unmade_all why unmade =
+      subst (λ (rs : List RowValue). IsUnmade shape rs why) (sym is.rows_are) (unmade_behind shape is.segments is.gone is.here why is.whole unmade)
 
   -- a full segment was let go, and an empty one took its place
   pub turned : (next : FillingValue) (more all : List Finding) (gone : ℕ) → shape.capacity ≤ long.filling.count
@@ -230,3 +236,43 @@ none_long plan filling found one lawful same none filled =
       few = omega arith;
       numbered = λ place low. absurd (omega (arith, low));
     }
+
+-- A log, after the segment that was full was let go, takes the first of some rows.
+module _ (old v : LongValue) (keep : (rows : List RowValue) → IsLong old rows → IsLong v rows) (count : count_of v ≡ count_of old)
+    (all front rest : List RowValue) (follow : MayFollow old all) (split : front ++ rest ≡ all) (next : FillingValue) (keeps : KeepsLog v.filling next)
+    (fills : (first : List RowValue) → IsFilled v.filling first → IsFilled next (first ++ front))
+    (room : v.filling.count + length front ≤ (shape_in v).capacity) where
+  abbrev new : LongValue
+  new = record { plan = v.plan; filling = next; found = v.found; gone = v.gone }
+
+  both : AreNumbered (count_of old) (front ++ rest)
+  both = subst (λ (rs : List RowValue). AreNumbered (count_of old) rs) (sym split) follow.numbered
+
+  long_all : length all ≡ length front + length rest
+  long_all = ap (λ (rs : List RowValue). length rs) (sym split) ∙ length-append front rest
+
+  takes_front : (before : List RowValue) → IsLong old before → IsLong new (before ++ front)
+  takes_front before is =
+      let at = keep before is in
+      let here = here_count v before at in
+      let few = follow.few in
+      let size = long_all in
+      came v before at next front keeps (fills at.here at.filled) (omega (arith, room, here))
+      (subst (λ (n : ℕ). AreNumbered n front) (sym count) (numbered_before (count_of old) front rest both))
+      (omega (arith, few, size, count))
+
+  pub takes_some : TakesSome old new all rest
+  takes_some = record { taken = front; split = split; long = takes_front }
+
+  pub follows : (before : List RowValue) → IsLong old before → MayFollow new rest
+  follows before is =
+      let then = counted new (before ++ front) (takes_front before is) in
+      let was = counted old before is in
+      let sum = length-append before front in
+      let now : count_of old + length front ≡ count_of new = omega (arith, then, was, sum) in
+      let few = follow.few in
+      let size = long_all in
+      record {
+        numbered = subst (λ (n : ℕ). AreNumbered n rest) now (numbered_behind (count_of old) front rest both);
+        few = omega (arith, few, size, now);
+      }

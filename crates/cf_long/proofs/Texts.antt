@@ -1,5 +1,5 @@
 -- The text of answers about rows that are numbered from 0.
-use Rattle.std.proofs.Common.{◌≡◌, ◌∙◌, ℕ, zero, suc, ◌+◌, ◌<◌, ◌≤◌, Bool, List, [], ◌∷◌, ◌++◌, length, map, codes, get_or, refl, sym, ap, ap₂, subst, arith, append_assoc}
+use Rattle.std.proofs.Common.{◌≡◌, ◌∙◌, ℕ, zero, suc, ◌+◌, ◌<◌, ◌≤◌, Bool, List, [], ◌∷◌, ◌++◌, length, map, codes, decimal, get_or, refl, sym, ap, ap₂, arith}
 use Rattle.std.specs.List.{flat_map, range_with_len}
 use Rattle.std.proofs.lemmas.List.{get_or-map}
 use Rattle.cf_row.specs.Row.{RowValue}
@@ -9,15 +9,18 @@ use Rattle.cf_shape.specs.Lanes.{ShapeValue}
 use Rattle.cf_plain.specs.Answered.{no_ask}
 use Rattle.cf_plain.specs.Asks.{counts_for, eval_rows, places, row_at}
 use Rattle.cf_plain.specs.declared.answer.Body.{Body}
+use Rattle.cf_plain.specs.declared.answer.Fired.{Fired}
 use Rattle.cf_plain.specs.declared.ask.Ask.{Ask}
 use Rattle.cf_plain.specs.declared.ask.Ask.TheVariants as asks
 use Rattle.cf_report.specs.Answered.{ask_at}
 use Rattle.cf_report.specs.Bodies.{line, nums_at, numbers_text, shown, word_of}
-use Rattle.cf_report.specs.Meaning.{finals_on, told_on}
-use Rattle.cf_report.specs.Report.{ask_line, ask_line_at, ask_name, nothing_told}
+use Rattle.cf_report.specs.Meaning.{final_text, finals_on, told_on}
+use Rattle.cf_report.specs.Report.{alert_lines_at, ask_line, ask_line_at, ask_name, nothing_told}
 use Rattle.cf_setup.specs.Setups.{SetupValue}
+use Rattle.cf_long.specs.Answered.{AreAnswers}
 use Rattle.cf_long.specs.ByRow.{AreNumbered}
 use Rattle.cf_long.specs.Texts.{no_body, placed_line, placed_line_at}
+use Rattle.cf_long.specs.declared.answers.Answers.{Answers}
 use Rattle.cf_long.proofs.ByRow.{all_stay, climbs_range, in_range, sorted_stay}
 
 flat_range : (f g : ℕ → List ℕ) (k n : ℕ) → ((i : ℕ) → i < k + n → f i ≡ g i) → flat_map f (range_with_len k n) ≡ flat_map g (range_with_len k n)
@@ -59,7 +62,19 @@ module _ (shape : ShapeValue) (rows : List RowValue) (numbered : AreNumbered 0 r
     same_lines = flat_range (placed_line_at setup finals) (ask_line_at setup rows (finals_on shape setup rows)) 0 (length setup.asks)
         (λ i low. same_line i (omega (arith, low)))
 
--- what is written piece by piece
-pub three_pieces : (none t₁ t₂ t₃ a b c : List ℕ) → none ≡ [] → t₁ ≡ none ++ a → t₂ ≡ t₁ ++ b → t₃ ≡ t₂ ++ c → t₃ ≡ a ++ b ++ c
-three_pieces none t₁ t₂ t₃ a b c e₀ e₁ e₂ e₃ =
-    e₃ ∙ (ap (λ (t : List ℕ). t ++ c) (e₂ ∙ ap (λ (t : List ℕ). t ++ b) (e₁ ∙ ap (λ (t : List ℕ). t ++ a) e₀)) ∙ append_assoc a b c)
+  -- what is written piece by piece is the final part
+  pub final_is : (setup : SetupValue) (answers : Answers) (none t₁ t₂ t₃ : List ℕ) (finals : List Body) (alerts : List (List Fired))
+      → AreAnswers shape setup.asks setup.triggers rows answers → finals ≡ answers.finals.items → alerts ≡ answers.alerts.items → none ≡ []
+      → t₁ ≡ none ++ line (codes "records " ++ decimal answers.count)
+      → t₂ ≡ t₁ ++ flat_map (placed_line_at setup finals) (range_with_len 0 (length setup.asks))
+      → t₃ ≡ t₂ ++ flat_map (alert_lines_at setup alerts) (range_with_len 0 (length setup.triggers))
+      → t₃ ≡ final_text shape setup rows
+  final_is setup answers none t₁ t₂ t₃ finals alerts are finals_are alerts_are e₀ e₁ e₂ e₃ =
+      let head : t₁ ≡ line (codes "records " ++ decimal (length rows)) =
+      e₁ ∙ ap₂ (λ (t : List ℕ) (n : ℕ). t ++ line (codes "records " ++ decimal n)) e₀ are.count in
+      let asked : t₂ ≡ line (codes "records " ++ decimal (length rows))
+          ++ flat_map (ask_line_at setup rows (finals_on shape setup rows)) (range_with_len 0 (length setup.asks)) =
+      e₂ ∙ ap₂ (λ (xs ys : List ℕ). xs ++ ys) head (same_lines setup finals (finals_are ∙ are.finals)) in
+      e₃
+      ∙ ap₂ (λ (t : List ℕ) (found : List (List Fired)). t ++ flat_map (alert_lines_at setup found) (range_with_len 0 (length setup.triggers)))
+      asked (alerts_are ∙ are.alerts)

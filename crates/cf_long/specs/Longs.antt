@@ -69,7 +69,7 @@ pub record MayFollow (long : LongValue) (rows : List RowValue) : Type 0 where
   pub numbered : AreNumbered (count_of long) rows
   pub few : count_of long + length rows < 2 ^ 32
 
--- Of all these rows the first ones came, at least one, and those that are left did not yet.
+-- Of all these rows the first ones came, and those that are left did not yet.
 pub record TakesSome (old new : LongValue) (all left : List RowValue) : Type 0 where
   pub taken : List RowValue
   pub split : taken ++ left ≡ all

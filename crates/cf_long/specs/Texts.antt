@@ -1,5 +1,5 @@
 -- The text of answers about rows that are numbered from 0, where the places of rows are their numbers.
-use Rattle.std.specs.Prelude.{ℕ, List, ◌++◌, codes, slice_index_or}
+use Rattle.std.specs.Prelude.{ℕ, List, [], ◌++◌, codes, slice_index_or}
 use Rattle.cf_plain.specs.declared.answer.Body.{Body}
 use Rattle.cf_plain.specs.declared.answer.Body.TheVariants as bodies
 use Rattle.cf_report.specs.Answered.{ask_at}

@@ -1,5 +1,5 @@
 // A log of any length.
-ghost use Rattle.std.specs.Prelude.{◌≡◌, ◌-◌, ◌+◌, ◌<◌, ◌≤◌, ◌^◌, ◌++◌, List, [], All, length, IfErr, IfOk, MatchResult};
+ghost use Rattle.std.specs.Prelude.{◌≡◌, ◌-◌, ◌+◌, ◌<◌, ◌≤◌, ◌^◌, ◌++◌, List, [], All, length, true, false, IfErr, IfOk, MatchResult};
 ghost use Rattle.cf_row.specs.Row.{Fits, RowValue};
 ghost use Rattle.cf_shape.specs.Lanes.{IsShape};
 ghost use Rattle.cf_segments.specs.Segments.{AllowsSegments};
@@ -135,7 +135,9 @@ impl Long {
         requires follow { MayFollow self.old rows.old.items }
         ensures keeps { KeepsLong self.old self.new }
         ensures takes { IfOk result (λ _. TakesSome self.old self.new rows.old.items rows.new.items) }
+        ensures some { IfOk result (λ _. IsSomeLong self.new) }
         ensures fewer { IfOk result (λ _. length rows.new.items < length rows.old.items) }
+        ensures fit { IfOk result (λ _. All (Fits (shape_in self.new).schema) rows.new.items) }
         ensures follow { IfOk result (λ _. MayFollow self.new rows.new.items) }
         ensures unmade { IfErr result (λ why. (before : List RowValue) → IsLong self.old before
             → IsUnmade (shape_in self.old) (before ++ rows.old.items) why) }
