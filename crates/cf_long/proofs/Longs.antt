@@ -229,8 +229,11 @@ none_long plan filling found one lawful same none filled =
       gone_count = refl;
       segments = 0;
       whole = omega arith;
-      let_go = record { found_are = none; nodes = λ k. subst (λ (rs : List RowValue). distinct filling.segments.shape rs ≤ filling.segments.shape.writers * filling.segments.shape.nodes)
-          (sym (part_after n (n * k) [] (omega arith))) (omega arith) };
+      let_go = record {
+        found_are = none;
+        nodes = λ k. subst (λ (rs : List RowValue). distinct filling.segments.shape rs ≤ filling.segments.shape.writers * filling.segments.shape.nodes)
+            (sym (part_after n (n * k) [] (omega arith))) (omega arith);
+      };
       filled = filled;
       within = omega arith;
       few = omega arith;

@@ -73,7 +73,7 @@ module _ (shape : ShapeValue) (rows : List RowValue) (numbered : AreNumbered 0 r
       let head : t₁ ≡ line (codes "records " ++ decimal (length rows)) =
       e₁ ∙ ap₂ (λ (t : List ℕ) (n : ℕ). t ++ line (codes "records " ++ decimal n)) e₀ are.count in
       let asked : t₂ ≡ line (codes "records " ++ decimal (length rows))
-          ++ flat_map (ask_line_at setup rows (finals_on shape setup rows)) (range_with_len 0 (length setup.asks)) =
+      ++ flat_map (ask_line_at setup rows (finals_on shape setup rows)) (range_with_len 0 (length setup.asks)) =
       e₂ ∙ ap₂ (λ (xs ys : List ℕ). xs ++ ys) head (same_lines setup finals (finals_are ∙ are.finals)) in
       e₃
       ∙ ap₂ (λ (t : List ℕ) (found : List (List Fired)). t ++ flat_map (alert_lines_at setup found) (range_with_len 0 (length setup.triggers)))

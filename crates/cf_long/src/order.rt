@@ -7,12 +7,7 @@ use cf_row::Memory;
 use std::alloc::Global;
 
 // How far the numbers of the entries at some places are behind the first one.
-fn behind_first(
-    alloc: Global,
-    nums: &[u32],
-    first: u32,
-    places: &[u32],
-) -> Result<Vec<u32>, Memory>
+fn behind_first(alloc: Global, nums: &[u32], first: u32, places: &[u32]) -> Result<Vec<u32>, Memory>
     requires within { All (λ place. place < length nums.now) places.now }
     ensures { IfOk result (λ found. found.items ≡ map (λ place. slice_index_or nums.now place 0 - first) places.now) }
 {

@@ -122,7 +122,11 @@ fn segments_of_all_sizes_tell_the_same(rt: HostRuntime) -> Result<(), Fail> {
     for (case, capacity, writers) in table {
         let text = told(&rt, alloc, &case, capacity, writers, 200)?;
         let text = text.ok_or("nodes")?;
-        assert_eq!(rt; text.as_slice(), case.text.as_bytes(), "{capacity} {writers}");
+        assert_eq!(rt;
+            text.as_slice(),
+            case.text.as_bytes(),
+            "{capacity} {writers}"
+        );
     }
     Ok(())
 }
