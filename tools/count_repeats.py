@@ -19,8 +19,8 @@ sys.dont_write_bytecode = True
 import crate_table  # noqa: E402
 
 ROOT = pathlib.Path(__file__).resolve().parent.parent
-MOST_REPEATS = 1401
-LONGEST_CHAIN = 15
+MOST_REPEATS = 1393
+LONGEST_CHAIN = 14
 CLAUSE = re.compile(r"\s*(requires|ensures)\b")
 
 
