@@ -1,5 +1,5 @@
 -- From the parts of the work to what is due, and what is left of the opened file.
-use Rattle.std.proofs.Common.{◌≡◌, ℕ, ◌*◌, ◌<◌, ◌≤◌, Bool, true, false, List, [], ◌++◌, length, Option, Some, None, Result, Ok, Err, MatchResult, All, Any, refl, sym, ap, subst, inl, inr, arith}
+use Rattle.std.proofs.Common.{◌≡◌, ℕ, ◌*◌, ◌<◌, ◌≤◌, Bool, true, false, List, [], ◌++◌, length, Option, Some, None, Result, Ok, Err, MatchResult, All, refl, sym, ap, subst, inl, inr, arith}
 use Rattle.std.proofs.lemmas.Simd.{map-map}
 use Rattle.cf_outside.specs.Files.{File}
 use Rattle.cf_row.specs.Row.{RowValue}
@@ -32,8 +32,6 @@ use Rattle.cf_intake.specs.Several.{AreReadAs, AreHalted, AreStopped}
 use Rattle.cf_fill.specs.Work.{draws, drawn_rows, shape_for}
 use Rattle.cf_run.specs.Hosts.{rows_told, ends_told}
 use Rattle.cf_run.specs.Due.Exceeds.{full, short}
-use Rattle.cf_run.specs.Due.HostsExceed.{some_short}
-use Rattle.cf_shape.specs.Nodes.{distinct}
 use Rattle.cf_fill.proofs.Drawing.{drawn_many}
 use Rattle.cf_fill.proofs.Whole.{whole_taken}
 use Rattle.cf_intake.proofs.Several.{all_taken, halts_after, refused_stopped}

@@ -1,6 +1,5 @@
 -- A snapshot that is taken of hosts which have covered none of their rows, and what is told of it.
-use Rattle.std.proofs.Common.{◌≡◌, ◌∙◌, ℕ, ◌<◌, ◌≤◌, append_assoc, List, [], ◌∷◌, ◌++◌, Option, None, length, map, sum, take, get_or, All, Any, Vec, false, refl, sym, ap, ap₂, subst, inl, inr, arith}
-use Rattle.std.specs.Global.{Global}
+use Rattle.std.proofs.Common.{◌≡◌, ◌∙◌, ℕ, ◌<◌, ◌≤◌, append_assoc, List, [], ◌∷◌, ◌++◌, Option, None, length, map, sum, take, get_or, All, Any, false, refl, sym, ap, ap₂, subst, inl, inr, arith}
 use Rattle.std.specs.List.{flat_map, range_with_len}
 use Rattle.std.proofs.Math.Seq.{take-append_seam}
 use Rattle.std.proofs.lemmas.Bool.{cases_lt}

@@ -1,8 +1,7 @@
 -- What the parts of the work answer.
-use Rattle.std.specs.Prelude.{◌≡◌, ◌⊎◌, ℕ, ◌≤◌, List, [], length, map, slice_index_or, Some, None, Option, Result, Ok, Err}
+use Rattle.std.specs.Prelude.{◌≡◌, ◌⊎◌, ℕ, List, [], map, Some, None, Option, Result, Ok, Err}
 use Rattle.std.specs.Io.KnownBytes.{Appends, Keeps}
 use Rattle.cf_outside.specs.Files.{File}
-use Rattle.cf_row.specs.Row.{RowValue}
 use Rattle.cf_command.specs.Call.{Call, WatchCall}
 use Rattle.cf_command.specs.Call.Call.{watch}
 use Rattle.cf_follow.specs.Followed.{IsReady}

@@ -1,4 +1,4 @@
-use Rattle.std.proofs.Common.{arith, refl}
+use Rattle.std.proofs.Common.{refl}
 use Rattle.std.proofs.lemmas.Result.{err_from_is_err_and}
 use Rattle.cf_command.specs.Call.{snapshot_by}
 use Rattle.cf_run.specs.Due.HostsExceed.{some_full, some_short}
@@ -26,7 +26,7 @@ returns-then-is_some_full-clause-ends g c =
     let many = rw c.deref-2.ensures.value at (c.is_some_full.ensures.some c.if-is_some_full.true) in
     snapshot_exceeds (g.F.Shelf.files c.args.shelf.now) (snapshot_by c.args.command.now) (g.F.Shelf.rest c.args.shelf.now)
     (g.F.Shelf.rest c.read_hosts.new.shelf) c.in_ok-setup.setup (g.F.Shelf.rest c.read_setup.new.shelf) c.in_ok-setup.ensures.read
-    c.in_ok-captures.hosts.items
+    c.in_ok-captures.captures.items
     (rw (c.in_ok-setup.ensures.files, c.format_of.ensures.0, c.format_of.ensures.1, c.deref.ensures.value) at c.in_ok-captures.ensures.read)
     (refusals.Full c.args.command.now.sizes.capacity) (some_full many refl)
 
@@ -37,10 +37,10 @@ returns-in-Err-Nodes-clause-ends g c =
     (g.F.Shelf.rest c.read_hosts.new.shelf) c.in_ok-setup.setup (g.F.Shelf.rest c.read_setup.new.shelf) c.in_ok-setup.ensures.read
     c.in_ok-captures.captures.items
     (rw (c.in_ok-setup.ensures.files, c.format_of.ensures.0, c.format_of.ensures.1, c.deref.ensures.value) at c.in_ok-captures.ensures.read)
-    (refusals.Nodes c.args.command.now.sizes.nodes) (some_short few (c.in-Err-Nodes.ensures.nodes refl) refl)
+    (refusals.Nodes c.args.command.now.sizes.nodes) (some_short few (c.in-Err-Nodes.ensures.nodes c.in-Err-Nodes.field-0-is) refl)
 
-pub returns-in-Err-Memory-clause-ends : goal.returns-in-Err-Memory-clause-ends
-returns-in-Err-Memory-clause-ends g c =
+pub returns-clause-ends : goal.returns-clause-ends
+returns-clause-ends g c =
     snapshot_stopped (g.F.Shelf.files c.args.shelf.now) (snapshot_by c.args.command.now) (g.F.Shelf.rest c.args.shelf.now)
     (g.F.Shelf.rest c.read_hosts.new.shelf) c.in_ok-setup.setup (g.F.Shelf.rest c.read_setup.new.shelf) c.in_ok-setup.ensures.read
     c.in_ok-captures.captures.items

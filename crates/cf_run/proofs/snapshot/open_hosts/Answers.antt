@@ -1,6 +1,5 @@
-use Rattle.std.proofs.Common.{◌≡◌, ◌∙◌, ◌≤◌, ℕ, suc, List, [], ◌∷◌, ◌++◌, All, Option, length, map, append_assoc, append-nil, sym, ap, subst, arith}
+use Rattle.std.proofs.Common.{◌≡◌, ◌∙◌, ◌≤◌, ℕ, suc, List, [], ◌∷◌, ◌++◌, All, Option, length, map, append_assoc, sym, ap, subst, arith}
 use Rattle.std.specs.Vec.Iter.{into_iter_items}
-use Rattle.std.proofs.lemmas.List.{nil_from_length}
 use Rattle.cf_fill.specs.Work.{shape_for}
 use Rattle.cf_intake.specs.Parts.{rows_each}
 use Rattle.cf_row.specs.Row.{RowValue, Fits}
@@ -13,6 +12,24 @@ use Rattle.cf_run.proofs.snapshot.open_hosts.Goals as goal
 later : (P : List RowValue → Type 0) (hosts : List Captured) (host : Captured) (rest : List Captured) → hosts ≡ host ∷ rest → All P (rows_each hosts)
     → All P (rows_each rest)
 later P hosts host rest is all k d lt = subst (λ (hs : List Captured). All P (rows_each hs)) is all (suc k) d (omega (arith, lt))
+
+first : (P : List RowValue → Type 0) (hosts : List Captured) (host : Captured) (rest : List Captured) → hosts ≡ host ∷ rest → All P (rows_each hosts)
+    → P host.rows.items
+first P hosts host rest is all = subst (λ (hs : List Captured). All P (rows_each hs)) is all 0 [] (omega arith)
+
+pub open-requires-clause-fit : goal.open-requires-clause-fit
+open-requires-clause-fit c =
+    let host : Captured = c.in-Some.captured in
+    subst (λ (s : ShapeValue). All (Fits s.schema) host.rows.items) (sym c.in_ok-shape.ensures)
+    (first (All (Fits c.args.log.now.setup.now.schema)) (into_iter_items c.loop-captured.captured-iterator) host (into_iter_items c.next.new.self)
+    c.in-Some.ensures.steps.0 c.loop-captured.invariant.fit)
+
+pub open-requires-clause-few : goal.open-requires-clause-few
+open-requires-clause-few c =
+    let host : Captured = c.in-Some.captured in
+    subst (λ (s : ShapeValue). length host.rows.items ≤ s.capacity) (sym c.in_ok-shape.ensures)
+    (first (λ rows. length rows ≤ c.args.log.now.sizes.capacity) (into_iter_items c.loop-captured.captured-iterator) host (into_iter_items c.next.new.self)
+    c.in-Some.ensures.steps.0 c.loop-captured.invariant.few)
 
 pub loop-captured-preserved : goal.loop-captured-preserved
 loop-captured-preserved c =

@@ -1,11 +1,10 @@
-use Rattle.std.proofs.Common.{◌≡◌, ◌∙◌, ◌<◌, ◌++◌, ℕ, List, [], None, length, map, get_or, take, string_bytes, sym, ap, arith}
-use Rattle.std.proofs.lemmas.List.{get_or-map, get_or_read, length-map}
+use Rattle.std.proofs.Common.{◌∙◌, ◌<◌, ◌++◌, ℕ, List, None, length, map, take, string_bytes, ap, arith}
+use Rattle.std.proofs.lemmas.List.{get_or_read, length-map}
 use Rattle.cf_fill.specs.Work.{shape_for}
 use Rattle.cf_report.specs.Snapshot.{rows_of_cut}
 use Rattle.cf_report.specs.Tags.{bare_entry}
 use Rattle.cf_row.specs.Row.{RowValue}
 use Rattle.cf_run.specs.Hosts.{host_lines_at, rows_covered}
-use Rattle.cf_shape.specs.Lanes.{ShapeValue}
 use Rattle.cf_snapshot.specs.Courses.{CourseValue}
 use Rattle.cf_lemmas.proofs.Ranges.{step_range}
 use Rattle.cf_run.proofs.Taken.{answers_within, host_answered, host_lines, rows_front}

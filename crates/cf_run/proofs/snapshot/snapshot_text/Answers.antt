@@ -1,13 +1,13 @@
-use Rattle.std.proofs.Common.{◌≡◌, ◌∙◌, ◌<◌, ◌≤◌, ◌++◌, ℕ, All, Any, Err, List, length, map, sum, get_or, take, drop, string_bytes, sym, ap, subst, arith, rules}
+use Rattle.std.proofs.Common.{◌≡◌, ◌∙◌, ◌≤◌, ◌++◌, ℕ, All, Any, Err, List, length, map, sum, take, drop, string_bytes, sym, ap, subst, arith, rules}
 use Rattle.std.proofs.lemmas.List.{length-map}
 use Rattle.cf_fill.specs.Work.{shape_for}
+use Rattle.cf_fill.proofs.Logs.{asks_suit}
 use Rattle.cf_intake.specs.Parts.{rows_each}
 use Rattle.cf_row.specs.Row.{RowValue}
 use Rattle.cf_run.specs.Hosts.{AreTold, rows_covered}
 use Rattle.cf_run.specs.Parts.{ends_each}
-use Rattle.cf_shape.specs.Lanes.{ShapeValue}
 use Rattle.cf_shape.specs.Nodes.{distinct}
-use Rattle.cf_snapshot.specs.Courses.{AreFew, AreIdle, AreSuited, CourseValue, NeedsMore, TaskValue, counts_of, idle_course, tasks_of}
+use Rattle.cf_snapshot.specs.Courses.{AreFew, AreIdle, AreSuited, CourseValue, NeedsMore, counts_of, idle_course, tasks_of}
 use Rattle.cf_snapshot.specs.declared.take.Pace.{Pace}
 use Rattle.cf_plain.specs.declared.ask.Ask.{Ask}
 use Rattle.cf_run.proofs.Taken.{courses_back, cut_low, cut_opened, few_opened, idle_opened, more_opened, room_opened, rows_kept, suited_opened, text_told, told_opened}
@@ -19,9 +19,10 @@ take_snapshot-requires-clause-few c =
     let shape = shape_for c.args.setup.now c.args.command.now.sizes in
     let many = length-map c.args.captures.items (λ host. host.rows.items) in
     let size = c.requires.size in
+    let range = c.requires.command.hosts in
     let most = c.requires.command.sizes.capacity.1 in
     subst (λ (cs : List CourseValue). AreFew (counts_of (tasks_of cs))) (sym (c.deref_mut.ensures.value ∙ c.in_ok-hosts.ensures.courses))
-    (few_opened shape hosts (omega (arith, size.0, many)) (omega (arith, size.1, many)) (λ k d lt. let few = c.requires.few k d lt in omega (arith, few, most)))
+    (few_opened shape hosts (omega (arith, range.0, size, many)) (omega (arith, range.1, size, many)) (λ k d lt. let few = c.requires.few k d lt in omega (arith, few, most)))
 
 pub take_snapshot-requires-clause-idle : goal.take_snapshot-requires-clause-idle
 take_snapshot-requires-clause-idle c =
@@ -30,10 +31,12 @@ take_snapshot-requires-clause-idle c =
 
 pub take_snapshot-requires-clause-suits : goal.take_snapshot-requires-clause-suits
 take_snapshot-requires-clause-suits c =
+    let sizes = c.args.command.now.sizes in
     let shape = shape_for c.args.setup.now c.args.command.now.sizes in
     subst (λ (cs : List CourseValue). AreSuited c.asks.result.now (tasks_of cs)) (sym (c.deref_mut.ensures.value ∙ c.in_ok-hosts.ensures.courses))
     (subst (λ (qs : List Ask). AreSuited qs (tasks_of (map (idle_course shape) (rows_each c.args.captures.items)))) (sym c.asks.ensures.asks)
-    (suited_opened shape c.args.setup.now.asks (rows_each c.args.captures.items) c.requires.lawful))
+    (suited_opened shape c.args.setup.now.asks (rows_each c.args.captures.items)
+    (asks_suit c.args.setup.now sizes.capacity sizes.writers sizes.nodes c.requires.lawful)))
 
 pub returns-in_err-taken-clause-nodes : goal.returns-in_err-taken-clause-nodes
 returns-in_err-taken-clause-nodes c =
@@ -66,7 +69,8 @@ count_in_cut-requires-clause-hosts c =
     let cuts = ap (λ (ns : List ℕ). length ns) c.deref.ensures.value ∙ told.cuts in
     let many = length-map c.args.captures.items (λ host. host.rows.items) in
     let size = c.requires.size in
-    omega (arith, cuts, many, size.1)
+    let range = c.requires.command.hosts in
+    omega (arith, cuts, many, size, range.1)
 
 pub push_hosts-requires-clause-told : goal.push_hosts-requires-clause-told
 push_hosts-requires-clause-told c =

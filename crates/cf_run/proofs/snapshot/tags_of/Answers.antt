@@ -1,4 +1,4 @@
-use Rattle.std.proofs.Common.{◌∙◌, ℕ, List, length, map, take, ap, ap₂, arith}
+use Rattle.std.proofs.Common.{◌∙◌, List, map, ap, ap₂, arith}
 use Rattle.std.proofs.lemmas.List.{take_all}
 use Rattle.cf_report.specs.Tags.{bare_log}
 use Rattle.cf_row.specs.Row.{RowValue}
