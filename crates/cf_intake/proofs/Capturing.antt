@@ -86,12 +86,12 @@ faults_same scope false bytes at code at' code' p q =
     let one : p.fault ≡ q.fault = (records_one scope bytes).one_fault p.fault q.fault p.fault_is q.fault_is in
     (p.record_is ∙ ap (λ f. record_of (Pcap f)) one ∙ sym q.record_is, p.code_is ∙ ap (λ f. code_of (Pcap f)) one ∙ sym q.code_is)
 
-frames_either : (scope : Scope) (b : Bool) (bytes : List ℕ) (frames : List FrameValue) (at code : ℕ) → AreFramesBy scope b bytes frames
+pub frames_either : (scope : Scope) (b : Bool) (bytes : List ℕ) (frames : List FrameValue) (at code : ℕ) → AreFramesBy scope b bytes frames
     → HasFaultIn scope b bytes at code → ⊥
 frames_either scope true bytes frames at code are has = (one_case_of scope bytes).either frames has.fault are has.fault_is
 frames_either scope false bytes frames at code are has = (records_one scope bytes).either frames has.fault are has.fault_is
 
-frames_same : (scope : Scope) (b : Bool) (bytes : List ℕ) (p q : List FrameValue) → AreFramesBy scope b bytes p → AreFramesBy scope b bytes q → p ≡ q
+pub frames_same : (scope : Scope) (b : Bool) (bytes : List ℕ) (p q : List FrameValue) → AreFramesBy scope b bytes p → AreFramesBy scope b bytes q → p ≡ q
 frames_same scope true bytes p q are also = (one_case_of scope bytes).one_capture p q are also
 frames_same scope false bytes p q are also = (records_one scope bytes).one_capture p q are also
 
@@ -108,12 +108,12 @@ pub packets_same : (schema : PacketSchema) (bytes : List ℕ) (a b : List RowVal
 packets_same schema bytes a b p q = p.rows_are
     ∙ ap (packet_rows schema) (frames_same (scope_by Limited schema) (begins_section bytes) bytes p.frames q.frames p.frames_are q.frames_are) ∙ sym q.rows_are
 
-record Fault (scope : Scope) (b : Bool) (bytes : List ℕ) : Type 0 where
-  place : ℕ
-  code : ℕ
-  has : HasFaultIn scope b bytes place code
+pub record Fault (scope : Scope) (b : Bool) (bytes : List ℕ) : Type 0 where
+  pub place : ℕ
+  pub code : ℕ
+  pub has : HasFaultIn scope b bytes place code
 
-some_case : (scope : Scope) (b : Bool) (bytes : List ℕ) → ((frames : List FrameValue) × AreFramesBy scope b bytes frames) ⊎ Fault scope b bytes
+pub some_case : (scope : Scope) (b : Bool) (bytes : List ℕ) → ((frames : List FrameValue) × AreFramesBy scope b bytes frames) ⊎ Fault scope b bytes
 some_case scope true bytes = elim (one_case_of scope bytes).some [
   | inl whole ↦ inl (whole.0, whole.1)
   | inr bad ↦ inr
@@ -145,7 +145,7 @@ truncated_end Records truncated bytes rows k is = absurd is
 truncated_end (Packets schema) false bytes rows k is = absurd is
 truncated_end (Packets schema) true bytes rows k is = before_end (links_by schema) (begins_section bytes) bytes is.0.frames is.0.frames_are
 
-before_fault : (scope : Scope) (b : Bool) (bytes : List ℕ) (frames : List FrameValue) → AreFramesBefore scope b bytes frames → (at : ℕ) × (code : ℕ)
+pub before_fault : (scope : Scope) (b : Bool) (bytes : List ℕ) (frames : List FrameValue) → AreFramesBefore scope b bytes frames → (at : ℕ) × (code : ℕ)
     × HasFaultIn scope b bytes at code
 before_fault scope true bytes frames is =
     let k = number_of scope.length (length frames) in
@@ -154,7 +154,7 @@ before_fault scope false bytes frames is =
     let k = number_of scope.length (length frames) in
     (k, 5, record { fault = faults.Cut k; fault_is = is.fault; record_is = refl; code_is = refl })
 
-before_same : (scope : Scope) (b : Bool) (bytes : List ℕ) (p q : List FrameValue) → AreFramesBefore scope b bytes p → AreFramesBefore scope b bytes q → p ≡ q
+pub before_same : (scope : Scope) (b : Bool) (bytes : List ℕ) (p q : List FrameValue) → AreFramesBefore scope b bytes p → AreFramesBefore scope b bytes q → p ≡ q
 before_same scope true bytes p q is also =
     (blocks_case scope bytes).one_frames p q (Some (number_of scope.length (length p))) (Some (number_of scope.length (length q))) (is, refl) (also, refl)
 before_same scope false bytes p q is also =
@@ -203,7 +203,7 @@ packets_never longest schema truncated bytes rows None at code are has =
 packets_never longest schema truncated bytes rows (Some k) at code are has = has.1 rows k are
 
 -- whether it is truncated
-before_or_not : (scope : Scope) (b : Bool) (bytes : List ℕ) → ((frames : List FrameValue) × AreFramesBefore scope b bytes frames)
+pub before_or_not : (scope : Scope) (b : Bool) (bytes : List ℕ) → ((frames : List FrameValue) × AreFramesBefore scope b bytes frames)
     ⊎ ((frames : List FrameValue) → AreFramesBefore scope b bytes frames → ⊥)
 before_or_not scope true bytes = elim (blocks_case scope bytes).some [
   | inl says ↦ blocks_said says.0 says.1 says.2

@@ -10,4 +10,7 @@ pub mod OneCase
 pub mod MoreRows
 pub mod Several
 pub mod SingleReads
+pub mod Numbering
 pub mod Breaking
+pub mod Serial
+pub mod OneSeries

@@ -84,7 +84,7 @@ shown_in false scope bytes short = records_shown scope bytes short
 pub opening_unbroken : (schema : PacketSchema) (held bytes : List ℕ) (rows : List RowValue) → IsOpening held bytes rows → ShowNoFault schema bytes
 opening_unbroken schema held bytes rows opening = shown_in (begins_section bytes) (scope_by Any schema) bytes opening.short
 
-one_frames : (b : Bool) (scope : Scope) (bytes : List ℕ) (xs ys : List FrameValue) → AreFramesGiven scope b bytes xs → AreFramesGiven scope b bytes ys
+pub one_frames : (b : Bool) (scope : Scope) (bytes : List ℕ) (xs ys : List FrameValue) → AreFramesGiven scope b bytes xs → AreFramesGiven scope b bytes ys
     → xs ≡ ys
 one_frames true scope bytes xs ys p q = one_given (blocks.pcapng scope) bytes xs ys p q
 one_frames false scope bytes xs ys p q = one_given (records.pcap scope) bytes xs ys p q

@@ -1,9 +1,13 @@
 -- Each file has one meaning, by what a setup's rows are read from: as a capture of packets, which may be truncated or not, or as a file of other records.
-use Rattle.std.specs.Prelude.{◌≡◌, ◌⊎◌, ℕ, Bool, List}
+use Rattle.std.specs.Prelude.{◌≡◌, ◌⊎◌, ℕ, Bool, List, Some}
+use Rattle.cf_outside.specs.Files.{File}
+use Rattle.cf_packet6.specs.declared.PacketSchema.{PacketSchema}
+use Rattle.cf_row.specs.Row.{RowValue}
 use Rattle.cf_row.specs.declared.schema.Attr.{Attr}
 use Rattle.cf_setup.specs.declared.source.Source.{Source}
 use Rattle.cf_intake.specs.Faults.{HasFaultTo}
 use Rattle.cf_intake.specs.Rows.{CaptureValue, AreRowsTo}
+use Rattle.cf_intake.specs.Series.{AreEndToEnd, SeriesEnd}
 
 -- In the format that the schema asks for, and of the two formats of packets in the one that it begins as, a file has one list
 -- of rows or has a fault, never both, and the fault is at one record by one code alone. Where it may be truncated, it is whole or ends within
@@ -17,3 +21,10 @@ pub record OneCase (source : Source) (truncated : Bool) (attrs : List Attr) (byt
   pub one_fault : (record_at code other other_code : ℕ) → HasFaultTo source truncated attrs bytes record_at code
       → HasFaultTo source truncated attrs bytes other other_code
       → (record_at ≡ other) × (code ≡ other_code)
+
+-- Captures of packets, of any length, that are read one after another have one list of records, end to end, and one end, if the files are
+-- told.
+pub record OneSeries (schema : PacketSchema) (truncated : Bool) (files : List File) (names : List (List ℕ)) : Type 0 where
+  pub some : (rows : List RowValue) × (end : SeriesEnd) × AreEndToEnd schema truncated (Some files) 1 names rows end
+  pub one : (a b : List RowValue) (end other : SeriesEnd) → AreEndToEnd schema truncated (Some files) 1 names a end
+      → AreEndToEnd schema truncated (Some files) 1 names b other → (a ≡ b) × (end ≡ other)

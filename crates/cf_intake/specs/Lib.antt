@@ -10,3 +10,4 @@ pub mod Parts
 pub mod Causes
 pub mod Reading
 pub mod Reads
+pub mod Series

@@ -1,5 +1,5 @@
 -- A capture is read by single reads: how far they have come, and which records end within them.
-use Rattle.std.specs.Prelude.{◌≡◌, ℕ, ◌+◌, ◌<◌, ◌≤◌, Bool, true, false, List, [], ◌∷◌, ◌++◌, length, slice_get, Option, Some, None, Result, MatchResult}
+use Rattle.std.specs.Prelude.{◌≡◌, ℕ, suc, ◌+◌, ◌<◌, ◌≤◌, Bool, true, false, List, [], ◌∷◌, ◌++◌, length, slice_get, Option, Some, None, Result, MatchResult}
 use Rattle.std.specs.Io.KnownBytes.{Appends, Consumes, IsAtEnd, Keeps}
 use Rattle.cf_outside.specs.Files.{ShelfView}
 use Rattle.cf_row.specs.Row.{RowValue}
@@ -36,6 +36,11 @@ pub record AreRowsGiven (schema : PacketSchema) (bytes : List ℕ) (rows : List 
 -- the rows are numbered one by one from this number on, up to 2^32 - 1
 abbrev pub AreNumberedFrom : ℕ → List RowValue → Type 0
 AreNumberedFrom from rows = (place : ℕ) (row : RowValue) → slice_get rows place ≡ Some row → row.num ≡ num_of Any (from + place)
+
+-- the rows, numbered one by one from this number on, up to 2^32 - 1
+abbrev pub numbered_on : ℕ → List RowValue → List RowValue
+numbered_on first [] = []
+numbered_on first (row ∷ rows) = record row { num = num_of Any first } ∷ numbered_on (suc first) rows
 
 -- Before four bytes have come, which tell the format, all are kept, and no record has ended.
 pub record IsOpening (held bytes : List ℕ) (rows : List RowValue) : Type 0 where
@@ -95,6 +100,11 @@ abbrev pub HasNext : Reads → Reads → (before now : ShelfView) → Option (Li
 HasNext old new before now None =
     ((bytes : List ℕ) (rows : List RowValue) → HaveRead old bytes rows → HaveRead new bytes rows × FindsEnd before now) × (new.schema ≡ old.schema)
 HasNext old new before now (Some given) = MovesOn old new before now given
+
+-- the same with rows that are numbered from this number on
+abbrev pub HasNextFrom : ℕ → Reads → Reads → (before now : ShelfView) → Option (List RowValue) → Type 0
+HasNextFrom first old new before now None = HasNext old new before now None
+HasNextFrom first old new before now (Some given) = (more : List RowValue) × (given ≡ numbered_on first more) × HasNext old new before now (Some more)
 
 -- what is said of a reading that has begun
 abbrev pub WhileReading : Reads → Type 0 → Type 0

@@ -21,6 +21,15 @@ line_of (Capture at code) = codes "capture: record " ++ (decimal at ++ (codes " 
 line_of (Full most) = codes "full: more than " ++ (decimal most ++ (codes " records" ++ 10 ∷ []))
 line_of (Nodes nodes) = codes "nodes: more than " ++ (decimal nodes ++ (codes " nodes" ++ 10 ∷ []))
 
+-- the line of what refuses a capture that is at that place of several, the first being at place 1; what refuses no capture has its own
+abbrev pub line_at : ℕ → Refusal → List ℕ
+line_at place Words = line_of Words
+line_at place NoFile = codes "capture " ++ (decimal place ++ (codes ": none of that name" ++ 10 ∷ []))
+line_at place (Setup line code) = line_of (Setup line code)
+line_at place (Capture at code) = codes "capture " ++ (decimal place ++ (codes ": record " ++ (decimal at ++ (codes " code " ++ (decimal code ++ 10 ∷ [])))))
+line_at place (Full most) = line_of (Full most)
+line_at place (Nodes nodes) = line_of (Nodes nodes)
+
 -- a file that is not opened is not read
 abbrev pub unopened : OpenFault → ReadError
 unopened opens.Missing = errors.Missing

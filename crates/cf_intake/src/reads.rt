@@ -4,14 +4,17 @@ ghost use Rattle.cf_row.specs.Row.{Fits, RowValue};
 ghost use Rattle.cf_packet6.specs.Schema6.{attrs_by};
 ghost use Rattle.cf_intake.specs.Causes.{HasStopCause};
 ghost use Rattle.cf_intake.specs.declared.refusal.Stop.TheVariants as stops;
-ghost use Rattle.cf_intake.specs.Reads.{AreNumberedFrom, AreReadBy, FailsToRead, HasBroken, HasEndedAs, HasNext, HasNotBroken, HaveRead, IsUnderWay, MovesPiece, WhileReading, view_by};
+ghost use Rattle.cf_intake.specs.Reading.{AddsFew, Feeds, IfReaderAt, reads_blocks, reads_scope};
+ghost use Rattle.cf_intake.specs.Rows.{packet_rows};
+ghost use Rattle.cf_intake.specs.Reads.{AreNumberedFrom, AreReadBy, FailsToRead, HasBroken, HasEndedAs, HasNext, HasNextFrom, HasNotBroken, HaveRead, IsUnderWay, MovesPiece, WhileReading, view_by};
 
 use crate::pieces::{feed_rows, links_of};
 use crate::reader::Reader;
 use crate::refusal::{Halt, Refusal, Stop};
+use crate::rows::{numbered_rows, rows_of};
 use cf_outside::Shelf;
 use cf_packet6::PacketSchema;
-use cf_pcap::Scope;
+use cf_pcap::{Frame, Scope};
 use cf_row::{Memory, Row};
 use std::alloc::Global;
 
@@ -33,63 +36,73 @@ pub struct Reads {
     buf: Vec<u8>,
 }
 
-// A reader of the format that the bytes tell, which has taken them, and the rows of the records that end in them.
+// A reader of the format that the bytes tell, which has taken them, and the frames that end in them.
 fn begin_reader(
     alloc: Global,
     schema: PacketSchema,
     held: &[u8],
-) -> Result<(Reader, Vec<Row>), Memory>
+) -> Result<(Reader, Vec<Frame>), Memory>
     requires { 4 ≤ length held.now }
-    ensures begun { IfOk result (λ begun. IsUnderWay schema begun.0 held.now begun.1.items) }
+    ensures begun { IfOk result (λ begun. IsUnderWay schema begun.0 held.now (packet_rows schema begun.1.items)) }
     ensures few { IfOk result (λ begun. 16 * length begun.1.items ≤ length held.now + 15) }
-    ensures fit { IfOk result (λ begun. All (Fits (attrs_by schema)) begun.1.items) }
 {
     let mut reader = Reader::of(alloc, held, Scope::unlimited(links_of(schema)))?;
-    let rows = feed_rows(alloc, &mut reader, held, schema)?;
-    Ok((reader, rows))
+    let mut frames = Vec::new(alloc);
+    reader.feed(held, &mut frames)?;
+    Ok((reader, frames))
 }
 
-// The rows of the records that a piece ends while the format is not known before it.
-fn first_rows(
+// The frames that a piece ends while the format is not known before it.
+fn first_frames(
     alloc: Global,
     schema: PacketSchema,
     reader: &mut Option<Reader>,
     held: &mut Vec<u8>,
     piece: &[u8],
-) -> Result<Vec<Row>, Memory>
+) -> Result<Vec<Frame>, Memory>
     requires { reader.old ≡ None }
     ensures read { IfOk result (λ given. (bytes : List ℕ) (rows : List RowValue) → AreReadBy schema None held.old.items bytes rows
-        → AreReadBy schema reader.new held.new.items (bytes ++ piece.now) (rows ++ given.items)) }
+        → AreReadBy schema reader.new held.new.items (bytes ++ piece.now) (rows ++ packet_rows schema given.items)) }
     ensures few { IfOk result (λ given. (bytes : List ℕ) (rows : List RowValue) → AreReadBy schema None held.old.items bytes rows
         → 16 * length given.items ≤ length piece.now + 18) }
-    ensures fit { IfOk result (λ given. All (Fits (attrs_by schema)) given.items) }
 {
     held.extend_from_slice(piece)?;
     if held.len() < FORMAT {
         return Ok(Vec::new(alloc));
     }
-    let (begun, rows) = begin_reader(alloc, schema, held)?;
+    let (begun, frames) = begin_reader(alloc, schema, held)?;
     *reader = Some(begun);
-    Ok(rows)
+    Ok(frames)
 }
 
-// The rows of the records that a piece ends.
-fn next_rows(
+// The frames that a piece ends, after some reader's.
+fn feed_frames(alloc: Global, reader: &mut Reader, piece: &[u8]) -> Result<Vec<Frame>, Memory>
+    ensures blocks { reads_blocks reader.new ≡ reads_blocks reader.old }
+    ensures scope { reads_scope reader.new ≡ reads_scope reader.old }
+    ensures fed { IfOk result (λ frames. Feeds reader.old reader.new piece.now frames.items) }
+    ensures few { IfOk result (λ frames. IfReaderAt reader.old (AddsFew piece.now [] frames.items)) }
+{
+    let mut frames = Vec::new(alloc);
+    reader.feed(piece, &mut frames)?;
+    Ok(frames)
+}
+
+// The frames that a piece ends.
+fn next_frames(
     alloc: Global,
     schema: PacketSchema,
     reader: &mut Option<Reader>,
     held: &mut Vec<u8>,
     piece: &[u8],
-) -> Result<Vec<Row>, Memory>
+) -> Result<Vec<Frame>, Memory>
     ensures read { IfOk result (λ given. (bytes : List ℕ) (rows : List RowValue) → AreReadBy schema reader.old held.old.items bytes rows
-        → AreReadBy schema reader.new held.new.items (bytes ++ piece.now) (rows ++ given.items)) }
+        → AreReadBy schema reader.new held.new.items (bytes ++ piece.now) (rows ++ packet_rows schema given.items)) }
     ensures few { IfOk result (λ given. (bytes : List ℕ) (rows : List RowValue) → AreReadBy schema reader.old held.old.items bytes rows
         → 16 * length given.items ≤ length piece.now + 18) }
-    ensures fit { IfOk result (λ given. All (Fits (attrs_by schema)) given.items) }
 {
     match reader {
-        Some(reader) => feed_rows(alloc, reader, piece, schema),
-        None => first_rows(alloc, schema, reader, held, piece),
+        Some(reader) => feed_frames(alloc, reader, piece),
+        None => first_frames(alloc, schema, reader, held, piece),
     }
 }
 
@@ -105,6 +118,37 @@ impl Reads {
             held: Vec::new(alloc),
             buf: vec![in alloc; 0u8; PIECE]?,
         })
+    }
+
+    // Reads once, and gives the frames of the records that the read ended, or nothing at the end.
+    fn next_frames<F: Shelf>(
+        &mut self,
+        alloc: Global,
+        shelf: &mut F,
+    ) -> Result<Option<Vec<Frame>>, Stop>
+        ensures files { F.files shelf.new ≡ F.files shelf.old }
+        ensures read { IfOk result (λ given. HasNext self.old self.new (view_by (F.rest shelf.old) (F.moved shelf.old))
+            (view_by (F.rest shelf.new) (F.moved shelf.new)) (option_map (λ frames. packet_rows self.old.schema frames.items) given)) }
+        ensures few { IfOk result (λ given. IfSome given (λ frames. WhileReading self.old (length frames.items ≤ 4097))) }
+        ensures schema { self.new.schema ≡ self.old.schema }
+        ensures stopped { result ≡ Err stops.Memory → WhileReading self.old ((piece : List ℕ) × MovesPiece (view_by (F.rest shelf.old) (F.moved shelf.old))
+            (view_by (F.rest shelf.new) (F.moved shelf.new)) piece) }
+        ensures failed { result ≡ Err stops.ReadFault → FailsToRead (view_by (F.rest shelf.old) (F.moved shelf.old))
+            (view_by (F.rest shelf.new) (F.moved shelf.new)) }
+        ensures cause { HasStopCause (F.faults shelf.old) (F.faults shelf.new) result }
+    {
+        let count = shelf.read(&mut self.buf)?;
+        if count == 0 {
+            return Ok(None);
+        }
+        let frames = next_frames(
+            alloc,
+            self.schema,
+            &mut self.reader,
+            &mut self.held,
+            &self.buf[..count],
+        )?;
+        Ok(Some(frames))
     }
 
     /// Reads once, and gives the rows of the records that the read ended, or nothing at the end. After an error there is nothing more
@@ -124,18 +168,31 @@ impl Reads {
             (view_by (F.rest shelf.new) (F.moved shelf.new)) }
         ensures cause { HasStopCause (F.faults shelf.old) (F.faults shelf.new) result }
     {
-        let count = shelf.read(&mut self.buf)?;
-        if count == 0 {
-            return Ok(None);
+        match self.next_frames(alloc, shelf)? {
+            Some(frames) => Ok(Some(rows_of(alloc, &frames, self.schema)?)),
+            None => Ok(None),
         }
-        let rows = next_rows(
-            alloc,
-            self.schema,
-            &mut self.reader,
-            &mut self.held,
-            &self.buf[..count],
-        )?;
-        Ok(Some(rows))
+    }
+
+    /// The same with rows that are numbered from this number on, up to 2^32 - 1.
+    pub(crate) fn next_from<F: Shelf>(
+        &mut self,
+        alloc: Global,
+        shelf: &mut F,
+        first: u32,
+    ) -> Result<Option<Vec<Row>>, Stop>
+        ensures files { F.files shelf.new ≡ F.files shelf.old }
+        ensures read { IfOk result (λ given. HasNextFrom first self.old self.new (view_by (F.rest shelf.old) (F.moved shelf.old))
+            (view_by (F.rest shelf.new) (F.moved shelf.new)) (option_map (λ rows. rows.items) given)) }
+        ensures few { IfOk result (λ given. IfSome given (λ rows. WhileReading self.old (length rows.items ≤ 4097))) }
+        ensures fit { IfOk result (λ given. IfSome given (λ rows. All (Fits (attrs_by self.old.schema)) rows.items)) }
+        ensures schema { self.new.schema ≡ self.old.schema }
+        ensures cause { HasStopCause (F.faults shelf.old) (F.faults shelf.new) result }
+    {
+        match self.next_frames(alloc, shelf)? {
+            Some(frames) => Ok(Some(numbered_rows(alloc, frames, self.schema, first)?)),
+            None => Ok(None),
+        }
     }
 
     /// Why the capture is refused, whatever follows, if what was read shows its fault.

@@ -1,6 +1,6 @@
 // Why the work of a command has no result.
 ghost use Rattle.std.specs.Prelude.{◌≡◌, string_bytes, IfOk};
-ghost use Rattle.cf_intake.specs.Refusals.{line_of, unread, unset};
+ghost use Rattle.cf_intake.specs.Refusals.{line_at, line_of, unread, unset};
 ghost use Rattle.cf_intake.specs.declared.refusal.Halt.TheVariants.{Stopped};
 ghost use Rattle.cf_intake.specs.declared.refusal.Stop.TheVariants as stops;
 
@@ -43,6 +43,20 @@ impl Refusal {
             }
             Refusal::Full { most } => format!(in alloc; "full: more than {most} records\n"),
             Refusal::Nodes { nodes } => format!(in alloc; "nodes: more than {nodes} nodes\n"),
+        }
+    }
+
+    /// The line that is written if several captures are named and this refuses the one at that place, the first being at place 1. What
+    /// refuses no capture has its own line.
+    pub fn line_at(self, alloc: Global, place: u32) -> Result<String, Memory>
+        ensures { IfOk result (λ line. string_bytes line ≡ line_at place self) }
+    {
+        match self {
+            Refusal::NoFile => format!(in alloc; "capture {place}: none of that name\n"),
+            Refusal::Capture { at, code } => {
+                format!(in alloc; "capture {place}: record {at} code {code}\n")
+            }
+            _ => self.line(alloc),
         }
     }
 }

@@ -5,6 +5,7 @@ ghost use Rattle.cf_packet6.specs.Schema6.{attrs_by};
 ghost use Rattle.cf_records.specs.Records.{AreFirst, IsRecordFile};
 ghost use Rattle.cf_intake.specs.Faults.{HasLineFault};
 ghost use Rattle.cf_intake.specs.Parts.{IsBad, IsSetupRead, source_in, attrs_in};
+ghost use Rattle.cf_intake.specs.Reads.{numbered_on};
 ghost use Rattle.cf_intake.specs.Rows.{packet_rows, row_by};
 
 use crate::refusal::Halt;
@@ -75,6 +76,26 @@ pub(crate) fn rows_of(
     let mut rows = Vec::with_capacity(alloc, frames.len())?;
     for frame in frames {
         rows.push(row_of(alloc, frame, schema)?)?;
+    }
+    Ok(rows)
+}
+
+/// A row for each frame, by that schema. They are numbered from this number on, up to 2^32 - 1.
+pub(crate) fn numbered_rows(
+    alloc: Global,
+    frames: Vec<Frame>,
+    schema: PacketSchema,
+    first: u32,
+) -> Result<Vec<Row>, Memory>
+    ensures rows { IfOk result (λ rows. rows.items ≡ numbered_on first (packet_rows schema frames.items)) }
+    ensures fit { IfOk result (λ rows. All (Fits (attrs_by schema)) rows.items) }
+{
+    let mut rows = Vec::with_capacity(alloc, frames.len())?;
+    let mut num = first;
+    for frame in frames {
+        let frame = Frame { num, ..frame };
+        rows.push(row_of(alloc, &frame, schema)?)?;
+        num = num.saturating_add(1);
     }
     Ok(rows)
 }
