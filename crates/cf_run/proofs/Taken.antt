@@ -162,7 +162,8 @@ module _ (shape : ShapeValue) where
         ∙ ap (λ (ts : List TaskValue). map (λ (t : TaskValue). t.rows) ts) (same ∙ ap (λ (cs : List CourseValue). tasks_of cs) is) ∙ opened_rows hosts
 
 -- as many hosts stand where they stood
-pub courses_back : (opened courses more : List CourseValue) (n : ℕ) → tasks_of courses ≡ tasks_of opened → length opened ≡ n → take n (courses ++ more) ≡ courses
+pub courses_back : (opened courses more : List CourseValue) (n : ℕ) → tasks_of courses ≡ tasks_of opened → length opened ≡ n
+    → take n (courses ++ more) ≡ courses
 courses_back opened courses more n same long =
     let many : length courses ≡ n = sym (length-map courses (λ (c : CourseValue). c.task)) ∙ ap (λ (ts : List TaskValue). length ts) same
     ∙ length-map opened (λ (c : CourseValue). c.task) ∙ long in
@@ -238,8 +239,10 @@ pub text_told : (shape : ShapeValue) (setup : SetupValue) (cut : List ℕ) (host
     → after ≡ mid ++ flat_map (host_lines_at shape setup cut (rows_covered courses) given) (range_with_len 0 (length courses))
     → after ≡ hosts_text shape setup cut hosts ends
 text_told shape setup cut hosts ends given courses total before mid after none first total_is rows_are ends_are rest =
-    let many : length courses ≡ length hosts = sym (length-map courses (λ (c : CourseValue). c.task.rows)) ∙ ap (λ (hs : List (List RowValue)). length hs) rows_are in
+    let many : length courses ≡ length hosts = sym (length-map courses (λ (c : CourseValue). c.task.rows))
+    ∙ ap (λ (hs : List (List RowValue)). length hs) rows_are in
     rest
     ∙ ap₂ (λ (xs ys : List ℕ). xs ++ ys) (first ∙ ap (λ (xs : List ℕ). xs ++ cut_line total) none ∙ ap (λ (n : ℕ). cut_line n) total_is)
-    (ap₂ (λ (hs : List (List RowValue)) (es : List (Option ℕ)). flat_map (host_lines_at shape setup cut hs es) (range_with_len 0 (length courses))) rows_are ends_are
+    (ap₂ (λ (hs : List (List RowValue)) (es : List (Option ℕ)). flat_map (host_lines_at shape setup cut hs es)
+    (range_with_len 0 (length courses))) rows_are ends_are
     ∙ ap (λ (n : ℕ). flat_map (host_lines_at shape setup cut hosts ends) (range_with_len 0 n)) many)

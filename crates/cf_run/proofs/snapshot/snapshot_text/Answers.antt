@@ -22,7 +22,8 @@ take_snapshot-requires-clause-few c =
     let range = c.requires.command.hosts in
     let most = c.requires.command.sizes.capacity.1 in
     subst (λ (cs : List CourseValue). AreFew (counts_of (tasks_of cs))) (sym (c.deref_mut.ensures.value ∙ c.in_ok-hosts.ensures.courses))
-    (few_opened shape hosts (omega (arith, range.0, size, many)) (omega (arith, range.1, size, many)) (λ k d lt. let few = c.requires.few k d lt in omega (arith, few, most)))
+    (few_opened shape hosts (omega (arith, range.0, size, many)) (omega (arith, range.1, size, many))
+    (λ k d lt. let few = c.requires.few k d lt in omega (arith, few, most)))
 
 pub take_snapshot-requires-clause-idle : goal.take_snapshot-requires-clause-idle
 take_snapshot-requires-clause-idle c =
@@ -86,7 +87,8 @@ push_hosts-requires-clause-told c =
     let old = c.in_ok-hosts.hosts.courses in
     subst (λ (qs : List Ask). AreTold shape qs (rows_covered (take old.len (new ++ drop (length new) old.items))) taken) c.asks.ensures.asks
     (subst (λ (hs : List (List RowValue)). AreTold shape c.asks.result.now hs taken)
-    (sym (ap rows_covered (courses_back opened new (drop (length new) c.in_ok-hosts.hosts.courses.items) c.in_ok-hosts.hosts.courses.len same c.deref_mut.ensures.len)
+    (sym (ap rows_covered
+    (courses_back opened new (drop (length new) c.in_ok-hosts.hosts.courses.items) c.in_ok-hosts.hosts.courses.len same c.deref_mut.ensures.len)
     ∙ rows_kept shape hosts opened is new same)) told)
 
 pub returns-clause-text : goal.returns-clause-text
