@@ -31,6 +31,19 @@ const EVERY_1: &[&str] = &["watch", "--setup", "s", "--every", "1", "c"];
 
 const NEVER: &[&str] = &["watch", "--setup", "s", "--every", "0", "c"];
 
+const DROPPING: &[&str] = &[
+    "watch",
+    "--setup",
+    "s",
+    "--every",
+    "1",
+    "--capacity",
+    "1",
+    "--segments",
+    "1",
+    "c",
+];
+
 const TRUNCATED: &[&str] = &["watch", "--setup", "s", "--every", "0", "--truncated", "c"];
 
 // The words, the files, how many bytes a read moves at most, which calls of the devices fail, and the number of the status and the text.
@@ -99,6 +112,21 @@ fn rounds_and_the_end_of_a_capture_are_written(rt: HostRuntime) -> Result<(), Fa
             text: &[
                 "alert t 1 60 @1\n",
                 "records 1\nwindow 0\nask q list 1: 0\nalert t 1 60\ntruncated: record 1\n",
+            ],
+            ..PLAIN
+        },
+        // a beat ends a round; and an alert stays when its segment is dropped
+        Case {
+            words: &["watch", "--setup", "s", "--every", "1", "--beat", "1", "c"],
+            text: &[ROUND, "at 2 2\ntotal a count 2 sum 160\n", END],
+            ..PLAIN
+        },
+        Case {
+            words: DROPPING,
+            text: &[
+                FIRST,
+                "alert t 2 100 @2\nlive q @1..2 list 1: 1\n",
+                "records 2\nwindow 1\nask q list 1: 1\nalert t 1 60\nalert t 2 100\n",
             ],
             ..PLAIN
         },
@@ -220,6 +248,49 @@ fn devices_fail_while_a_capture_is_watched(rt: HostRuntime) -> Result<(), Fail> 
     ] {
         assert!(rt; 0 < case.most);
         expect(&rt, rt.alloc(), &case)?;
+    }
+    Ok(())
+}
+
+const EACH: &str = "schema packet\nfilter f *\naggregate a f len\ntrigger t a count >= 1\n";
+
+// A capture in pcap of packets without bytes, one in each second from 1 to 5,000, or the other way round.
+fn seconds_of(alloc: Global, is_downward: bool) -> Result<Vec<u8>, Memory> {
+    let mut capture = CAPTURE.split_at(24).0.to_vec(alloc)?;
+    for k in 1..5001u32 {
+        let second = if is_downward { 5001 - k } else { k };
+        capture.extend_from_slice(&second.to_le_bytes())?;
+        capture.extend_from_slice(&[0; 12])?;
+    }
+    Ok(capture)
+}
+
+// How many lines of alerts there are while the watch runs, and at its end.
+fn alerts_in(text: &[u8]) -> (u64, u64) {
+    let mut counts = (0u64, 0u64);
+    for line in text.split(|byte| *byte == b'\n') {
+        if line.starts_with(b"alert t ") {
+            if line.contains(&b'@') {
+                counts.0 = counts.0.wrapping_add(1);
+            } else {
+                counts.1 = counts.1.wrapping_add(1);
+            }
+        }
+    }
+    counts
+}
+
+#[test]
+fn each_second_is_told_before_it_is_forgotten(rt: HostRuntime) -> Result<(), Fail> {
+    let alloc = rt.alloc();
+    for is_downward in [false, true] {
+        let mut shelf = MemShelf::new(alloc, Vec::new(alloc), 65536);
+        shelf.put("s", EACH.as_bytes())?;
+        shelf.put("c", &seconds_of(alloc, is_downward)?)?;
+        let mut sink = MemSink::new(alloc, 250_000, Vec::new(alloc), 65536)?;
+        let outcome = run(&rt, alloc, NEVER, &mut shelf, &mut sink, &FreeGate);
+        assert_eq!(rt; outcome.status.number(), 0);
+        assert_eq!(rt; alerts_in(sink.held()), (5000, 4096));
     }
     Ok(())
 }
