@@ -1,5 +1,5 @@
 -- A log of any length goes on.
-use Rattle.std.proofs.Common.{◌≡◌, ◌∙◌, ℕ, suc, ◌+◌, ◌-◌, ◌*◌, ◌<◌, ◌≤◌, ◌^◌, min, List, [], ◌∷◌, ◌++◌, length, map, refl, sym, ap, ap₂, subst, arith, inl, inr, length-append, append-nil, append_assoc, mul-suc, one-mul}
+use Rattle.std.proofs.Common.{◌≡◌, ◌∙◌, ℕ, suc, ◌+◌, ◌-◌, ◌*◌, ◌<◌, ◌≤◌, ◌^◌, List, [], ◌++◌, length, map, refl, sym, ap, ap₂, subst, arith, inl, inr, length-append, append-nil, append_assoc, mul-suc, one-mul}
 use Rattle.std.specs.List.{All, AllZip}
 use Rattle.std.proofs.lemmas.Bool.{cases_lt}
 use Rattle.std.proofs.lemmas.List.{get_or-append-add, get_or_append_left, length-map}
@@ -254,7 +254,7 @@ module _ (old v : LongValue) (keep : (rows : List RowValue) → IsLong old rows 
   long_all : length all ≡ length front + length rest
   long_all = ap (λ (rs : List RowValue). length rs) (sym split) ∙ length-append front rest
 
-  takes_front : (before : List RowValue) → IsLong old before → IsLong new (before ++ front)
+  pub takes_front : (before : List RowValue) → IsLong old before → IsLong new (before ++ front)
   takes_front before is =
       let at = keep before is in
       let here = here_count v before at in
@@ -279,3 +279,27 @@ module _ (old v : LongValue) (keep : (rows : List RowValue) → IsLong old rows 
         numbered = subst (λ (n : ℕ). AreNumbered n rest) now (numbered_behind (count_of old) front rest both);
         few = omega (arith, few, size, now);
       }
+
+-- nothing was taken yet
+pub takes_none : (long : LongValue) (all : List RowValue) → TakesSome long long all all
+takes_none long all = record {
+  taken = [];
+  split = refl;
+  long = λ before is. subst (λ (rs : List RowValue). IsLong long rs) (sym (append-nil before)) is;
+}
+
+-- and then some more
+pub takes_then : (old mid new : LongValue) (all left rest : List RowValue) → TakesSome old mid all left → TakesSome mid new left rest → TakesSome old new all rest
+takes_then old mid new all left rest first then = record {
+  taken = first.taken ++ then.taken;
+  split = append_assoc first.taken then.taken rest ∙ (ap (λ (rs : List RowValue). first.taken ++ rs) then.split ∙ first.split);
+  long = λ before is. subst (λ (rs : List RowValue). IsLong new rs) (append_assoc before first.taken then.taken)
+      (then.long (before ++ first.taken) (first.long before is));
+}
+
+-- all were taken
+pub takes_all : (old new : LongValue) (all left before : List RowValue) → TakesSome old new all left → left ≡ [] → IsLong old before → IsLong new (before ++ all)
+takes_all old new all left before takes none is =
+    let whole : takes.taken ≡ all =
+    sym (append-nil takes.taken) ∙ (ap (λ (rs : List RowValue). takes.taken ++ rs) (sym none) ∙ takes.split) in
+    subst (λ (rs : List RowValue). IsLong new (before ++ rs)) whole (takes.long before is)

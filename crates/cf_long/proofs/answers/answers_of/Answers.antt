@@ -7,7 +7,7 @@ use Rattle.cf_plain.specs.declared.ask.Ask.TheVariants as asks_are
 use Rattle.cf_plain.specs.declared.finding.Finding.{Finding}
 use Rattle.cf_report.specs.Report.{marks_of}
 use Rattle.cf_load.specs.Planned.{asks_of}
-use Rattle.cf_long.specs.Found.{body_of_each, found_in}
+use Rattle.cf_long.specs.Found.{body_of_each}
 use Rattle.cf_long.proofs.Found.{back, each_long, front, marks_told, told_each}
 use Rattle.cf_long.proofs.answers.answers_of.Goals as goal
 

@@ -1,4 +1,4 @@
-use Rattle.std.proofs.Common.{◌≡◌, ◌∙◌, ◌≤◌, ◌^◌, ℕ, arith, sym, subst, ap}
+use Rattle.std.proofs.Common.{arith, sym, subst}
 use Rattle.cf_shape.specs.Lanes.{ShapeValue}
 use Rattle.cf_segments.specs.Segments.{AllowsSegments}
 use Rattle.cf_load.specs.Planned.{IsPlan}

@@ -1,4 +1,4 @@
-use Rattle.std.proofs.Common.{◌≡◌, ◌*◌, Err, ℕ, rules, subst}
+use Rattle.std.proofs.Common.{◌≡◌, ◌*◌, Err, rules, subst}
 use Rattle.cf_setup.specs.Setups.{shaped}
 use Rattle.cf_shape.specs.Lanes.{ShapeValue}
 use Rattle.cf_fill.specs.Logs.{IsUnmade}

@@ -1,4 +1,4 @@
-use Rattle.std.proofs.Common.{◌≡◌, ◌∙◌, ◌<◌, [], length, ap, rules}
+use Rattle.std.proofs.Common.{◌∙◌, ◌<◌, [], length, ap, rules}
 use Rattle.cf_plain.specs.Segments.{finding_in}
 use Rattle.cf_plain.specs.declared.ask.Ask.{Ask}
 use Rattle.cf_load.proofs.Findings.{made_more}

@@ -1,4 +1,4 @@
-use Rattle.std.proofs.Common.{◌≡◌, ◌∙◌, [], List, ℕ, rules, string_bytes}
+use Rattle.std.proofs.Common.{◌≡◌, ◌∙◌, [], rules, string_bytes}
 use Rattle.cf_long.proofs.Texts.{final_is}
 use Rattle.cf_long.proofs.text.final_text.Goals as goal
 
