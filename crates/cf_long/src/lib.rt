@@ -9,8 +9,6 @@ mod long;
 mod order;
 mod report;
 mod segment;
-#[cfg(test)]
-mod tests;
 mod text;
 
 pub use answers::Answers;
