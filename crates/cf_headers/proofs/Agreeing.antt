@@ -1,5 +1,5 @@
--- A packet's row is the begin of its row with IPv6 addresses.
-use Rattle.std.proofs.Common.{◌≡◌, ◌⊎◌, inl, inr, ℕ, ◌+◌, ◌%◌, ◌^◌, ◌<◌, ◌≤◌, Bool, true, false, ◌&&◌, ◌==◌, nat_le, List, [], ◌∷◌, ◌++◌, length, drop, take, if◌then◌else◌, Some, None, refl, sym, ap, subst, ◌∙◌, arith}
+-- A packet's row is the begin of its row under `packet6`.
+use Rattle.std.proofs.Common.{◌≡◌, ◌⊎◌, inl, inr, ℕ, ◌+◌, ◌%◌, ◌^◌, ◌<◌, ◌≤◌, Bool, true, false, ◌&&◌, ◌==◌, nat_le, List, [], ◌∷◌, ◌++◌, length, drop, take, if◌then◌else◌, Option, Some, None, refl, sym, ap, subst, ◌∙◌, arith}
 use Rattle.std.proofs.lemmas.Bool.{cases_eq, and_parts, eqb-true, leb-true, le-leb}
 use Rattle.std.proofs.lemmas.Bool.Decides.{nat_tests}
 use Rattle.byteorder.specs.Endian.{big_number}
@@ -9,13 +9,15 @@ use Rattle.cf_pcap.specs.declared.links.Link.TheVariants.{LinuxCookedV2, RawIp, 
 use Rattle.cf_pcap.specs.declared.links.LinkSet.TheVariants.{Basic}
 use Rattle.cf_pcap.specs.Links.{has_some, is_link}
 use Rattle.cf_pcap.specs.Capture.{FrameValue}
+use Rattle.cf_headers.specs.declared.carried.Carried.{Carried}
 use Rattle.cf_headers.specs.declared.layer.Layer.{Layer}
 use Rattle.cf_headers.specs.declared.transport.Transport.{Transport}
 use Rattle.cf_headers.specs.declared.transport.Transport.TheVariants.{Unread, Tcp, Udp}
 use Rattle.cf_headers.specs.Packet.{type_at, is_tagged, network_at, etype_of, vlan_of, has_ipv4, transport_in, kind_of, address_values, network_values, transport_values, is_ipv4}
 use Rattle.cf_headers.specs.Layers.{type_or_0, link_layer, has_tag, past_tag, vlan_in, network_layer}
 use Rattle.cf_headers.specs.Ipv6.{has_ipv6}
-use Rattle.cf_headers.specs.Packet6.{values_by, values_at, Agrees}
+use Rattle.cf_headers.specs.More.{carried4, carried_in, more_values}
+use Rattle.cf_headers.specs.Packet6.{address6_if, values_by, values_at, Agrees}
 
 -- The links.
 
@@ -178,34 +180,42 @@ no_ipv6 place frame = never _ _
 -- The values.
 
 -- those of a packet's row, by what comes after its link header
-abbrev narrow_by : Transport → ℕ → ℕ → ℕ → ℕ → FrameValue → List Value
-narrow_by transport kind etype place vlan packet =
+abbrev narrow_by : Bool → Transport → ℕ → ℕ → ℕ → ℕ → FrameValue → List Value
+narrow_by ipv4 transport kind etype place vlan packet =
     (Num packet.ts ∷ Num packet.caplen ∷ Num packet.len ∷ [])
     ++ (address_values packet.link packet.bytes ++ (Num etype ∷ Num kind
-    ∷ (network_values (has_ipv4 etype place packet.bytes) place packet.bytes ++ (transport_values transport packet.bytes ++ Num vlan ∷ []))))
+    ∷ (network_values ipv4 place packet.bytes ++ (transport_values transport packet.bytes ++ Num vlan ∷ []))))
 
-abbrev wide_by : Transport → ℕ → ℕ → ℕ → ℕ → FrameValue → List Value
-wide_by transport kind etype place vlan packet =
+abbrev wide_by : Transport → ℕ → ℕ → ℕ → ℕ → List Value → FrameValue → List Value
+wide_by transport kind etype place vlan rest packet =
     (Num packet.ts ∷ Num packet.caplen ∷ Num packet.len ∷ [])
     ++ (address_values packet.link packet.bytes ++ (Num etype ∷ Num kind
-    ∷ (network_values (has_ipv4 etype place packet.bytes) place packet.bytes ++
-    (transport_values transport packet.bytes ++ (Num vlan ∷ Num 0 ∷ Num 0 ∷ Num 0 ∷ Num 0 ∷ [])))))
+    ∷ (network_values true place packet.bytes ++ (transport_values transport packet.bytes ++ (Num vlan ∷ rest)))))
 
-front : (transport : Transport) (kind etype place vlan : ℕ) (packet : FrameValue)
-    → take 20 (wide_by transport kind etype place vlan packet) ≡ narrow_by transport kind etype place vlan packet
-front Unread kind etype place vlan packet = refl
-front (Tcp at) kind etype place vlan packet = refl
-front (Udp at) kind etype place vlan packet = refl
+front : (transport : Transport) (kind etype place vlan : ℕ) (rest : List Value) (packet : FrameValue)
+    → take 20 (wide_by transport kind etype place vlan rest packet) ≡ narrow_by true transport kind etype place vlan packet
+front Unread kind etype place vlan rest packet = refl
+front (Tcp at) kind etype place vlan rest packet = refl
+front (Udp at) kind etype place vlan rest packet = refl
 
-abbrev narrow : ℕ → ℕ → ℕ → FrameValue → List Value
-narrow etype place vlan packet =
-    narrow_by (transport_in (has_ipv4 etype place packet.bytes) place packet.bytes)
-    (kind_of (has_ipv4 etype place packet.bytes) (transport_in (has_ipv4 etype place packet.bytes) place packet.bytes)) etype place vlan packet
+abbrev narrow : Bool → Transport → ℕ → ℕ → ℕ → FrameValue → List Value
+narrow ipv4 transport etype place vlan packet = narrow_by ipv4 transport (kind_of ipv4 transport) etype place vlan packet
 
-front_of : (etype place vlan : ℕ) (packet : FrameValue) → take 20 (values_by false etype place vlan packet) ≡ narrow etype place vlan packet
-front_of etype place vlan packet =
-    front (transport_in (has_ipv4 etype place packet.bytes) place packet.bytes)
-    (kind_of (has_ipv4 etype place packet.bytes) (transport_in (has_ipv4 etype place packet.bytes) place packet.bytes)) etype place vlan packet
+transport4 : (place wire : ℕ) (frame : List ℕ) → (carried4 place wire frame).transport ≡ transport_in true place frame
+unfolding carried4
+transport4 place wire frame = refl
+
+front_of : (etype place vlan : ℕ) (packet : FrameValue) → has_ipv4 etype place packet.bytes ≡ true
+    → take 20 (values_by false (carried_in false etype place packet.len packet.bytes) etype place vlan packet)
+    ≡ narrow (has_ipv4 etype place packet.bytes) (transport_in (has_ipv4 etype place packet.bytes) place packet.bytes) etype place vlan packet
+front_of etype place vlan packet is =
+    let frame = packet.bytes in
+    let c : Carried = carried4 place packet.len frame in
+    let carried : carried_in false etype place packet.len frame ≡ Some c = ap (λ (b : Bool). if b then Some c else None) is in
+    ap (λ (o : Option Carried). take 20 (values_by false o etype place vlan packet)) carried
+    ∙ front c.transport (kind_of true c.transport) etype place vlan (address6_if false place frame ++ more_values false place (Some c) frame) packet
+    ∙ ap (λ (t : Transport). narrow true t etype place vlan packet) (transport4 place packet.len frame)
+    ∙ ap (λ (b : Bool). narrow b (transport_in b place frame) etype place vlan packet) (sym is)
 
 pub agrees : (packet : FrameValue) → Agrees packet
 agrees packet lawful kind =
@@ -215,9 +225,10 @@ agrees packet lawful kind =
     let vlan = vlan_in (link_layer link frame) frame in
     let ipv4 : is_ipv4 link frame ≡ true = kind_says (is_ipv4 link frame) place frame kind in
     let type : etype_of link frame ≡ 0x0800 = type_of_ipv4 (etype_of link frame) place frame ipv4 in
+    let is : has_ipv4 0x0800 place frame ≡ true = ap (λ n. has_ipv4 n place frame) (sym type) ∙ ipv4 in
     let same : Same link frame = same_by link frame (is_tagged link frame) refl (first_is link frame (basic link lawful)) type in
     ap (λ (l : Layer). take 20 (values_at l vlan packet)) same.layer
-    ∙ ap (λ (b : Bool). take 20 (values_by b 0x0800 place vlan packet)) (no_ipv6 place frame)
-    ∙ front_of 0x0800 place vlan packet
-    ∙ ap (λ n. narrow 0x0800 place n packet) same.vlan
-    ∙ ap (λ n. narrow n place (vlan_of link frame) packet) (sym type)
+    ∙ ap (λ (b : Bool). take 20 (values_by b (carried_in b 0x0800 place packet.len frame) 0x0800 place vlan packet)) (no_ipv6 place frame)
+    ∙ front_of 0x0800 place vlan packet is
+    ∙ ap (λ n. narrow (has_ipv4 0x0800 place frame) (transport_in (has_ipv4 0x0800 place frame) place frame) 0x0800 place n packet) same.vlan
+    ∙ ap (λ n. narrow (has_ipv4 n place frame) (transport_in (has_ipv4 n place frame) place frame) n place (vlan_of link frame) packet) (sym type)

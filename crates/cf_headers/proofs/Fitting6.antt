@@ -1,25 +1,28 @@
--- The row of a packet with IPv6 addresses fits its schema.
-use Rattle.std.proofs.Common.{◌≡◌, ℕ, zero, suc, ◌+◌, ◌/◌, ◌^◌, ◌<◌, Bool, true, false, nat_lt, nat_le, ◌||◌, min, List, ◌∷◌, ◌++◌, length, drop, slice_index, if◌then◌else◌, Option, Some, None, refl, arith}
+-- The row of a packet under `packet6` fits its schema.
+use Rattle.std.proofs.Common.{◌≡◌, ℕ, zero, suc, ◌+◌, ◌/◌, ◌^◌, ◌<◌, ◌≤◌, Bool, true, false, nat_lt, nat_le, min, List, ◌∷◌, ◌++◌, length, drop, slice_index, if◌then◌else◌, Option, Some, None, IfSome, is_some, refl, arith}
 use Rattle.std.proofs.lemmas.Bool.{and_from, lt-ltb}
 use Rattle.byteorder.specs.Endian.{big_number, little_number}
 use Rattle.cf_row.specs.declared.schema.Kind.TheVariants.{U64}
 use Rattle.cf_row.specs.declared.row.Value.{Value}
 use Rattle.cf_row.specs.declared.row.Value.TheVariants.{Num}
 use Rattle.cf_row.specs.Row.{Fits, values_fit, is_of_kind}
-use Rattle.cf_packet6.specs.Schema6.{address_attrs, packet6_attrs}
+use Rattle.cf_packet6.specs.Schema6.{address_attrs, more_attrs, packet6_attrs}
 use Rattle.cf_pcap.specs.declared.links.Link.{Link}
 use Rattle.cf_pcap.specs.declared.links.Link.TheVariants.{Ethernet, LinuxCooked, LinuxCookedV2, RawIp, Ipv4, Ipv6, Null, Loop}
 use Rattle.cf_pcap.specs.Links.{link_of}
 use Rattle.cf_pcap.specs.Capture.{FrameValue}
+use Rattle.cf_headers.specs.declared.carried.Carried.{Carried}
 use Rattle.cf_headers.specs.declared.extension.Upper.{Upper}
 use Rattle.cf_headers.specs.declared.layer.Layer.{Layer}
 use Rattle.cf_headers.specs.declared.transport.Transport.{Transport}
 use Rattle.cf_headers.specs.declared.transport.Transport.TheVariants.{Unread, Tcp, Udp}
-use Rattle.cf_headers.specs.Packet.{has_ipv4, has_addresses, transport_values, number_at}
+use Rattle.cf_headers.specs.Packet.{has_addresses, network_values, transport_values, number_at}
 use Rattle.cf_headers.specs.Layers.{type_or_0, type_of_version, version_type, type_of_family, family_type, layer_of, link_layer, has_tag, past_tag, vlan_in, network_layer}
 use Rattle.cf_headers.specs.Ipv6.{has_ipv6, traffic_class, payload_length, packet6_end, has_extension, is_later_part, extension_length, upper_after, upper_of}
+use Rattle.cf_headers.specs.More.{carried_in, more_values}
 use Rattle.cf_headers.specs.Packet6.{transport_behind, network_values_in, address6_if, packet6_row_of}
 use Rattle.cf_headers.proofs.Fitting.{HoldsBytes, byte_at_fits, u16_at_fits, u32_at_fits, byte_fits, u16_fits, u32_fits, kind_fits, address_fits, addresses_room, number_low, tag_low}
+use Rattle.cf_headers.proofs.MoreFitting.{IsLow, carried_low, more_fit}
 
 u64_at_fits : (frame : List ℕ) (place : ℕ) → HoldsBytes frame → is_of_kind U64 (number_at 8 frame place) ≡ true
 unfolding number_at
@@ -71,6 +74,31 @@ past_low layer frame low h =
     tagged_low (has_tag layer frame) (record { etype = big_number 2 (drop (layer.place + 2) frame); place = layer.place + 4 }) layer
     (number_low 2 frame (layer.place + 2) low) h
 
+layer_near : (link : Option Link) (frame : List ℕ) → (layer_of link frame).place ≤ 20
+layer_near None frame = omega arith
+layer_near (Some Ethernet) frame = omega arith
+layer_near (Some LinuxCooked) frame = omega arith
+layer_near (Some LinuxCookedV2) frame = omega arith
+layer_near (Some RawIp) frame = omega arith
+layer_near (Some Ipv4) frame = omega arith
+layer_near (Some Ipv6) frame = omega arith
+layer_near (Some Null) frame = omega arith
+layer_near (Some Loop) frame = omega arith
+
+link_near : (link : ℕ) (frame : List ℕ) → (link_layer link frame).place ≤ 20
+unfolding link_layer
+link_near link frame = layer_near (link_of link) frame
+
+tagged_near : (b : Bool) (x y : Layer) (n : ℕ) → x.place ≤ n → y.place ≤ n → (if b then x else y).place ≤ n
+tagged_near true x y n p q = p
+tagged_near false x y n p q = q
+
+past_near : (layer : Layer) (frame : List ℕ) (n : ℕ) → layer.place ≤ n → (past_tag layer frame).place ≤ n + 4
+unfolding past_tag
+past_near layer frame n h =
+    tagged_near (has_tag layer frame) (record { etype = big_number 2 (drop (layer.place + 2) frame); place = layer.place + 4 }) layer (n + 4)
+    (omega (arith, h)) (omega (arith, h))
+
 vlan_fits : (layer : Layer) (frame : List ℕ) → nat_lt (vlan_in layer frame) (2 ^ 16) ≡ true
 unfolding vlan_in
 vlan_fits layer frame = lt-ltb (vlan_in layer frame) (2 ^ 16) (tag_low (has_tag layer frame) (big_number 2 (drop layer.place frame)))
@@ -93,11 +121,9 @@ upper_low (suc k) n place end frame low h =
     (upper_low k next (place + extension_length n place frame) end frame low (low place)))
     h
 
-protocol_fits : (place : ℕ) (frame : List ℕ) → HoldsBytes frame → nat_lt (upper_of place frame).protocol (2 ^ 8) ≡ true
+protocol_low : (place : ℕ) (frame : List ℕ) → HoldsBytes frame → (upper_of place frame).protocol < 256
 unfolding upper_of
-protocol_fits place frame low =
-    lt-ltb (upper_of place frame).protocol (2 ^ 8)
-    (upper_low 8 (slice_index frame (place + 6)) (place + 40) (packet6_end place frame) frame low (low (place + 6)))
+protocol_low place frame low = upper_low 8 (slice_index frame (place + 6)) (place + 40) (packet6_end place frame) frame low (low (place + 6))
 
 -- Both network headers.
 
@@ -109,17 +135,9 @@ class_fits place frame low =
 length_fits : (n : ℕ) → nat_lt (min (n + 40) 65535) (2 ^ 16) ≡ true
 length_fits n = lt-ltb (min (n + 40) 65535) (2 ^ 16) (omega arith)
 
-network_fits : (ipv6 : Bool) (etype place : ℕ) (frame : List ℕ) (rest : List Value) → HoldsBytes frame → values_fit (drop 13 packet6_attrs) rest ≡ true
-    → values_fit (drop 7 packet6_attrs) (network_values_in ipv6 etype place frame ++ rest) ≡ true
-network_fits true etype place frame rest low more =
-    and_from _ _ (class_fits place frame low)
-    (and_from _ _ (length_fits (payload_length place frame))
-    (and_from _ _ (byte_at_fits frame (place + 7) low)
-    (and_from _ _ (protocol_fits place frame low)
-    (and_from _ _ refl
-    (and_from _ _ refl more)))))
-network_fits false etype place frame rest low more =
-    let ipv4 = has_ipv4 etype place frame in
+ipv4_fits : (ipv4 : Bool) (place : ℕ) (frame : List ℕ) (rest : List Value) → HoldsBytes frame → values_fit (drop 13 packet6_attrs) rest ≡ true
+    → values_fit (drop 7 packet6_attrs) (network_values ipv4 place frame ++ rest) ≡ true
+ipv4_fits ipv4 place frame rest low more =
     and_from _ _ (byte_fits ipv4 frame (place + 1) low)
     (and_from _ _ (u16_fits ipv4 frame (place + 2) low)
     (and_from _ _ (byte_fits ipv4 frame (place + 8) low)
@@ -127,16 +145,30 @@ network_fits false etype place frame rest low more =
     (and_from _ _ (u32_fits ipv4 frame (place + 12) low)
     (and_from _ _ (u32_fits ipv4 frame (place + 16) low) more)))))
 
-addresses_fit : (ipv6 : Bool) (place : ℕ) (frame : List ℕ) → HoldsBytes frame → values_fit address_attrs (address6_if ipv6 place frame) ≡ true
-addresses_fit true place frame low =
+network_fits : (ipv6 : Bool) (carried : Option Carried) (place : ℕ) (frame : List ℕ) (rest : List Value) → HoldsBytes frame → IfSome carried IsLow
+    → values_fit (drop 13 packet6_attrs) rest ≡ true
+    → values_fit (drop 7 packet6_attrs) (network_values_in ipv6 carried place frame ++ rest) ≡ true
+network_fits ipv6 None place frame rest low is more = ipv4_fits false place frame rest low more
+network_fits false (Some carried) place frame rest low is more = ipv4_fits true place frame rest low more
+network_fits true (Some carried) place frame rest low is more =
+    and_from _ _ (class_fits place frame low)
+    (and_from _ _ (length_fits (payload_length place frame))
+    (and_from _ _ (byte_at_fits frame (place + 7) low)
+    (and_from _ _ (lt-ltb carried.protocol (2 ^ 8) is.protocol)
+    (and_from _ _ refl
+    (and_from _ _ refl more)))))
+
+addresses_fit : (ipv6 : Bool) (place : ℕ) (frame : List ℕ) (rest : List Value) → HoldsBytes frame → values_fit more_attrs rest ≡ true
+    → values_fit (address_attrs ++ more_attrs) (address6_if ipv6 place frame ++ rest) ≡ true
+addresses_fit true place frame rest low more =
     and_from _ _ (u64_at_fits frame (place + 8) low)
     (and_from _ _ (u64_at_fits frame (place + 16) low)
     (and_from _ _ (u64_at_fits frame (place + 24) low)
-    (and_from _ _ (u64_at_fits frame (place + 32) low) refl)))
-addresses_fit false place frame low = refl
+    (and_from _ _ (u64_at_fits frame (place + 32) low) more)))
+addresses_fit false place frame rest low more = and_from _ _ refl (and_from _ _ refl (and_from _ _ refl (and_from _ _ refl more)))
 
 transport_fits : (transport : Transport) (frame : List ℕ) (vlan : ℕ) (rest : List Value) → HoldsBytes frame → nat_lt vlan (2 ^ 16) ≡ true
-    → values_fit address_attrs rest ≡ true
+    → values_fit (address_attrs ++ more_attrs) rest ≡ true
     → values_fit (drop 13 packet6_attrs) (transport_values transport frame ++ (Num vlan ∷ rest)) ≡ true
 transport_fits Unread frame vlan rest low tag more = and_from _ _ tag more
 transport_fits (Tcp place) frame vlan rest low tag more =
@@ -161,16 +193,20 @@ packet6_fits packet ts caplen len low =
     let addresses = has_addresses link frame in
     let first = link_layer link frame in
     let layer = network_layer link frame in
-    let ipv6 = has_ipv6 layer.etype layer.place frame in
-    let transport = transport_behind ipv6 layer.etype layer.place frame in
+    let place = layer.place in
+    let ipv6 = has_ipv6 layer.etype place frame in
+    let carried = carried_in ipv6 layer.etype place packet.len frame in
+    let transport = transport_behind carried in
     let etype : layer.etype < 2 ^ 16 = past_low (past_tag first frame) frame low (past_low first frame low (link_low link frame low)) in
+    let near : place ≤ 28 = past_near (past_tag first frame) frame 24 (past_near first frame 20 (link_near link frame)) in
+    let is : IfSome carried IsLow = carried_low ipv6 layer.etype place packet.len frame low len near (protocol_low place frame low) in
     and_from _ _ (lt-ltb packet.ts (2 ^ 64) ts)
     (and_from _ _ (lt-ltb packet.caplen (2 ^ 32) caplen)
     (and_from _ _ (lt-ltb packet.len (2 ^ 32) len)
     (and_from _ _ (address_fits addresses frame 0 low (addresses_room link 6 frame (omega arith)))
     (and_from _ _ (address_fits addresses frame 6 low (addresses_room link 12 frame (omega arith)))
     (and_from _ _ (lt-ltb layer.etype (2 ^ 16) etype)
-    (and_from _ _ (kind_fits (ipv6 || has_ipv4 layer.etype layer.place frame) transport)
-    (network_fits ipv6 layer.etype layer.place frame _ low
-    (transport_fits transport frame (vlan_in first frame) (address6_if ipv6 layer.place frame) low (vlan_fits first frame)
-    (addresses_fit ipv6 layer.place frame low)))))))))
+    (and_from _ _ (kind_fits (is_some carried) transport)
+    (network_fits ipv6 carried place frame _ low is
+    (transport_fits transport frame (vlan_in first frame) (address6_if ipv6 place frame ++ more_values ipv6 place carried frame) low (vlan_fits first frame)
+    (addresses_fit ipv6 place frame (more_values ipv6 place carried frame) low (more_fit ipv6 place carried frame low is))))))))))

@@ -1,10 +1,12 @@
 // The IPv6 header, which would stand at a place of a frame.
-ghost use Rattle.std.specs.Prelude.{◌≡◌, ◌+◌, ◌≤◌, ◌<◌, ◌^◌, length, IsTrue};
+ghost use Rattle.std.specs.Prelude.{◌≡◌, ◌+◌, ◌≤◌, ◌<◌, ◌^◌, length, IfSome, IsTrue};
 ghost use Rattle.cf_headers.specs.Packet.{IsWithin};
 ghost use Rattle.cf_headers.specs.Ipv6.{has_ipv6 as has_ipv6_of, traffic_class as traffic_class_of, payload_length as payload_length_of};
-ghost use Rattle.cf_headers.specs.Ipv6.{packet6_end as packet6_end_of, upper_of as upper_at, transport6_in};
+ghost use Rattle.cf_headers.specs.Ipv6.{packet6_end as packet6_end_of, brings as brings_of, transport6_in};
+ghost use Rattle.cf_headers.specs.More.{carried6 as carried6_of};
 ghost use Rattle.cf_headers.specs.Packet6.{network6_values as network6_values_of, address6_values as address6_values_of};
 
+use crate::carried::Carried;
 use crate::extension::{Upper, upper_after};
 use crate::fields::{byte_at, u64_at};
 use crate::transport::Transport;
@@ -58,49 +60,72 @@ fn packet6_end(at: usize, frame: &[u8]) -> usize
     }
 }
 
-// The header behind it and its extension headers.
-#[tactic(auto, unfolding(crate::specs::Ipv6::upper_of))]
-fn upper_of(at: usize, frame: &[u8]) -> Upper
-    requires near { at ≤ 28 }
-    requires room { at + 40 ≤ length frame.now }
-    ensures value { result ≡ upper_at at frame.now }
-    ensures within { result.place ≤ length frame.now }
+// Whether the upper header is that of the protocol, of a packet that begins with it, and has so many bytes before the end.
+fn brings(protocol: u8, bytes: usize, upper: Upper, end: usize) -> bool
+    requires end { upper.place ≤ end }
+    ensures value { result ≡ brings_of protocol bytes upper end }
+    ensures room { IsTrue result → upper.place + bytes ≤ end }
 {
-    let end = packet6_end(at, frame);
-    upper_after(frame[at + 6], at + LENGTH, end, frame)
+    upper.begins && upper.protocol == protocol && end - upper.place >= bytes
 }
 
-// The transport header behind it, if one is read.
+// The transport header that it is, if one is read.
 #[tactic(auto, unfolding(crate::specs::Ipv6::transport6_in))]
-pub(crate) fn transport6_of(at: usize, frame: &[u8]) -> Transport
-    requires near { at ≤ 28 }
-    requires room { at + 40 ≤ length frame.now }
-    ensures value { result ≡ transport6_in (upper_at at frame.now) (packet6_end_of at frame.now) }
+fn transport6_of(upper: Upper, end: usize, frame: &[u8]) -> Transport
+    requires place { upper.place ≤ end }
+    requires end { end ≤ length frame.now }
+    ensures value { result ≡ transport6_in upper end }
     ensures within { IsWithin result frame.now }
 {
-    let upper = upper_of(at, frame);
-    let end = packet6_end(at, frame);
-    if upper.begins && upper.protocol == 6 && upper.place + 20 <= end {
+    if brings(6, 20, upper, end) {
         Transport::Tcp(upper.place)
-    } else if upper.begins && upper.protocol == 17 && upper.place + 8 <= end {
+    } else if brings(17, 8, upper, end) {
         Transport::Udp(upper.place)
     } else {
         Transport::Unread
     }
 }
 
-// tos, iplen, ttl and proto; src and dst are of IPv4 alone.
-pub(crate) fn network6_values(at: usize, frame: &[u8]) -> [Value; 6]
+// What it says, with the headers behind it, of what it carries. `wire` is the frame's length before it was captured.
+#[tactic(auto, unfolding(crate::specs::More::carried6, crate::specs::Ipv6::upper_of))]
+pub(crate) fn carried6(at: usize, wire: u32, frame: &[u8]) -> Carried
     requires near { at ≤ 28 }
     requires room { at + 40 ≤ length frame.now }
-    ensures { result ≡ network6_values_of at frame.now }
+    ensures value { result ≡ carried6_of at wire frame.now }
+    ensures transport { IsWithin result.transport frame.now }
+    ensures message { IfSome result.message (λ place. place + 2 ≤ length frame.now) }
+{
+    let payload = payload_length(at, frame);
+    let end = packet6_end(at, frame);
+    let upper = upper_after(frame[at + 6], at + LENGTH, end, frame);
+    Carried {
+        protocol: upper.protocol,
+        transport: transport6_of(upper, end, frame),
+        message: if brings(58, 2, upper, end) {
+            Some(upper.place)
+        } else {
+            None
+        },
+        stop: if payload == 0 {
+            wire as usize
+        } else {
+            at + LENGTH + payload
+        },
+    }
+}
+
+// tos, iplen, ttl and proto; src and dst are of IPv4 alone.
+pub(crate) fn network6_values(protocol: u8, at: usize, frame: &[u8]) -> [Value; 6]
+    requires near { at ≤ 28 }
+    requires room { at + 40 ≤ length frame.now }
+    ensures { result ≡ network6_values_of protocol at frame.now }
 {
     let length = (payload_length(at, frame) + LENGTH).min(65_535);
     [
         Value::Num(traffic_class(at, frame) as u64),
         Value::Num(length as u64),
         byte_at(frame, at + 7),
-        Value::Num(upper_of(at, frame).protocol as u64),
+        Value::Num(protocol as u64),
         Value::Num(0),
         Value::Num(0),
     ]

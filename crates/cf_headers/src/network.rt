@@ -1,7 +1,10 @@
 // The IPv4 header, which would stand at a place of a frame.
-ghost use Rattle.std.specs.Prelude.{◌≡◌, ◌+◌, ◌≤◌, length, IsTrue};
-ghost use Rattle.cf_headers.specs.Packet.{has_ipv4 as has_ipv4_of, transport_at as transport_at_of, packet_end as packet_end_of, carries as carries_of};
+ghost use Rattle.std.specs.Prelude.{◌≡◌, ◌+◌, ◌≤◌, length, IfSome, IsTrue};
+ghost use Rattle.cf_headers.specs.Packet.{has_ipv4 as has_ipv4_of, transport_at as transport_at_of, packet_end as packet_end_of, carries as carries_of, IsWithin};
+ghost use Rattle.cf_headers.specs.More.{carried4 as carried4_of, total_length as total_length_of};
 
+use crate::carried::Carried;
+use crate::transport::transport_of;
 use byteorder::{BigEndian, ByteOrder};
 
 // Its type.
@@ -36,6 +39,15 @@ pub(crate) fn has_ipv4(etype: u16, at: usize, frame: &[u8]) -> bool
         && transport_at(at, frame) <= frame.len()
 }
 
+// The length of its packet, or 0.
+fn total_length(at: usize, frame: &[u8]) -> usize
+    requires { at + 20 ≤ length frame.now }
+    ensures value { result ≡ total_length_of at frame.now }
+    ensures few { result ≤ 65535 }
+{
+    BigEndian::read_u16(&frame[at + 2..]) as usize
+}
+
 // Where its packet ends.
 #[tactic(auto, unfolding(crate::specs::Packet::packet_end))]
 fn packet_end(at: usize, frame: &[u8]) -> usize
@@ -44,7 +56,7 @@ fn packet_end(at: usize, frame: &[u8]) -> usize
     ensures value { result ≡ packet_end_of at frame.now }
     ensures within { result ≤ length frame.now }
 {
-    let total = BigEndian::read_u16(&frame[at + 2..]) as usize;
+    let total = total_length(at, frame);
     if total == 0 {
         frame.len()
     } else {
@@ -64,4 +76,30 @@ pub(crate) fn carries(protocol: u8, bytes: u8, at: usize, frame: &[u8]) -> bool
     BigEndian::read_u16(&frame[at + 6..]) % (1 << 13) == 0
         && frame[at + 9] == protocol
         && transport_at(at, frame) + bytes as usize <= end
+}
+
+// What it says of what it carries. `wire` is the frame's length before it was captured.
+#[tactic(auto, unfolding(crate::specs::More::carried4))]
+pub(crate) fn carried4(at: usize, wire: u32, frame: &[u8]) -> Carried
+    requires near { at ≤ 28 }
+    requires room { at + 20 ≤ length frame.now }
+    ensures value { result ≡ carried4_of at wire frame.now }
+    ensures transport { IsWithin result.transport frame.now }
+    ensures message { IfSome result.message (λ place. place + 2 ≤ length frame.now) }
+{
+    let total = total_length(at, frame);
+    Carried {
+        protocol: frame[at + 9],
+        transport: transport_of(true, at, frame),
+        message: if carries(1, 2, at, frame) {
+            Some(transport_at(at, frame))
+        } else {
+            None
+        },
+        stop: if total == 0 {
+            wire as usize
+        } else {
+            at + total
+        },
+    }
 }

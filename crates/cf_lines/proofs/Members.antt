@@ -1,5 +1,5 @@
 -- The members of a list, read one after another.
-use Rattle.std.proofs.Common.{◌≡◌, ℕ, zero, suc, ◌<◌, List, [], ◌∷◌, ◌++◌, length, drop, true, false, nat_le, ◌==◌, Option, Some, None, refl, sym, ap, arith, append_assoc, All, get_or, inl, inr, ◌||◌}
+use Rattle.std.proofs.Common.{◌≡◌, ◌≤◌, ℕ, zero, suc, ◌<◌, List, [], ◌∷◌, ◌++◌, length, drop, true, false, nat_le, ◌==◌, Option, Some, None, refl, sym, ap, arith, append_assoc, All, get_or, inl, inr, ◌||◌}
 use Rattle.std.specs.List.{list_all}
 use Rattle.std.specs.Option.{option_map}
 use Rattle.std.proofs.lemmas.Bool.{le-leb, lt-leb, leb-true, and_parts, or_cases, eqb-true}
@@ -43,8 +43,8 @@ read_full front text = refl
 
 -- the tests of a schema
 
-pub schema_is : (attrs : List Attr) → IsSchema attrs → is_schema attrs ≡ true
-schema_is attrs h = rw (le-leb (length attrs) 24 h.few, h.apart, h.stamped, h.sized) refl
+pub schema_is : (attrs : List Attr) → IsSchema attrs → length attrs ≤ 24 → is_schema attrs ≡ true
+schema_is attrs h few = rw (le-leb (length attrs) 24 few, h.apart, h.stamped, h.sized) refl
 
 pub schema_is_not : (attrs : List Attr) (fault : SchemaFault) → HasFault attrs fault → is_schema attrs ≡ false
 schema_is_not attrs TooMany h = rw (lt-leb (length attrs) 24 h) refl
@@ -53,8 +53,9 @@ schema_is_not attrs NoTs h = rw (le-leb (length attrs) 24 h.0, h.1, h.2) refl
 schema_is_not attrs BadSize h = rw (le-leb (length attrs) 24 h.0, h.1, h.2, h.3) refl
 schema_is_not attrs Memory h = absurd h
 
-pub schema_some : (list : List ℕ) (attrs : List Attr) → attrs_at 24 list ≡ Some attrs → IsSchema attrs → schema_at list ≡ Some attrs
-schema_some list attrs e h = rw (e, schema_is attrs h) refl
+pub schema_some : (list : List ℕ) (attrs : List Attr) → attrs_at 24 list ≡ Some attrs → IsSchema attrs → length attrs ≤ 24
+    → schema_at list ≡ Some attrs
+schema_some list attrs e h few = rw (e, schema_is attrs h few) refl
 
 pub schema_none : (list : List ℕ) (attrs : List Attr) (fault : SchemaFault) → attrs_at 24 list ≡ Some attrs → HasFault attrs fault → schema_at list ≡ None
 schema_none list attrs fault e h = rw (e, schema_is_not attrs fault h) refl

@@ -298,16 +298,17 @@ stamped_some (attr ∷ attrs) h = omega arith
 pub schema_only : (list : List ℕ) (attrs : List Attr) → ListText list attrs → schema_at list ≡ Some attrs
 schema_only list attrs h =
     let s = h.schema in
-    let read : attrs_at 24 list ≡ Some attrs = ap (attrs_at 24) h.written ∙ attrs_only attrs 24 (stamped_some attrs s.stamped) s.few h.spelled s.sized in
-    rw (read, schema_is attrs s) refl
+    let read : attrs_at 24 list ≡ Some attrs = ap (attrs_at 24) h.written ∙ attrs_only attrs 24 (stamped_some attrs s.stamped) h.few h.spelled s.sized in
+    rw (read, schema_is attrs s h.few) refl
 
-schema_parts : (attrs : List Attr) → is_schema attrs ≡ true → IsSchema attrs
+schema_parts : (attrs : List Attr) → is_schema attrs ≡ true → IsSchema attrs × (length attrs ≤ 24)
 schema_parts attrs h =
     let last = and_parts ((nat_le (length attrs) 24 && not (has_name_twice attrs)) && list_any is_time_stamp attrs)
     (list_all (λ attr. has_good_size attr.kind) attrs) h in
     let third = and_parts (nat_le (length attrs) 24 && not (has_name_twice attrs)) (list_any is_time_stamp attrs) last.0 in
     let second = and_parts (nat_le (length attrs) 24) (not (has_name_twice attrs)) third.0 in
-    record { few = leb-true (length attrs) 24 second.0; apart = flip (has_name_twice attrs) second.1; stamped = third.1; sized = last.1 }
+    let few = leb-true (length attrs) 24 second.0 in
+    (record { few = omega (arith, few); apart = flip (has_name_twice attrs) second.1; stamped = third.1; sized = last.1 }, few)
   where
     flip : (b : Bool) → not b ≡ true → b ≡ false
     flip true k = absurd (false≢true k)
@@ -317,7 +318,8 @@ pub schema_found : (list : List ℕ) (attrs : List Attr) → schema_at list ≡ 
 schema_found list attrs h = option_and_then_some _ (attrs_at 24 list) attrs h (λ found e k.
     let chosen = cond_some (is_schema found) found attrs k in
     let l = attrs_found 24 list found e in
-    subst (ListText list) chosen.1 (record { written = l.written; spelled = l.spelled; schema = schema_parts found chosen.0 }))
+    let s = schema_parts found chosen.0 in
+    subst (ListText list) chosen.1 (record { written = l.written; spelled = l.spelled; schema = s.0; few = s.1 }))
 
 pub states_found : (list : List ℕ) → IfSome (schema_at list) (ListText list)
 states_found list = by (schema_at list) refl

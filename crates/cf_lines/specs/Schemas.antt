@@ -1,11 +1,12 @@
 -- The list of a schema's attributes as a text.
-use Rattle.std.specs.Prelude.{◌≡◌, ℕ, zero, suc, ◌+◌, ◌-◌, Bool, true, ◌&&◌, not, nat_le, nat_lt, ◌==◌, List, [], ◌∷◌, ◌++◌, length, map, drop, codes, Option, Some, None, if◌then◌else◌}
+use Rattle.std.specs.Prelude.{◌≡◌, ℕ, zero, suc, ◌+◌, ◌-◌, ◌≤◌, Bool, true, ◌&&◌, not, nat_le, nat_lt, ◌==◌, List, [], ◌∷◌, ◌++◌, length, map, drop, codes, Option, Some, None, if◌then◌else◌}
 use Rattle.std.specs.List.{list_all, list_any, join_with_byte}
 use Rattle.std.specs.Option.{option_map}
 use Rattle.std.specs.Str.{bytes_eq}
 use Rattle.cf_row.specs.declared.schema.Attr.{Attr}
 use Rattle.cf_row.specs.declared.schema.Kind.{Kind}
 use Rattle.cf_row.specs.declared.schema.Kind.TheVariants.{U8, U16, U32, U64, Bytes}
+use Rattle.cf_row.specs.declared.schema.TheConstants.{MOST_GIVEN}
 use Rattle.cf_row.specs.Schema.{IsSchema, has_name_twice, is_time_stamp, has_good_size}
 use Rattle.cf_filter.specs.declared.bytes.Class.TheVariants as classes
 use Rattle.cf_filter.specs.Tokens.{run, past, strip_at, is_between}
@@ -32,11 +33,12 @@ member_text attr = attr.name ++ 58 ∷ kind_text attr.kind
 abbrev pub is_spelled : Attr → Bool
 is_spelled attr = is_name 16 attr.name
 
--- the attributes of a schema, with commas between them
+-- the attributes of a schema that is given, with commas between them
 pub record ListText (list : List ℕ) (attrs : List Attr) : Type 0 where
   pub written : list ≡ join_with_byte 44 (map member_text attrs)
   pub spelled : list_all is_spelled attrs ≡ true
   pub schema : IsSchema attrs
+  pub few : length attrs ≤ MOST_GIVEN
 
 -- 1 to 9, and 10 to 16
 abbrev pub size_at : List ℕ → Option ℕ
@@ -79,11 +81,11 @@ attrs_at (suc n) list = do
 -- the attributes are of a schema
 abbrev pub is_schema : List Attr → Bool
 is_schema attrs =
-    ((nat_le (length attrs) 24 && not (has_name_twice attrs)) && list_any is_time_stamp attrs)
+    ((nat_le (length attrs) MOST_GIVEN && not (has_name_twice attrs)) && list_any is_time_stamp attrs)
     && list_all (λ attr. has_good_size attr.kind) attrs
 
 -- the schema that a list states
 abbrev pub schema_at : List ℕ → Option (List Attr)
 schema_at list = do
-  attrs ← attrs_at 24 list
+  attrs ← attrs_at MOST_GIVEN list
   if is_schema attrs then Some attrs else None

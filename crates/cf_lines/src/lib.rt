@@ -5,8 +5,6 @@
 
 mod lines;
 mod list;
-#[cfg(test)]
-mod tests;
 
 pub use lines::{
     first_line, is_blank, is_name, is_silent, last_word, new_name, next_word, word_of,

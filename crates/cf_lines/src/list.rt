@@ -3,11 +3,12 @@ ghost use Rattle.std.specs.Prelude.{◌≡◌, ℕ, List, ◌≤◌, ◌<◌, le
 ghost use Rattle.std.specs.Option.{option_map};
 ghost use Rattle.cf_row.specs.declared.schema.Attr.{Attr};
 ghost use Rattle.cf_row.specs.Schema.{IsSchema};
+ghost use Rattle.cf_row.specs.declared.schema.TheConstants.{MOST_GIVEN};
 ghost use Rattle.cf_lines.specs.Schemas.{size_at, kind_named, member_at, attrs_at, is_schema, schema_at, ListText};
 
 use crate::lines::is_name;
 use cf_filter::{Class, strip};
-use cf_row::{Attr, Kind, Memory, Name, Schema};
+use cf_row::{Attr, Kind, MOST_GIVEN, Memory, Name, Schema};
 use std::alloc::Global;
 
 // 1 to 16 in decimal.
@@ -56,11 +57,11 @@ fn parts_of(member: &[u8]) -> Option<(&[u8], Kind)>
 
 // The attributes of the list, of at most 24 members.
 fn attrs_of(alloc: Global, list: &[u8]) -> Result<Option<Vec<Attr>>, Memory>
-    ensures { IfOk result (λ read. option_map (λ attrs. attrs.items) read ≡ attrs_at 24 list.now) }
+    ensures { IfOk result (λ read. option_map (λ attrs. attrs.items) read ≡ attrs_at MOST_GIVEN list.now) }
 {
     let mut attrs = Vec::new(alloc);
     let mut text = list;
-    for _i in 0..24u32 {
+    for _i in 0..MOST_GIVEN {
         let (member, rest) = Class::Except(b',').split(text);
         let Some((name, kind)) = parts_of(member) else {
             return Ok(None);

@@ -6,8 +6,6 @@ mod draw;
 mod headers;
 mod laws;
 mod put;
-#[cfg(test)]
-mod tests;
 
 pub use capture::make_capture;
 pub use laws::each_generated_file_is_a_capture;

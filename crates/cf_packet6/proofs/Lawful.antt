@@ -5,4 +5,4 @@ use Rattle.cf_row.specs.Schema.{IsSchema}
 use Rattle.cf_packet6.specs.Schema6.{packet6_attrs}
 
 pub packet6_is : IsSchema packet6_attrs
-packet6_is = record { few = leb-true (length packet6_attrs) 24 refl; apart = refl; stamped = refl; sized = refl }
+packet6_is = record { few = leb-true (length packet6_attrs) 32 refl; apart = refl; stamped = refl; sized = refl }

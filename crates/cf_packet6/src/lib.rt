@@ -1,8 +1,7 @@
-//! The schemas of captured packets: `packet`, and `packet6` with their IPv6 addresses.
+//! The schemas of captured packets: `packet`, and `packet6` with IPv6 addresses and more.
 #![tactic(auto)]
 
 ghost use Rattle.std.specs.Prelude.{◌≡◌, IfOk, codes};
-ghost use Rattle.cf_row.specs.declared.schema.Kind.TheVariants.{U64};
 ghost use Rattle.cf_row.specs.Schema.{IsSchema};
 ghost use Rattle.cf_packet6.specs.Schema6.{attrs_by, packet6_attrs};
 
@@ -14,7 +13,7 @@ use std::alloc::Global;
 pub enum PacketSchema {
     /// `packet`, of 20 attributes.
     Packet,
-    /// `packet6`, of these and four more for IPv6 addresses.
+    /// `packet6`, of these and twelve more.
     Packet6,
 }
 
@@ -30,36 +29,39 @@ impl PacketSchema {
     }
 }
 
-// An attribute of 8 bytes.
-fn half(alloc: Global, name: &str) -> Result<Attr, Memory>
-    ensures { IfOk result (λ attr. attr ≡ record { name = name.now; kind = U64 }) }
+// An attribute of that name and kind.
+fn attr(alloc: Global, name: &str, kind: Kind) -> Result<Attr, Memory>
+    ensures { IfOk result (λ attr. attr ≡ record { name = name.now; kind = kind }) }
 {
     Ok(Attr {
         name: Name::new(alloc, name)?,
-        kind: Kind::U64,
+        kind,
     })
 }
 
 /// The schema of a captured packet, and then the high and the low 64 bits of its IPv6 source and
-/// destination addresses (RFC 8200).
+/// destination addresses (RFC 8200), how many bytes TCP or UDP carries, the type and the code of an ICMP message (RFC 792,
+/// RFC 4443), the flags FIN, SYN, RST and ACK of TCP (RFC 9293), and the number of its conversation.
 pub fn packet6_schema(alloc: Global) -> Result<Schema, Memory>
     ensures { IfOk result (λ schema. schema ≡ packet6_attrs) }
 {
     let mut attrs = packet_schema(alloc)?.into_attrs();
-    attrs.push(half(alloc, "src6")?)?;
-    attrs.push(half(alloc, "src6_low")?)?;
-    attrs.push(half(alloc, "dst6")?)?;
-    attrs.push(half(alloc, "dst6_low")?)?;
-    match Schema::new(attrs) {
-        Ok(schema) => Ok(schema),
-        Err(_) => unreachable!(),
-    }
+    attrs.push(attr(alloc, "src6", Kind::U64)?)?;
+    attrs.push(attr(alloc, "src6_low", Kind::U64)?)?;
+    attrs.push(attr(alloc, "dst6", Kind::U64)?)?;
+    attrs.push(attr(alloc, "dst6_low", Kind::U64)?)?;
+    attrs.push(attr(alloc, "payload", Kind::U32)?)?;
+    attrs.push(attr(alloc, "icmp_type", Kind::U8)?)?;
+    attrs.push(attr(alloc, "icmp_code", Kind::U8)?)?;
+    attrs.push(attr(alloc, "is_fin", Kind::U8)?)?;
+    attrs.push(attr(alloc, "is_syn", Kind::U8)?)?;
+    attrs.push(attr(alloc, "is_rst", Kind::U8)?)?;
+    attrs.push(attr(alloc, "is_ack", Kind::U8)?)?;
+    attrs.push(attr(alloc, "flow", Kind::U64)?)?;
+    Ok(Schema::built_in(attrs))
 }
 
 /// Its attributes are lawful.
 pub fn the_packet6_schema_is_lawful()
     ensures { IsSchema packet6_attrs }
 {}
-
-#[cfg(test)]
-mod tests;

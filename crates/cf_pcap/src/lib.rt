@@ -32,6 +32,3 @@ pub use reader::Pcap;
 pub use records::LONGEST;
 pub use scope::Scope;
 pub use stage::Stage;
-
-#[cfg(test)]
-mod length_tests;

@@ -5,8 +5,6 @@ mod fault;
 mod laws;
 mod read;
 mod row;
-#[cfg(test)]
-mod tests;
 
 pub use fault::RecordFault;
 pub use laws::each_text_is_one_thing;

@@ -155,7 +155,7 @@ lens_more f attrs lens i r a lt room kept is same =
 
 -- the words of an entry of the attributes keep its values
 pub kept_new : (attrs : List Attr) (lens ws items : List ℕ) → lens ≡ map (λ attr. len_of attr.kind) attrs → items ≡ ws
-    → list_all (λ attr. has_good_size attr.kind) attrs ≡ true → length attrs ≤ 24 → length ws ≡ word_count attrs → words_fit attrs ws ≡ true
+    → list_all (λ attr. has_good_size attr.kind) attrs ≡ true → length attrs ≤ 32 → length ws ≡ word_count attrs → words_fit attrs ws ≡ true
     → AreKept lens items
 kept_new attrs lens ws items is same good few long fits =
     let alike = attrs_kept attrs good in
@@ -266,7 +266,7 @@ good_lens (x ∷ xs) (v ∷ vs) fits = let c = both (is_of_kind (kind_of x) v) (
     and_from _ _ (good_len x v c.0) (good_lens xs vs c.1)
 
 -- the words of values of these lengths keep them
-pub packed_kept : (lens ws : List ℕ) (vs : List Value) → length lens ≤ 24 → ws ≡ values_words vs → values_fit (attrs_of lens) vs ≡ true → AreKept lens ws
+pub packed_kept : (lens ws : List ℕ) (vs : List Value) → length lens ≤ 32 → ws ≡ values_words vs → values_fit (attrs_of lens) vs ≡ true → AreKept lens ws
     × (values_kept lens ws ≡ vs)
 packed_kept lens ws vs few is fits =
     let attrs : List Attr = attrs_of lens in

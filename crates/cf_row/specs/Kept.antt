@@ -1,6 +1,7 @@
 -- How a row keeps its values.
 use Rattle.std.specs.Prelude.{◌≡◌, ℕ, ◌≤◌, zero, suc, Bool, ◌&&◌, nat_le, true, List, [], length, map, take}
 use Rattle.std.specs.List.{list_all}
+use Rattle.cf_row.specs.declared.schema.TheConstants.{MOST_ATTRS}
 use Rattle.cf_row.specs.declared.schema.Attr.{Attr}
 use Rattle.cf_row.specs.declared.schema.Kind.{Kind}
 use Rattle.cf_row.specs.declared.schema.Kind.TheVariants.{U8, U16, U32, U64, Bytes}
@@ -37,7 +38,7 @@ values_kept lens words = values_read (attrs_of lens) words
 
 -- the words are those of values of these lengths
 pub record AreKept (lens words : List ℕ) : Type 0 where
-  pub few : length lens ≤ 24
+  pub few : length lens ≤ MOST_ATTRS
   pub sized : list_all (λ attr. has_good_size attr.kind) (attrs_of lens) ≡ true
   pub long : length words ≡ word_count (attrs_of lens)
   pub fits : words_fit (attrs_of lens) words ≡ true

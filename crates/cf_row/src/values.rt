@@ -6,10 +6,11 @@ ghost use Rattle.cf_row.specs.Row.{is_of_kind as is_of_kind_of};
 ghost use Rattle.cf_row.specs.Schema.{has_good_size};
 ghost use Rattle.cf_row.specs.Words.{word_count, words_fit, values_read, values_words};
 ghost use Rattle.cf_row.specs.Kept.{len_of as len_of_kind, kind_of as kind_of_len, attrs_of, values_kept, AreKept, can_be_kept, lie_within, values_of, words_in};
+ghost use Rattle.cf_row.specs.declared.schema.TheConstants.{MOST_ATTRS};
 
 use crate::row::is_of_kind;
 use crate::words::{kind_words, put_value, read_value};
-use crate::{Attr, Kind, Memory, Value};
+use crate::{Attr, Kind, MOST_ATTRS, Memory, Value};
 use std::alloc::Global;
 use std::marker::Model;
 
@@ -118,7 +119,7 @@ fn front(words: &[u64; 20], count: u8) -> &[u64]
 /// The words of values, and for each value how many bytes it has, 0 for a number.
 #[derive(Debug, Drop)]
 pub(crate) struct Spelling {
-    lens: [u8; 24],
+    lens: [u8; MOST_ATTRS],
     // how many values there are
     count: u8,
     words: Words,
@@ -142,7 +143,7 @@ impl Spelling {
     // The values of these attributes, spelled by the words.
     pub(crate) fn new(alloc: Global, attrs: &[Attr], words: &[u64]) -> Result<Spelling, Memory>
         requires sized { list_all (λ attr. has_good_size attr.kind) attrs.now ≡ true }
-        requires few { length attrs.now ≤ 24 }
+        requires few { length attrs.now ≤ MOST_ATTRS }
         requires long { length words.now ≡ word_count attrs.now }
         requires fits { words_fit attrs.now words.now ≡ true }
         ensures read { IfOk result (λ spelling. spelling ≡ values_read attrs.now words.now) }
@@ -164,7 +165,7 @@ impl Spelling {
         if values.len() > FEW {
             return None;
         }
-        let mut lens = [0; 24];
+        let mut lens = [0; MOST_ATTRS];
         let mut words = [0; FEW];
         let mut at = 0;
         for place in 0..values.len() {
@@ -254,12 +255,12 @@ fn len_kept(value: Value) -> Option<u8>
     }
 }
 
-fn lens_of(attrs: &[Attr]) -> [u8; 24]
-    requires { length attrs.now ≤ 24 }
+fn lens_of(attrs: &[Attr]) -> [u8; MOST_ATTRS]
+    requires { length attrs.now ≤ MOST_ATTRS }
     ensures lens { take (length attrs.now) result ≡ map (λ attr. len_of_kind attr.kind) attrs.now }
     ensures room { length attrs.now ≤ length result }
 {
-    let mut lens = [0; 24];
+    let mut lens = [0; MOST_ATTRS];
     for place in 0..attrs.len() {
         lens[place] = len_of(attrs[place].kind);
     }
@@ -268,7 +269,7 @@ fn lens_of(attrs: &[Attr]) -> [u8; 24]
 
 // How many words values of these lengths take.
 fn count_lens(lens: &[u8]) -> usize
-    requires { length lens.now ≤ 24 }
+    requires { length lens.now ≤ MOST_ATTRS }
     ensures { result ≡ word_count (attrs_of lens.now) }
 {
     let mut count = 0;
@@ -280,7 +281,7 @@ fn count_lens(lens: &[u8]) -> usize
 
 // Where the words of a value begin; if each value has one word, at its own place.
 fn start_of(lens: &[u8], count: usize, place: usize) -> usize
-    requires few { length lens.now ≤ 24 }
+    requires few { length lens.now ≤ MOST_ATTRS }
     requires place { place < length lens.now }
     requires count { count ≡ word_count (attrs_of lens.now) }
     ensures { result ≡ word_count (attrs_of (take place lens.now)) }

@@ -6,10 +6,14 @@ ghost use Rattle.cf_row.specs.Row.{Fits};
 ghost use Rattle.cf_row.specs.Kept.{values_of};
 ghost use Rattle.cf_row.specs.Words.{word_count as word_count_of, words_of_kind, big_number as big_number_of, big_bytes, value_words, values_words, value_read, entry_read, raw_words, raw_read, spelled, IsEntry, AreSpelled, word_fits, words_fit};
 ghost use Rattle.cf_row.specs.declared.row.Entry.{Entry};
+ghost use Rattle.cf_row.specs.declared.schema.TheConstants.{MOST_ATTRS};
 
 use crate::values::{Spelling, Values};
-use crate::{Attr, Entry, Kind, Memory, Row, Schema, Value};
+use crate::{Attr, Entry, Kind, MOST_ATTRS, Memory, Row, Schema, Value};
 use std::alloc::Global;
+
+/// How many words an entry has at most: two for each attribute, and the tag.
+pub const MOST_WORDS: usize = 2 * MOST_ATTRS + 1;
 
 // How many words the values of a kind take.
 pub(crate) fn kind_words(kind: Kind) -> usize
@@ -22,9 +26,9 @@ pub(crate) fn kind_words(kind: Kind) -> usize
 }
 
 pub(crate) fn count_words(attrs: &[Attr]) -> usize
-    requires { length attrs.now ≤ 24 }
+    requires { length attrs.now ≤ MOST_ATTRS }
     ensures count { result ≡ word_count_of attrs.now }
-    ensures few { result ≤ 48 }
+    ensures few { result ≤ 64 }
 {
     let mut count = 0;
     for attr in attrs {
@@ -36,7 +40,7 @@ pub(crate) fn count_words(attrs: &[Attr]) -> usize
 /// The number of attribute words of a row: one for a number or up to 8 bytes, two for more bytes.
 pub fn word_count(schema: &Schema) -> usize
     ensures count { result ≡ word_count_of schema.now }
-    ensures few { result ≤ 48 }
+    ensures few { result ≤ 64 }
 {
     usize::from(schema.words())
 }
@@ -217,7 +221,7 @@ fn is_in_range(kind: Kind, words: &[u64], at: usize) -> bool
 
 // Whether all words are in the range of the attributes' kinds, and the tag in that of a number of 32 bits and a writer.
 fn are_in_range(attrs: &[Attr], words: &[u64]) -> bool
-    requires few { length attrs.now ≤ 24 }
+    requires few { length attrs.now ≤ MOST_ATTRS }
     requires room { length words.now ≡ word_count_of attrs.now + 1 }
     ensures { result ≡ words_fit attrs.now words.now }
 {

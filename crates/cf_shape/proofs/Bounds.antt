@@ -14,19 +14,19 @@ use Rattle.cf_shape.specs.Uses.{ticket_words}
 use Rattle.cf_shape.specs.Places.{sizes_of, roots_at, nodes_at, word_total}
 use Rattle.cf_shape.proofs.Counts.{count_low}
 
-pub ticket_few : (s : ShapeValue) → IsShape s → ticket_words s ≤ 98
+pub ticket_few : (s : ShapeValue) → IsShape s → ticket_words s ≤ 114
 ticket_few s is = let a = is.schema.few in let b = is.few in omega (arith, a, b, rows.count_low s.schema, count_low s.lanes)
 
-pub roots_small : (s : ShapeValue) → IsShape s → roots_at (sizes_of s) ≤ 6422530
-roots_small s is = omega (arith, mul-le s.capacity (ticket_words s) 65536 98 is.capacity.1 (ticket_few s is))
+pub roots_small : (s : ShapeValue) → IsShape s → roots_at (sizes_of s) ≤ 7471106
+roots_small s is = omega (arith, mul-le s.capacity (ticket_words s) 65536 114 is.capacity.1 (ticket_few s is))
 
-pub nodes_small : (s : ShapeValue) → IsShape s → nodes_at (sizes_of s) ≤ 6422786
+pub nodes_small : (s : ShapeValue) → IsShape s → nodes_at (sizes_of s) ≤ 7471362
 nodes_small s is = let b = is.few in omega (arith, b, roots_small s is)
 
 pub writers_nodes_small : (s : ShapeValue) → IsShape s → s.writers * s.nodes ≤ 983040
 writers_nodes_small s is = mul-le s.writers s.nodes 15 65536 is.writers.1 is.nodes
 
-pub total_small : (s : ShapeValue) → IsShape s → word_total (sizes_of s) ≤ 243335426
+pub total_small : (s : ShapeValue) → IsShape s → word_total (sizes_of s) ≤ 244384002
 total_small s is =
     let b = is.writers.1 in
     let few : 1 + 16 * s.writers ≤ 241 = omega (arith, b) in

@@ -10,8 +10,6 @@ mod lane;
 mod laws;
 mod places;
 mod shape;
-#[cfg(test)]
-mod tests;
 
 pub use keys::{cell_size, key, levels, measure, measures, selects};
 pub use kinds::{is_lawful_measure, is_narrow, is_number};

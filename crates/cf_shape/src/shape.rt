@@ -251,7 +251,7 @@ impl Shape {
     /// How many words a ticket has.
     pub fn ticket_words(&self) -> u64
         ensures words { result ≡ ticket_words_of self.now }
-        ensures few { result ≤ 98 }
+        ensures few { result ≤ 114 }
         ensures lawful { IsShape self.now }
     {
         self.ticket_words

@@ -1,65 +1,9 @@
-// Frames with IPv6, of each link and behind tags, by tables.
-use crate::tests::{SEGMENT, frame_of};
-use crate::{packet_row, packet6_row};
+// Rows of `packet6` of frames of each link, behind tags and with IPv6, by tables.
+use crate::frames::{HOP_TCP, SEGMENT, ethernet, frame_of, hops, ipv6, joined, row_of};
+use cf_headers::packet_row;
 use cf_packet6::packet6_schema;
-use cf_row::{Memory, Row, fits};
-use std::alloc::Global;
+use cf_row::fits;
 use std::test::Fail;
-
-// An IPv6 header of class 0xb8 and hop limit 64, from 2001:db8::1 to 2001:db8:0:1::2.
-const HEADER: [u8; 40] = [
-    0x6b, 0x80, 0, 0, 0, 0, 0, 64, 0x20, 0x01, 0x0d, 0xb8, 0, 0, 0, 0, 0, 0, 0, 0, 0, 0, 0, 1,
-    0x20, 0x01, 0x0d, 0xb8, 0, 0, 0, 1, 0, 0, 0, 0, 0, 0, 0, 2,
-];
-
-// A SYN from port 40000 to 443.
-const SYN: [u8; 20] = [
-    0x9c, 0x40, 0x01, 0xbb, 0, 0, 0, 0, 0, 0, 0, 0, 0x50, 0x02, 0x04, 0, 0, 0, 0, 0,
-];
-
-// A hop-by-hop header of 8 bytes, with padding.
-const HOP: [u8; 8] = [0, 0, 1, 4, 0, 0, 0, 0];
-
-// The same before TCP.
-const HOP_TCP: [u8; 8] = [6, 0, 1, 4, 0, 0, 0, 0];
-
-// The header of that payload length and next header, what comes behind it, and the SYN.
-fn ipv6(alloc: Global, length: u16, next: u8, behind: &[u8]) -> Result<Vec<u8>, Memory> {
-    let mut bytes = HEADER[..4].to_vec(alloc)?;
-    bytes.extend_from_slice(&length.to_be_bytes())?;
-    bytes.push(next)?;
-    bytes.extend_from_slice(&HEADER[7..])?;
-    bytes.extend_from_slice(behind)?;
-    bytes.extend_from_slice(&SYN)?;
-    Ok(bytes)
-}
-
-// Those bytes, and others behind them.
-fn joined(alloc: Global, front: &[u8], rest: &[u8]) -> Result<Vec<u8>, Memory> {
-    let mut bytes = front.to_vec(alloc)?;
-    bytes.extend_from_slice(rest)?;
-    Ok(bytes)
-}
-
-// A packet in a frame of Ethernet, whose type is last in `types`.
-fn ethernet(alloc: Global, types: &[u8], packet: &[u8]) -> Result<Vec<u8>, Memory> {
-    let front = joined(alloc, &SEGMENT[..12], types)?;
-    joined(alloc, &front, packet)
-}
-
-// So many hop-by-hop headers, the last of them before TCP.
-fn hops(alloc: Global, count: usize) -> Result<Vec<u8>, Memory> {
-    let mut bytes = Vec::new(alloc);
-    for _ in 1..count {
-        bytes.extend_from_slice(&HOP)?;
-    }
-    bytes.extend_from_slice(&HOP_TCP)?;
-    Ok(bytes)
-}
-
-fn row_of(alloc: Global, link: u16, bytes: &[u8]) -> Result<Row, Memory> {
-    packet6_row(alloc, &frame_of(alloc, link, bytes)?)
-}
 
 #[test]
 fn a_segment_over_ipv6_gives_each_field(rt: HostRuntime) -> Result<(), Fail> {
@@ -177,6 +121,7 @@ fn extension_headers_are_passed_over(rt: HostRuntime) -> Result<(), Fail> {
 fn each_link_begins_its_packet_elsewhere(rt: HostRuntime) -> Result<(), Fail> {
     let alloc = rt.alloc();
     let first = packet_row(alloc, &frame_of(alloc, 1, &SEGMENT)?)?;
+    let wide = row_of(alloc, 1, &SEGMENT)?;
     let packet = &SEGMENT[14..];
     let mut cooked = [0; 20];
     cooked[0] = 8;
@@ -208,6 +153,13 @@ fn each_link_begins_its_packet_elsewhere(rt: HostRuntime) -> Result<(), Fail> {
         }
         for attr in 20..24 {
             assert_eq!(rt; row.number(attr), 0, "attribute {attr} of link {link}");
+        }
+        for attr in 24..32 {
+            assert_eq!(rt;
+                row.number(attr),
+                wide.number(attr),
+                "attribute {attr} of link {link}"
+            );
         }
     }
     Ok(())
@@ -278,7 +230,7 @@ fn a_long_frame_is_read_as_its_headers(rt: HostRuntime) -> Result<(), Fail> {
         let mut long = frame.as_slice().to_vec(alloc)?;
         long.resize(size, 0)?;
         let row = row_of(alloc, 1, &long)?;
-        for attr in 0..24 {
+        for attr in 0..32 {
             assert_eq!(rt;
                 row.number(attr),
                 wanted.number(attr),

@@ -1,7 +1,8 @@
-use super::*;
-use cf_row::{
-    Attr, Conjunction, Expr, Kind, Memory, Name, Row, Schema, Value, fits, is_of_schema,
-    packet_schema, word_count,
+use cf_row::{Attr, Conjunction, Expr, Kind, Memory, Name, Row, Schema, Value, fits, word_count};
+use cf_shape::{
+    Key, Lane, Shape, ShapeFault, belongs, cell_size, key, levels, measure, place_cell,
+    place_child, place_done, place_head, place_label, place_read_tail, place_root, place_word,
+    place_write_tail, selects, word_total,
 };
 use std::alloc::Global;
 use std::process::Abort;
@@ -44,94 +45,6 @@ fn shape_of(
     Ok(Some(shape))
 }
 
-#[test]
-fn refusals_come_in_their_order(rt: HostRuntime) -> Result<(), Fail> {
-    let alloc = rt.alloc();
-    let dmac = Key::Attr(3);
-    let table: [(usize, Key, Option<u8>, Numbers, Option<ShapeFault>); 14] = [
-        (16, Key::Bucket, Some(2), (65536, 15, 65536, 1 << 63), None),
-        (
-            17,
-            dmac,
-            Some(0),
-            (0, 0, 65537, 0),
-            Some(ShapeFault::TooManyLanes),
-        ),
-        (
-            16,
-            dmac,
-            Some(0),
-            (0, 0, 65537, 0),
-            Some(ShapeFault::BadCapacity),
-        ),
-        (
-            1,
-            dmac,
-            Some(0),
-            (65537, 0, 65537, 0),
-            Some(ShapeFault::BadCapacity),
-        ),
-        (
-            1,
-            dmac,
-            Some(0),
-            (1, 0, 65537, 0),
-            Some(ShapeFault::BadWriters),
-        ),
-        (
-            1,
-            dmac,
-            Some(0),
-            (1, 16, 65537, 0),
-            Some(ShapeFault::BadWriters),
-        ),
-        (
-            1,
-            dmac,
-            Some(0),
-            (1, 1, 65537, 0),
-            Some(ShapeFault::BadNodes),
-        ),
-        (1, dmac, Some(0), (1, 1, 0, 0), Some(ShapeFault::BadWidth)),
-        (
-            1,
-            dmac,
-            Some(0),
-            (1, 1, 0, (1 << 63) + 1),
-            Some(ShapeFault::BadWidth),
-        ),
-        (1, dmac, Some(0), (1, 1, 0, 1), Some(ShapeFault::BytesKey)),
-        (
-            1,
-            Key::Bucket,
-            Some(0),
-            (1, 1, 0, 1),
-            Some(ShapeFault::WideMeasure),
-        ),
-        (
-            1,
-            Key::Bucket,
-            Some(4),
-            (1, 1, 0, 1),
-            Some(ShapeFault::WideMeasure),
-        ),
-        (1, Key::Attr(0), Some(6), (1, 1, 0, 1), None),
-        (0, dmac, None, (1, 1, 0, 1), None),
-    ];
-    for (count, key, measure, numbers, fault) in table {
-        let lanes = lanes_of(alloc, count, key, measure)?;
-        match shape_of(packet_schema(alloc)?, lanes, numbers) {
-            Ok(shape) => {
-                assert!(rt; fault.is_none() && shape.is_some());
-            }
-            Err(refused) => {
-                assert_eq!(rt; Some(refused), fault);
-            }
-        }
-    }
-    Ok(())
-}
-
 // The schema `ts:u64,k:u8` and one lane with the key k: four tickets, two writers with two nodes each.
 fn small_shape(alloc: Global) -> Result<Option<Shape>, Fail> {
     let mut attrs = Vec::new(alloc);
@@ -165,7 +78,7 @@ fn places_of(alloc: Global, shape: &Shape) -> Result<Option<Vec<u64>>, Memory> {
         place_head(shape, 0, 5, 1),
         word_total(shape),
     ])?;
-    if shape.lane(0).cell_words() == 1 {
+    if cell_size(shape, 0) == 1 {
         places.push(place_cell(shape, 0, 0, 0))?;
     }
     Ok(Some(places))

@@ -1,4 +1,7 @@
-use super::*;
+use cf_row::{
+    Atom, Attr, Conjunction, Expr, Kind, Memory, Name, Op, Row, Schema, Value, fits, holds,
+    is_of_schema, packet_schema, row_of, spells, word_count, words_of,
+};
 use std::alloc::Global;
 use std::test::Fail;
 
@@ -11,27 +14,6 @@ fn attrs(alloc: Global, kinds: &[(&str, Kind)]) -> Result<Vec<Attr>, Memory> {
         })?;
     }
     Ok(attrs)
-}
-
-#[test]
-fn schemas_have_a_time_different_names_and_short_strings(rt: HostRuntime) -> Result<(), Fail> {
-    let alloc = rt.alloc();
-    let ts = ("ts", Kind::U64);
-    let many = [("a", Kind::U8); 25];
-    let table: [(&[(&str, Kind)], Option<SchemaFault>); 7] = [
-        (&[ts], None),
-        (&[("a", Kind::Bytes(1)), ts, ("b", Kind::Bytes(16))], None),
-        (&[], Some(SchemaFault::NoTs)),
-        (&[("ts", Kind::U32)], Some(SchemaFault::NoTs)),
-        (&[ts, ts], Some(SchemaFault::NameTwice)),
-        (&[("a", Kind::Bytes(17)), ts], Some(SchemaFault::BadSize)),
-        (&many, Some(SchemaFault::TooMany)),
-    ];
-    for (kinds, fault) in table {
-        let answer = Schema::new(attrs(alloc, kinds)?);
-        assert_eq!(rt; answer.err(), fault, "{} attributes", kinds.len());
-    }
-    Ok(())
 }
 
 fn bytes_of(first: u8) -> Value {
@@ -72,6 +54,15 @@ fn an_expression_holds_where_a_conjunction_does(rt: HostRuntime) -> Result<(), F
     )?;
     assert!(rt; is_of_schema(&schema, &expr));
     assert!(rt; is_of_schema(&schema.copy(alloc)?, &expr.copy(alloc)?));
+    let outside = two_of(
+        alloc,
+        &[
+            atom(0, Op::Lt, Value::Num(0), Value::Num(0)),
+            atom(1, Op::Outside, Value::Num(5), Value::Num(7)),
+            atom(0, Op::Ge, Value::Num(0), Value::Num(0)),
+        ],
+    )?;
+    assert!(rt; is_of_schema(&schema, &outside));
     for (a, ts, first, answer) in [
         (1, 0, 9, true),
         (2, 0, 9, false),
@@ -88,27 +79,7 @@ fn an_expression_holds_where_a_conjunction_does(rt: HostRuntime) -> Result<(), F
         assert_eq!(rt; row.get(&schema, 2), bytes_of(first));
         assert_eq!(rt; row.time(&schema), ts);
         assert_eq!(rt; holds(&schema, &expr, &row), answer, "at {a} {ts} {first}");
-    }
-    Ok(())
-}
-
-#[test]
-fn a_row_fits_with_values_of_each_kind(rt: HostRuntime) -> Result<(), Fail> {
-    let alloc = rt.alloc();
-    let schema = Schema::new(attrs(alloc, &[("m", Kind::Bytes(2)), ("ts", Kind::U64)])?)?;
-    let mut long = [0; 16];
-    long[2] = 1;
-    let raw = |len| Value::Raw { len, bytes: long };
-    for (values, answer) in [
-        ([bytes_of(1), Value::Num(0)].as_slice(), true),
-        (&[raw(2), Value::Num(0)], false),
-        (&[raw(3), Value::Num(0)], false),
-        (&[Value::Num(0), Value::Num(0)], false),
-        (&[bytes_of(1), bytes_of(1)], false),
-        (&[bytes_of(1)], false),
-    ] {
-        let row = Row::new(0, values.to_vec(alloc)?);
-        assert_eq!(rt; fits(&schema, &row), answer, "{values:?}");
+        assert_eq!(rt; holds(&schema, &outside, &row), ts < 5 || 7 < ts, "at {ts}");
     }
     Ok(())
 }
@@ -137,11 +108,6 @@ fn string_of(len: u8) -> Value {
         bytes[place as usize] = place + 1;
     }
     Value::Raw { len, bytes }
-}
-
-// also where neither has a value
-fn are_alike(row: &Row, other: &Row) -> bool {
-    (0..25).all(|place| row.value_at(place) == other.value_at(place))
 }
 
 #[test]
@@ -184,7 +150,6 @@ fn words_spell_an_entry(rt: HostRuntime) -> Result<(), Fail> {
         let entry = row_of(alloc, &schema, &words)?.copy(alloc)?;
         assert_eq!(rt; (entry.writer, entry.row.num()), (1, 1));
         assert!(rt; fits(&schema, &entry.row));
-        assert!(rt; are_alike(&entry.row, &row), "{wanted:?}");
         let mut again = vec![in alloc; 0; word_count(&schema) + 1]?;
         words_of(&schema, &entry.row, 1, &mut again);
         assert_eq!(rt; again.as_slice(), wanted);
@@ -192,51 +157,6 @@ fn words_spell_an_entry(rt: HostRuntime) -> Result<(), Fail> {
         assert!(rt; fits(&schema, &packed));
         words_of(&schema, &packed, 1, &mut again);
         assert_eq!(rt; again.as_slice(), wanted);
-    }
-    Ok(())
-}
-
-// rows that are kept within themselves, and those that aren't: with too many values or words, or a string of no byte
-#[test]
-fn a_packed_row_has_its_values(rt: HostRuntime) -> Result<(), Fail> {
-    let alloc = rt.alloc();
-    let mut many = [string_of(16); 12];
-    many[0] = Value::Num(3);
-    let table: [(&[Value], usize); 5] = [
-        (&[], 0),
-        (&[Value::Num(7), string_of(1), string_of(9)], 4),
-        (&many[..10], 19),
-        (&many, 23),
-        (&[Value::Num(5); 21], 21),
-    ];
-    for (values, count) in table {
-        let row = Row::packed(alloc, 2, values)?.copy(alloc)?;
-        assert_eq!(rt; (row.num(), row.values().len()), (2, values.len()));
-        assert!(rt;
-            are_alike(&row, &Row::new(2, values.to_vec(alloc)?)),
-            "{count} words"
-        );
-    }
-    let none = Row::packed(alloc, 2, &[string_of(0)])?;
-    assert_eq!(rt; none.value_at(0), string_of(0));
-    Ok(())
-}
-
-#[test]
-fn words_out_of_range_spell_nothing(rt: HostRuntime) -> Result<(), Fail> {
-    let alloc = rt.alloc();
-    let kinds = [
-        ("ts", Kind::U64),
-        ("m", Kind::Bytes(2)),
-        ("n", Kind::Bytes(11)),
-    ];
-    let schema = Schema::new(attrs(alloc, &kinds)?)?;
-    let words = [5, 2304, 258, 772, 17];
-    assert!(rt; spells(&schema, &words));
-    for (place, word) in [(1, 65536), (3, 1 << 24), (4, 1 << 36)] {
-        let mut other = words;
-        other[place] = word;
-        assert!(rt; !spells(&schema, &other), "word {place}");
     }
     Ok(())
 }

@@ -1,17 +1,9 @@
-// Frames by tables.
-use crate::packet_row;
-use cf_pcap::Frame;
+// Rows of `packet`, by tables.
+use crate::frames::{SEGMENT, frame_of};
+use cf_headers::packet_row;
 use cf_row::{Memory, Value, fits, packet_schema};
 use std::alloc::Global;
 use std::test::Fail;
-
-// A TCP segment from 10.0.0.12:40219 to 10.0.1.10:80.
-pub(crate) const SEGMENT: [u8; 54] = [
-    0x02, 0x00, 0x00, 0x00, 0x00, 0x01, 0x02, 0x00, 0x00, 0x00, 0x00, 0x02, 0x08, 0x00, 0x45, 0x00,
-    0x00, 0x28, 0x00, 0x00, 0x00, 0x00, 0x40, 0x06, 0x00, 0x00, 0x0a, 0x00, 0x00, 0x0c, 0x0a, 0x00,
-    0x01, 0x0a, 0x9d, 0x1b, 0x00, 0x50, 0x00, 0x00, 0x00, 0x00, 0x00, 0x00, 0x00, 0x00, 0x50, 0x10,
-    0x04, 0x00, 0x00, 0x00, 0x00, 0x00,
-];
 
 // The same with a tag of VLAN 5 before its type.
 fn tagged(alloc: Global) -> Result<Vec<u8>, Memory> {
@@ -42,17 +34,6 @@ fn cooked_and_tagged(alloc: Global) -> Result<Vec<u8>, Memory> {
     bytes.extend_from_slice(&[0x81, 0x00, 0x0f, 0xff])?;
     bytes.extend_from_slice(&SEGMENT[12..])?;
     Ok(bytes)
-}
-
-pub(crate) fn frame_of(alloc: Global, link: u16, bytes: &[u8]) -> Result<Frame, Memory> {
-    Ok(Frame {
-        num: 7,
-        ts: 1_000_000_000,
-        caplen: 54,
-        len: 60,
-        link,
-        bytes: bytes.to_vec(alloc)?,
-    })
 }
 
 fn address(last: u8) -> Value {

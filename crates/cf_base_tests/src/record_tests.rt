@@ -1,4 +1,4 @@
-use super::*;
+use cf_records::{RecordFault, read_first, read_records};
 use cf_row::{Attr, Kind, Memory, Name, Schema, Value};
 use std::alloc::Global;
 use std::test::Fail;
@@ -72,18 +72,6 @@ fn first_rows_are_kept_and_all_are_judged(rt: HostRuntime) -> Result<(), Fail> {
             Err(fault) => assert_eq!(rt; fault, RecordFault::BadValue(2, 1)),
         }
     }
-    Ok(())
-}
-
-#[test]
-fn a_file_is_shorter_than_2_to_24_bytes(rt: HostRuntime) -> Result<(), Fail> {
-    let alloc = rt.alloc();
-    let schema = schema(alloc)?;
-    let text = vec![in alloc; b'\n'; 1 << 24]?;
-    assert_eq!(rt;
-        ports(alloc, &schema, &text),
-        Err(RecordFault::TooManyBytes)
-    );
     Ok(())
 }
 

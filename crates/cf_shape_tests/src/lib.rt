@@ -1,0 +1,5 @@
+//! Shapes of logs, tried. There is no code here but tests.
+#![tactic(auto)]
+
+#[cfg(test)]
+mod tests;
