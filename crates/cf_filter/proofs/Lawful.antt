@@ -15,9 +15,9 @@ use Rattle.cf_row.specs.declared.row.Value.{Value}
 use Rattle.cf_row.specs.declared.row.Value.TheVariants.{Num}
 use Rattle.cf_row.specs.declared.expr.Atom.{Atom}
 use Rattle.cf_row.specs.declared.expr.Op.{Op}
-use Rattle.cf_row.specs.declared.expr.Op.TheVariants.{Eq, Ne, Lt, Le, Gt, Ge, Within}
+use Rattle.cf_row.specs.declared.expr.Op.TheVariants.{Eq, Ne, Lt, Le, Gt, Ge, Within, Outside}
 use Rattle.cf_row.specs.Row.{is_of_kind, is_byte_string}
-use Rattle.cf_row.specs.Expr.{suits_kind, is_within, atom_suits_attr, atom_suits, atom_count, is_of_schema, IsOfSchema}
+use Rattle.cf_row.specs.Expr.{suits_kind, is_range, atom_suits_attr, atom_suits, atom_count, is_of_schema, IsOfSchema}
 use Rattle.cf_filter.specs.declared.bytes.Class.TheVariants as classes
 use Rattle.cf_filter.specs.declared.fault.OffenceAt.{OffenceAt}
 use Rattle.cf_filter.specs.declared.atom.Joint.{Joint}
@@ -147,6 +147,7 @@ twice_fits kind text range h = let low = value_fits kind text range.0 h.0 in rec
 
 bounds_fit : (kind : Kind) (op : Op) (text : List ℕ) (range : Value × Value) → BoundsRead kind op text (Ok range) → AreOfKind kind range
 bounds_fit kind Within text range h = range_fits kind text range h
+bounds_fit kind Outside text range h = range_fits kind text range h
 bounds_fit kind Eq text range h = twice_fits kind text range h
 bounds_fit kind Ne text range h = twice_fits kind text range h
 bounds_fit kind Lt text range h = twice_fits kind text range h
@@ -197,8 +198,8 @@ atom_good : (attrs : List Attr) (kind : Kind) (atom : Atom) → Stands attrs ato
     → is_of_kind kind atom.high ≡ true → atom_suits attrs atom ≡ true
 atom_good attrs kind atom stands suits low high =
     ap (atom_suits_attr atom) stands.here
-    ∙ ap (λ kind. (suits_kind kind atom.op && is_of_kind kind atom.low) && (not (is_within atom.op) || is_of_kind kind atom.high)) stands.kind_is
-    ∙ rw (suits, low, high) (or_true (not (is_within atom.op)))
+    ∙ ap (λ kind. (suits_kind kind atom.op && is_of_kind kind atom.low) && (not (is_range atom.op) || is_of_kind kind atom.high)) stands.kind_is
+    ∙ rw (suits, low, high) (or_true (not (is_range atom.op)))
 
 abbrev atom_rest : Atom → List ℕ → Atom × List ℕ
 atom_rest atom rest = (atom, rest)

@@ -8,7 +8,7 @@ use Rattle.cf_row.specs.declared.schema.Kind.{Kind}
 use Rattle.cf_row.specs.declared.schema.Kind.TheVariants.{U8, U16, U32, U64, Bytes}
 use Rattle.cf_row.specs.declared.row.Value.{Value}
 use Rattle.cf_row.specs.declared.expr.Op.{Op}
-use Rattle.cf_row.specs.declared.expr.Op.TheVariants.{Eq, Ne, Lt, Le, Gt, Ge, Within}
+use Rattle.cf_row.specs.declared.expr.Op.TheVariants.{Eq, Ne, Lt, Le, Gt, Ge, Within, Outside}
 use Rattle.cf_row.specs.Expr.{number_of}
 use Rattle.cf_filter.specs.declared.bytes.Class.TheVariants as classes
 use Rattle.cf_filter.specs.declared.fault.Offence.{Offence}
@@ -466,6 +466,7 @@ twice_only kind text =
 
 pub bounds_only : (kind : Kind) (op : Op) (text : List ℕ) → Only (BoundsRead kind op text) (bounds_at kind op text)
 bounds_only kind Within text = range_only kind text
+bounds_only kind Outside text = range_only kind text
 bounds_only kind Eq text = twice_only kind text
 bounds_only kind Ne text = twice_only kind text
 bounds_only kind Lt text = twice_only kind text

@@ -7,7 +7,7 @@ use Rattle.cf_row.specs.declared.row.Value.{Value}
 use Rattle.cf_row.specs.declared.row.Value.TheVariants.{Num, Raw}
 use Rattle.cf_row.specs.declared.expr.Atom.{Atom}
 use Rattle.cf_row.specs.declared.expr.Op.{Op}
-use Rattle.cf_row.specs.declared.expr.Op.TheVariants.{Eq, Ne, Lt, Le, Gt, Ge, Within}
+use Rattle.cf_row.specs.declared.expr.Op.TheVariants.{Eq, Ne, Lt, Le, Gt, Ge, Within, Outside}
 use Rattle.cf_row.specs.Row.{is_of_kind}
 use Rattle.cf_row.specs.Expr.{number_of, suits_kind}
 use Rattle.cf_filter.specs.declared.bytes.Class.TheVariants as classes
@@ -79,9 +79,10 @@ ValueRead kind text = Judged (IsForm text) (ValueText kind text)
 abbrev pub TwiceRead : Kind → List ℕ → Result (Value × Value) Offence → Type 0
 TwiceRead kind text = Judged (IsForm text) (λ range. ValueText kind text range.0 × (range.1 ≡ range.0))
 
--- after `in` a range, after another operator a value
+-- after `in` and `not in` a range, after another operator a value
 abbrev pub BoundsRead : Kind → Op → List ℕ → Result (Value × Value) Offence → Type 0
 BoundsRead kind Within text = Judged (HasRangeForm text) (RangeText kind text)
+BoundsRead kind Outside text = Judged (HasRangeForm text) (RangeText kind text)
 BoundsRead kind Eq text = TwiceRead kind text
 BoundsRead kind Ne text = TwiceRead kind text
 BoundsRead kind Lt text = TwiceRead kind text
@@ -109,33 +110,55 @@ NameRead attrs text (Ok found) = (here word : List ℕ) × IsAfterSpaces text he
     × IsRun classes.Name here word found.1 × (attr_named attrs word ≡ Some found.0)
 NameRead attrs text (Err stop) = (here : List ℕ) × IsAfterSpaces text here × (stop.left ≡ length here) × NameFault attrs here stop.offence
 
--- how an operator is written
-abbrev pub op_text : Op → List ℕ
-op_text Eq = codes "=="
-op_text Ne = codes "!="
-op_text Lt = codes "<"
-op_text Le = codes "<="
-op_text Gt = codes ">"
-op_text Ge = codes ">="
-op_text Within = codes "in"
+-- the word that an operator begins with, which is all of it but for `not in`
+abbrev pub op_word : Op → List ℕ
+op_word Eq = codes "=="
+op_word Ne = codes "!="
+op_word Lt = codes "<"
+op_word Le = codes "<="
+op_word Gt = codes ">"
+op_word Ge = codes ">="
+op_word Within = codes "in"
+op_word Outside = codes "not"
 
 -- the word where an operator is wanted: a name, or a run of operator characters
 pub data IsOpWord (here word rest : List ℕ) : Type 0 where
   name : begins_with classes.Letter here ≡ true → IsRun classes.Name here word rest → IsOpWord here word rest
   sign : begins_with classes.Operator here ≡ true → IsRun classes.Operator here word rest → IsOpWord here word rest
 
--- where the operator is wanted
-abbrev pub OpFault : Kind → List ℕ → Offence → Type 0
-OpFault kind here Syntax = (begins_with classes.Letter here ≡ false) × (begins_with classes.Operator here ≡ false)
-OpFault kind here BadOperator = (word rest : List ℕ) × IsOpWord here word rest × ((op : Op) → word ≡ op_text op → suits_kind kind op ≡ true → ⊥)
-OpFault kind here UnknownName = ⊥
-OpFault kind here ValueRange = ⊥
-OpFault kind here TooLong = ⊥
+-- how an operator is written
+abbrev pub OpText : Op → List ℕ → List ℕ → Type 0
+OpText Outside here rest = (after there : List ℕ) × IsOpWord here (codes "not") after × IsAfterSpaces after there × IsOpWord there (codes "in") rest
+OpText Eq here rest = IsOpWord here (op_word Eq) rest
+OpText Ne here rest = IsOpWord here (op_word Ne) rest
+OpText Lt here rest = IsOpWord here (op_word Lt) rest
+OpText Le here rest = IsOpWord here (op_word Le) rest
+OpText Gt here rest = IsOpWord here (op_word Gt) rest
+OpText Ge here rest = IsOpWord here (op_word Ge) rest
+OpText Within here rest = IsOpWord here (op_word Within) rest
+
+-- an operator of the kind begins with the word
+abbrev pub BeginsOp : Kind → List ℕ → Type 0
+BeginsOp kind word = (op : Op) × (word ≡ op_word op) × (suits_kind kind op ≡ true)
+
+-- where one of the wanted words should be
+abbrev pub WordFault : (List ℕ → Type 0) → List ℕ → Offence → Type 0
+WordFault Wanted here Syntax = (begins_with classes.Letter here ≡ false) × (begins_with classes.Operator here ≡ false)
+WordFault Wanted here BadOperator = (word rest : List ℕ) × IsOpWord here word rest × (Wanted word → ⊥)
+WordFault Wanted here UnknownName = ⊥
+WordFault Wanted here ValueRange = ⊥
+WordFault Wanted here TooLong = ⊥
+
+-- where an operator of the kind should be: it does not begin, or `not`, which begins one, is not followed by `in`
+pub data OpFault (kind : Kind) (here : List ℕ) (stop : OffenceAt) : Type 0 where
+  first : stop.left ≡ length here → WordFault (BeginsOp kind) here stop.offence → OpFault kind here stop
+  second : (after there : List ℕ) → IsOpWord here (codes "not") after → suits_kind kind Outside ≡ true → IsAfterSpaces after there
+      → stop.left ≡ length there → WordFault (λ word. word ≡ codes "in") there stop.offence → OpFault kind here stop
 
 -- an operator that suits the kind, after spaces
 abbrev pub OpRead : Kind → List ℕ → Result (Op × List ℕ) OffenceAt → Type 0
-OpRead kind text (Ok found) = (here : List ℕ) × IsAfterSpaces text here × IsOpWord here (op_text found.0) found.1 × (suits_kind kind found.0 ≡ true)
-OpRead kind text (Err stop) = (here : List ℕ) × IsAfterSpaces text here × (stop.left ≡ length here) × OpFault kind here stop.offence
+OpRead kind text (Ok found) = (here : List ℕ) × IsAfterSpaces text here × OpText found.0 here found.1 × (suits_kind kind found.0 ≡ true)
+OpRead kind text (Err stop) = (here : List ℕ) × IsAfterSpaces text here × OpFault kind here stop
 
 -- The word where a value or a range is wanted may be empty, which is in no form.
 abbrev pub EndsRead : Kind → Op → List ℕ → Result ((Value × Value) × List ℕ) OffenceAt → Type 0

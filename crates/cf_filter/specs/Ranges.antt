@@ -6,7 +6,7 @@ use Rattle.cf_row.specs.declared.schema.Kind.TheVariants.{U8, U16, U32, U64, Byt
 use Rattle.cf_row.specs.declared.row.Value.{Value}
 use Rattle.cf_row.specs.declared.row.Value.TheVariants.{Num}
 use Rattle.cf_row.specs.declared.expr.Op.{Op}
-use Rattle.cf_row.specs.declared.expr.Op.TheVariants.{Eq, Ne, Lt, Le, Gt, Ge, Within}
+use Rattle.cf_row.specs.declared.expr.Op.TheVariants.{Eq, Ne, Lt, Le, Gt, Ge, Within, Outside}
 use Rattle.cf_row.specs.Expr.{number_of}
 use Rattle.cf_filter.specs.declared.bytes.Class.TheVariants as classes
 use Rattle.cf_filter.specs.declared.fault.Offence.{Offence}
@@ -104,9 +104,10 @@ twice_at kind text = do
   value ← sized_at kind text
   Ok (value, value)
 
--- a value twice, or after `in` the ends of a range
+-- a value twice, or after `in` and `not in` the ends of a range
 abbrev pub bounds_at : Kind → Op → List ℕ → Result (Value × Value) Offence
 bounds_at kind Within text = range_at kind text
+bounds_at kind Outside text = range_at kind text
 bounds_at kind Eq text = twice_at kind text
 bounds_at kind Ne text = twice_at kind text
 bounds_at kind Lt text = twice_at kind text

@@ -1,12 +1,12 @@
 -- Reading an expression from the left, with the first offending token.
-use Rattle.std.specs.Prelude.{ℕ, ◌+◌, Bool, false, ◌==◌, List, [], ◌∷◌, length, codes, Option, Some, None, Result, Ok, Err, if◌then◌else◌}
+use Rattle.std.specs.Prelude.{ℕ, ◌+◌, Bool, false, ◌==◌, ◌&&◌, List, [], ◌∷◌, length, codes, Option, Some, None, Result, Ok, Err, if◌then◌else◌}
 use Rattle.std.specs.Str.{bytes_eq}
 use Rattle.cf_row.specs.declared.schema.Attr.{Attr}
 use Rattle.cf_row.specs.declared.schema.Kind.{Kind}
 use Rattle.cf_row.specs.declared.row.Value.{Value}
 use Rattle.cf_row.specs.declared.expr.Atom.{Atom}
 use Rattle.cf_row.specs.declared.expr.Op.{Op}
-use Rattle.cf_row.specs.declared.expr.Op.TheVariants.{Eq, Ne, Lt, Le, Gt, Ge, Within}
+use Rattle.cf_row.specs.declared.expr.Op.TheVariants.{Eq, Ne, Lt, Le, Gt, Ge, Within, Outside}
 use Rattle.cf_row.specs.Expr.{suits_kind}
 use Rattle.cf_filter.specs.declared.bytes.Class.{Class}
 use Rattle.cf_filter.specs.declared.bytes.Class.TheVariants as classes
@@ -60,7 +60,7 @@ name_in attrs text = if begins_with classes.Letter text then known_or text (attr
 abbrev pub name_at : List Attr → List ℕ → Result ((ℕ × Kind) × List ℕ) OffenceAt
 name_at attrs text = name_in attrs (unspaced text)
 
--- the operator that is written so
+-- the operator that is this word
 abbrev pub op_named : List ℕ → Option Op
 op_named word =
     if bytes_eq word (codes "==") then Some Eq else (
@@ -81,9 +81,21 @@ abbrev pub suited_or : Kind → List ℕ → List ℕ → Option Op → Result (
 suited_or kind text rest None = Err (stop_at BadOperator text)
 suited_or kind text rest (Some op) = if suits_kind kind op then Ok (op, rest) else Err (stop_at BadOperator text)
 
+-- behind `not` the word is `in`, or it is a bad operator
+abbrev pub outside_in : List ℕ → List ℕ × List ℕ → Result (Op × List ℕ) OffenceAt
+outside_in text word =
+    if length word.0 == 0 then Err (stop_at Syntax text) else (
+    if bytes_eq word.0 (codes "in") then Ok (Outside, word.1) else Err (stop_at BadOperator text))
+
+-- what is behind `not`, after spaces
+abbrev pub outside_at : List ℕ → Result (Op × List ℕ) OffenceAt
+outside_at text = outside_in (unspaced text) (token_at (unspaced text))
+
 -- an operator at the front
 abbrev pub op_in : Kind → List ℕ → List ℕ × List ℕ → Result (Op × List ℕ) OffenceAt
-op_in kind text word = if length word.0 == 0 then Err (stop_at Syntax text) else suited_or kind text word.1 (op_named word.0)
+op_in kind text word =
+    if length word.0 == 0 then Err (stop_at Syntax text) else (
+    if bytes_eq word.0 (codes "not") && suits_kind kind Outside then outside_at word.1 else suited_or kind text word.1 (op_named word.0))
 
 -- an operator after spaces
 abbrev pub op_at : Kind → List ℕ → Result (Op × List ℕ) OffenceAt

@@ -2,7 +2,8 @@
 ghost use Rattle.std.specs.Prelude.{◌≡◌, ℕ, List, ◌≤◌, ◌<◌, length};
 ghost use Rattle.std.specs.Option.{option_map};
 ghost use Rattle.cf_row.specs.Expr.{suits_kind as suits_kind_of};
-ghost use Rattle.cf_filter.specs.Reading.{seen_by, begins_with, attr_named, name_at, op_named, token_at, op_at, bounds_from, atom_at, joint_at};
+ghost use Rattle.cf_row.specs.declared.schema.TheConstants.{MOST_ATTRS};
+ghost use Rattle.cf_filter.specs.Reading.{seen_by, begins_with, attr_named, name_at, op_named, token_at, outside_at, op_at, bounds_from, atom_at, joint_at};
 
 use crate::bytes::{Class, strip, unspaced};
 use crate::fault::{Offence, OffenceAt};
@@ -23,7 +24,7 @@ impl Class {
 
 // The place and the kind of the attribute of that name.
 pub(crate) fn attr_of(attrs: &[Attr], name: &[u8]) -> Option<(u8, Kind)>
-    requires { length attrs.now ≤ 24 }
+    requires { length attrs.now ≤ MOST_ATTRS }
     ensures { result ≡ attr_named attrs.now name.now }
 {
     for i in 0..attrs.len() {
@@ -37,7 +38,7 @@ pub(crate) fn attr_of(attrs: &[Attr], name: &[u8]) -> Option<(u8, Kind)>
 
 // The attribute named at the front, and what follows it.
 fn name_of<'a>(attrs: &[Attr], text: &'a [u8]) -> Result<((u8, Kind), &'a [u8]), OffenceAt>
-    requires { length attrs.now ≤ 24 }
+    requires { length attrs.now ≤ MOST_ATTRS }
     ensures { seen_by (λ x. (x.0, x.1.now)) result ≡ name_at attrs.now text.now }
 {
     let text = unspaced(text);
@@ -57,7 +58,7 @@ fn name_of<'a>(attrs: &[Attr], text: &'a [u8]) -> Result<((u8, Kind), &'a [u8]),
     }
 }
 
-/// The operator that the word is; `in` is `Within`.
+/// The operator that is this one word; `in` is `Within`.
 pub fn named_op(word: &[u8]) -> Option<Op>
     ensures { result ≡ op_named word.now }
 {
@@ -105,6 +106,27 @@ fn token_of(text: &[u8]) -> (&[u8], &[u8])
     Class::Operator.split(text)
 }
 
+// `Outside`, if `in` is behind the `not` that was read, and what follows it.
+fn outside_of(text: &[u8]) -> Result<(Op, &[u8]), OffenceAt>
+    ensures { seen_by (λ x. (x.0, x.1.now)) result ≡ outside_at text.now }
+{
+    let text = unspaced(text);
+    let (word, rest) = token_of(text);
+    if word.is_empty() {
+        return Err(OffenceAt {
+            offence: Offence::Syntax,
+            left: text.len(),
+        });
+    }
+    if word == b"in".as_slice() {
+        return Ok((Op::Outside, rest));
+    }
+    Err(OffenceAt {
+        offence: Offence::BadOperator,
+        left: text.len(),
+    })
+}
+
 fn op_of(kind: Kind, text: &[u8]) -> Result<(Op, &[u8]), OffenceAt>
     ensures { seen_by (λ x. (x.0, x.1.now)) result ≡ op_at kind text.now }
 {
@@ -115,6 +137,9 @@ fn op_of(kind: Kind, text: &[u8]) -> Result<(Op, &[u8]), OffenceAt>
             offence: Offence::Syntax,
             left: text.len(),
         });
+    }
+    if word == b"not".as_slice() && suits_kind(kind, Op::Outside) {
+        return outside_of(rest);
     }
     if let Some(op) = named_op(word)
         && suits_kind(kind, op)
@@ -144,7 +169,7 @@ fn ends_of(kind: Kind, op: Op, text: &[u8]) -> Result<((Value, Value), &[u8]), O
 /// The atom at the front, and what follows it.
 #[tactic(auto, unfolding(crate::specs::Reading::atom_at))]
 pub(crate) fn atom_of<'a>(attrs: &[Attr], text: &'a [u8]) -> Result<(Atom, &'a [u8]), OffenceAt>
-    requires { length attrs.now ≤ 24 }
+    requires { length attrs.now ≤ MOST_ATTRS }
     ensures { seen_by (λ x. (x.0, x.1.now)) result ≡ atom_at attrs.now text.now }
 {
     let ((attr, kind), rest) = name_of(attrs, text)?;

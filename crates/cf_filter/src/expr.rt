@@ -7,6 +7,7 @@ ghost use Rattle.cf_row.specs.Expr.{IsOfSchema};
 ghost use Rattle.cf_filter.specs.declared.fault.OffenceAt.{OffenceAt};
 ghost use Rattle.cf_row.specs.declared.expr.Atom.{Atom};
 ghost use Rattle.cf_row.specs.declared.schema.Attr.{Attr};
+ghost use Rattle.cf_row.specs.declared.schema.TheConstants.{MOST_ATTRS};
 ghost use Rattle.cf_filter.specs.Reading.{attr_named};
 
 use crate::atom::{Joint, atom_of, attr_of, joint_of};
@@ -21,7 +22,7 @@ fn conjunctions_of(
     attrs: &[Attr],
     text: &[u8],
 ) -> Result<Result<Expr, OffenceAt>, Memory>
-    requires { length attrs.now ≤ 24 }
+    requires { length attrs.now ≤ MOST_ATTRS }
     ensures { IfOk result (λ read. read ≡ conjunctions_at attrs.now 32 text.now) }
 {
     let mut closed = Vec::new(alloc);
@@ -74,7 +75,7 @@ fn star_of(alloc: Global, rest: &[u8]) -> Result<Result<Expr, OffenceAt>, Memory
 
 // A star alone, or conjunctions.
 fn expr_of(alloc: Global, attrs: &[Attr], text: &[u8]) -> Result<Result<Expr, OffenceAt>, Memory>
-    requires { length attrs.now ≤ 24 }
+    requires { length attrs.now ≤ MOST_ATTRS }
     ensures { IfOk result (λ read. read ≡ expr_at attrs.now text.now) }
 {
     match strip(unspaced(text), b"*") {
@@ -131,7 +132,7 @@ pub fn find_attr(schema: &Schema, name: &[u8]) -> Option<(u8, Kind)>
 /// The expression of the schema that the text is one of, or its first fault from the left.
 ///
 /// An expression is `*`, or conjunctions joined by `||`, each of atoms joined by `&&`, of at most 32 atoms in all. An atom
-/// is a name, an operator and a value, or a name, `in` and a range. Places of faults are in bytes.
+/// is a name, an operator and a value, or a name, `in` or `not in`, and a range. Places of faults are in bytes.
 pub fn parse_expr(alloc: Global, schema: &Schema, text: &str) -> Result<Expr, FilterFault>
     requires { length text.now < 2 ^ 32 }
     // The answer is what the text is by the grammar.

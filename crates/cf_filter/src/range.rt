@@ -144,12 +144,12 @@ fn range_of(kind: Kind, text: &[u8]) -> Result<(Value, Value), Offence>
     }
 }
 
-/// The value of the text twice, or after `in` the ends of its range.
+/// The value of the text twice, or after `in` and `not in` the ends of its range.
 pub(crate) fn bounds_of(kind: Kind, op: Op, text: &[u8]) -> Result<(Value, Value), Offence>
     ensures { result ≡ bounds_at kind op text.now }
 {
     match op {
-        Op::Within => range_of(kind, text),
+        Op::Within | Op::Outside => range_of(kind, text),
         _ => match value_of(kind, text) {
             Ok(value) => Ok((value, value)),
             Err(offence) => Err(offence),

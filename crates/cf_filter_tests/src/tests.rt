@@ -55,7 +55,11 @@ fn each_text_has_one_outcome(rt: HostRuntime) -> Result<(), Fail> {
         ("len in 10.0.0.0/8", Ok(1)),
         ("src in 10.0.0.0/0 ", Ok(1)),
         ("src in 10.0.0.0/008", Ok(1)),
+        ("src not in 10.0.0.0/8", Ok(1)),
+        ("len not in 5..6", Ok(1)),
+        ("len  not   in 5..6", Ok(1)),
         ("len==5&&ttl==1", Ok(2)),
+        ("len not in 5..6&&src not in 10.0.0.0/8 || ttl==1", Ok(3)),
         ("dport==80 && len>100 || ttl==17", Ok(3)),
         ("  len  ==  5  &&  len  in  1..2  ", Ok(2)),
     ] {
@@ -117,6 +121,36 @@ fn the_first_fault_is_told(rt: HostRuntime) -> Result<(), Fail> {
 }
 
 #[test]
+fn not_wants_in(rt: HostRuntime) -> Result<(), Fail> {
+    let schema = schema(rt.alloc())?;
+    for (text, want) in [
+        ("len not", FilterFault::Syntax(7)),
+        ("len not  ", FilterFault::Syntax(9)),
+        ("len not 5", FilterFault::Syntax(8)),
+        ("len not In 5..6", FilterFault::Syntax(8)),
+        ("len not == 5", FilterFault::BadOperator(8)),
+        ("len not==5", FilterFault::BadOperator(7)),
+        ("len not not in 5..6", FilterFault::BadOperator(8)),
+        ("len not in5..6", FilterFault::BadOperator(8)),
+        ("len notin 5..6", FilterFault::BadOperator(4)),
+        ("len in not 5..6", FilterFault::Syntax(7)),
+        ("not len in 5..6", FilterFault::UnknownName(0)),
+        ("nope not in 5..6", FilterFault::UnknownName(0)),
+        ("dmac not in 1..2", FilterFault::BadOperator(5)),
+        ("dmac not 5", FilterFault::BadOperator(5)),
+        ("len not in", FilterFault::Syntax(10)),
+        ("len not in 5", FilterFault::Syntax(11)),
+        ("len not in 5 .. 6", FilterFault::Syntax(11)),
+        ("len not in 6..5", FilterFault::ValueRange(11)),
+        ("sport not in 10.0.0.0/8", FilterFault::ValueRange(13)),
+        ("len not in 5..6 7", FilterFault::Syntax(16)),
+    ] {
+        assert_eq!(rt; outcome(rt.alloc(), &schema, text), Err(want), "{text}");
+    }
+    Ok(())
+}
+
+#[test]
 fn values_are_of_the_kind(rt: HostRuntime) -> Result<(), Fail> {
     let schema = schema(rt.alloc())?;
     for (text, want) in [
@@ -146,21 +180,33 @@ fn values_are_of_the_kind(rt: HostRuntime) -> Result<(), Fail> {
 fn an_expression_has_at_most_32_atoms(rt: HostRuntime) -> Result<(), Fail> {
     let alloc = rt.alloc();
     let schema = schema(alloc)?;
-    for (end, want) in [
-        ("", Ok(32)),
-        ("&& ttl==1", Err(FilterFault::TooLong)),
-        ("&& nope==1", Err(FilterFault::TooLong)),
-        ("|| ", Err(FilterFault::TooLong)),
-        ("|| ?", Err(FilterFault::TooLong)),
-        ("ttl", Err(FilterFault::Syntax(255))),
+    for (atom, end, want) in [
+        ("ttl==1", "", Ok(32)),
+        ("ttl==1", "&& ttl==1", Err(FilterFault::TooLong)),
+        ("ttl==1", "&& nope==1", Err(FilterFault::TooLong)),
+        ("ttl==1", "|| ", Err(FilterFault::TooLong)),
+        ("ttl==1", "|| ?", Err(FilterFault::TooLong)),
+        ("ttl==1", "ttl", Err(FilterFault::Syntax(255))),
+        ("ttl not in 1..2", "", Ok(32)),
+        (
+            "ttl not in 1..2",
+            "|| ttl not in 1..2",
+            Err(FilterFault::TooLong),
+        ),
     ] {
         let mut text = String::new(alloc);
         for _i in 0..31u32 {
-            text.push_str("ttl==1&&")?;
+            text.push_str(atom)?;
+            text.push_str("&&")?;
         }
-        text.push_str("ttl==1 ")?;
+        text.push_str(atom)?;
+        text.push_str(" ")?;
         text.push_str(end)?;
-        assert_eq!(rt; outcome(alloc, &schema, text.as_str()), want, "{end}");
+        assert_eq!(rt;
+            outcome(alloc, &schema, text.as_str()),
+            want,
+            "{atom} {end}"
+        );
     }
     Ok(())
 }
@@ -201,6 +247,15 @@ fn a_read_expression_selects_rows(rt: HostRuntime) -> Result<(), Fail> {
         ("src in 10.200.3.4/8", high + 1, 0, 0, false),
         ("src in 10.0.0.0..10.255.255.255", high, 0, 0, true),
         ("src in 10.0.0.0..10.255.255.255", high + 1, 0, 0, false),
+        ("src not in 10.0.0.0/8", low, 0, 0, false),
+        ("src not in 10.0.0.0/8", high, 0, 0, false),
+        ("src not in 10.0.0.0/8", low - 1, 0, 0, true),
+        ("src not in 10.0.0.0/8", high + 1, 0, 0, true),
+        ("src not in 10.0.0.0/8", 0, 0, 0, true),
+        ("dport==80 && len not in 5..6", 0, 80, 4, true),
+        ("dport==80 && len not in 5..6", 0, 80, 5, false),
+        ("dport==80 && len not in 5..6", 0, 80, 6, false),
+        ("dport==80 && len not in 5..6", 0, 80, 7, true),
         ("dport==80 && len>100 || src==0x7", 0, 80, 101, true),
         ("dport==80 && len>100 || src==0x7", 0, 80, 100, false),
         ("dport==80 && len>100 || src==0x7", 7, 0, 0, true),

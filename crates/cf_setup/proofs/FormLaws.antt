@@ -5,7 +5,7 @@ use Rattle.std.specs.Str.{bytes_eq}
 use Rattle.std.proofs.lemmas.Bool.{false≢true}
 use Rattle.std.proofs.lemmas.Option.{option_and_then_some}
 use Rattle.cf_row.specs.declared.expr.Op.{Op}
-use Rattle.cf_row.specs.Expr.{is_within}
+use Rattle.cf_row.specs.Expr.{is_range}
 use Rattle.cf_packet6.specs.declared.PacketSchema.TheVariants.{Packet, Packet6}
 use Rattle.cf_filter.specs.Reading.{op_named}
 use Rattle.cf_setup.specs.declared.statement.Statement.{Statement}
@@ -21,7 +21,7 @@ use Rattle.cf_setup.specs.SetupText.{is_schema_statement, is_later, is_in_place}
 
 -- a trigger's operator is one of the six
 abbrev pub has_sign : StatementFormValue → Bool
-has_sign (new_trigger name aggregate part op number) = not (is_within op)
+has_sign (new_trigger name aggregate part op number) = not (is_range op)
 has_sign _ = true
 
 pub record Fits (statement : Statement) (form : StatementFormValue) : Type 0 where
@@ -39,12 +39,12 @@ fits_as : (statement : Statement) (form other : StatementFormValue) → form ≡
     → has_sign other ≡ true → Fits statement form
 fits_as statement form other e k s = record { kind = ap is_schema_form e ∙ k; sign = ap has_sign e ∙ s }
 
-sign_is : (word : List ℕ) (op : Op) → sign_named word ≡ Some op → not (is_within op) ≡ true
-sign_is word op h = option_and_then_some _ (op_named word) op h (λ found e k. by found (is_within found) refl k)
+sign_is : (word : List ℕ) (op : Op) → sign_named word ≡ Some op → not (is_range op) ≡ true
+sign_is word op h = option_and_then_some _ (op_named word) op h (λ found e k. by found (is_range found) refl k)
   where
-    by : (found : Op) → (b : Bool) → is_within found ≡ b → cond b None (Some found) ≡ Some op → not (is_within op) ≡ true
+    by : (found : Op) → (b : Bool) → is_range found ≡ b → cond b None (Some found) ≡ Some op → not (is_range op) ≡ true
     by found true b k = cc
-    by found false b k = let same : found ≡ op = cc in subst (λ (x : Op). not (is_within x) ≡ true) same (ap not b)
+    by found false b k = let same : found ≡ op = cc in subst (λ (x : Op). not (is_range x) ≡ true) same (ap not b)
 
 schema_fits : (word rest : List ℕ) (form : StatementFormValue) → schema_words word rest ≡ Some form → Fits statements.Schema form
 schema_fits word rest form h = by (bytes_eq word (codes "packet")) (bytes_eq word (codes "packet6")) (is_blank rest) (bytes_eq word (codes "records")) h

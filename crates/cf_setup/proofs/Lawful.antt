@@ -18,7 +18,7 @@ use Rattle.cf_packet6.specs.Schema6.{attrs_by}
 use Rattle.cf_packet6.proofs.Lawful.{packet6_is}
 use Rattle.cf_setup.specs.declared.source.Source.{Source}
 use Rattle.cf_setup.specs.declared.source.Source.TheVariants.{Packets, Records}
-use Rattle.cf_row.specs.Expr.{is_of_schema, is_within}
+use Rattle.cf_row.specs.Expr.{is_of_schema, is_range}
 use Rattle.cf_fold.specs.declared.trigger.Trigger.{Trigger}
 use Rattle.cf_shape.specs.declared.lane.Lane.{Lane}
 use Rattle.cf_shape.specs.Lanes.{ShapeValue, no_lane, lane_at, is_number, is_narrow, is_lawful_key, is_lawful_measure, is_lawful_lane, option_passes}
@@ -108,8 +108,8 @@ tally_more s lane k h =
 
 trigger_more : (s : ShapeValue) (lane : Lane) (trigger : Trigger) → suits_trigger s trigger ≡ true → suits_trigger (grown s lane) trigger ≡ true
 trigger_more s lane trigger h =
-    let both = and_parts (is_aggregate_at s trigger.agg) (not (is_within trigger.op)) h in
-    and_from (is_aggregate_at (grown s lane) trigger.agg) (not (is_within trigger.op)) (aggregate_more s lane trigger.agg both.0) both.1
+    let both = and_parts (is_aggregate_at s trigger.agg) (not (is_range trigger.op)) h in
+    and_from (is_aggregate_at (grown s lane) trigger.agg) (not (is_range trigger.op)) (aggregate_more s lane trigger.agg both.0) both.1
 
 ask_more : (s : ShapeValue) (lane : Lane) (ask : Ask) → suits_of s ask ≡ true → suits_of (grown s lane) ask ≡ true
 ask_more s lane (asks.List expr) h = h
@@ -375,7 +375,7 @@ base line source attrs schema = record {
 }
 
 packets_are : (which : PacketSchema) → IsSchema (attrs_by which)
-packets_are Packet = record { few = leb-true (length packet_attrs) 24 refl; apart = refl; stamped = refl; sized = refl }
+packets_are Packet = record { few = leb-true (length packet_attrs) 32 refl; apart = refl; stamped = refl; sized = refl }
 packets_are Packet6 = packet6_is
 
 draft_of : (line : ℕ) (source : Source) (attrs : List Attr) → IsSchema attrs → IsDraft (with_schema line nothing_stated source attrs)
@@ -446,7 +446,7 @@ later line before (new_trigger name aggregate part op number) new attrs e is k s
     subst (λ (x : DraftValue). (x.schema ≡ Some attrs) × IsSetup (settled x attrs)) (sym h.4) (
       e,
       trigger_step before attrs is name trigger (λ full. s 9 (inr (inr (inr (inl (refl, full))))))
-          (λ c w m. and_from (is_aggregate_at (shaped (settled before attrs) c w m) lane.0) (not (is_within op))
+          (λ c w m. and_from (is_aggregate_at (shaped (settled before attrs) c w m) lane.0) (not (is_range op))
           (aggregate_there before attrs is aggregate lane c w m h.2) sign),
     )
 later line before (ask_list name expr) new attrs e is k sign s h =

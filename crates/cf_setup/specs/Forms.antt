@@ -3,7 +3,7 @@ use Rattle.std.specs.Prelude.{ℕ, ◌<◌, ◌^◌, Bool, true, false, List, le
 use Rattle.std.specs.Option.{option_map}
 use Rattle.std.specs.Str.{bytes_eq}
 use Rattle.cf_row.specs.declared.expr.Op.{Op}
-use Rattle.cf_row.specs.Expr.{is_within}
+use Rattle.cf_row.specs.Expr.{is_range}
 use Rattle.cf_packet6.specs.declared.PacketSchema.{PacketSchema}
 use Rattle.cf_packet6.specs.declared.PacketSchema.TheVariants.{Packet, Packet6}
 use Rattle.cf_fold.specs.declared.trigger.Part.{Part}
@@ -74,7 +74,7 @@ part_named word =
 abbrev pub sign_named : List ℕ → Option Op
 sign_named word = do
   op ← op_named word
-  if is_within op then None else Some op
+  if is_range op then None else Some op
 
 -- packet; packet6; records LIST
 abbrev pub schema_words : List ℕ → List ℕ → Option StatementFormValue

@@ -1,7 +1,6 @@
 // `trigger NAME AGGREGATE PART OPERATOR NUMBER`.
 ghost use Rattle.std.specs.Prelude.{◌≡◌, ◌<◌, All, IfSome};
 ghost use Rattle.std.specs.Option.{option_map};
-ghost use Rattle.cf_row.specs.Expr.{is_within as is_within_of};
 ghost use Rattle.cf_setup.specs.Few.{IsFew};
 ghost use Rattle.cf_setup.specs.Forms.{trigger_form as trigger_form_of, part_named, sign_named, form_value, HasWords};
 ghost use Rattle.cf_setup.specs.Forms.StatementFormValue.{new_trigger};
@@ -45,21 +44,12 @@ pub(crate) fn part_of(word: &[u8]) -> Option<Part>
     None
 }
 
-fn is_within(op: Op) -> bool
-    ensures { result ≡ is_within_of op }
-{
-    match op {
-        Op::Within => true,
-        _ => false,
-    }
-}
-
 // One of the six operators.
 fn sign_of(word: &[u8]) -> Option<Op>
     ensures { result ≡ sign_named word.now }
 {
     let op = named_op(word)?;
-    if is_within(op) {
+    if op.is_range() {
         return None;
     }
     Some(op)

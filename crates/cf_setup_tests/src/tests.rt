@@ -29,6 +29,8 @@ fn each_line_has_its_least_code(rt: HostRuntime) -> Result<(), Fail> {
         ("ask q foo len", (2, 3)),
         ("trigger t a mean > 3", (2, 3)),
         ("trigger t a sum in 3", (2, 3)),
+        ("trigger t a sum not 3", (2, 3)),
+        ("trigger t a sum not in 3..4", (2, 3)),
         ("index s src\nindex s src", (3, 5)),
         ("index s src\nask s list *", (3, 5)),
         ("ask q list *\nlive q\nlive q", (4, 5)),
@@ -78,6 +80,10 @@ fn each_line_has_its_least_code(rt: HostRuntime) -> Result<(), Fail> {
         ("ask q list len>", (2, 10)),
         ("ask q list nope==1", (2, 11)),
         ("ask q list dmac<0x020000000001", (2, 12)),
+        ("ask q list dmac not in 1..2", (2, 12)),
+        ("ask q list len not 5", (2, 10)),
+        ("ask q list len not == 5", (2, 12)),
+        ("ask q list src not in 10.0.0.0/8", (0, 0)),
         ("ask q list dport==65536", (2, 13)),
         ("ask q list len==4294967295", (0, 0)),
         ("ask q list len==4294967296", (2, 13)),
@@ -281,7 +287,7 @@ fn a_setup_has_a_shape(rt: HostRuntime) -> Result<(), Fail> {
 fn rows_come_from_what_the_schema_says(rt: HostRuntime) -> Result<(), Fail> {
     for (text, source, count) in [
         ("schema packet", Source::Packets(PacketSchema::Packet), 20),
-        ("schema packet6", Source::Packets(PacketSchema::Packet6), 24),
+        ("schema packet6", Source::Packets(PacketSchema::Packet6), 32),
         ("schema records ts:u64,len:u32", Source::Records, 2),
     ] {
         let setup = parse_setup(rt.alloc(), text.as_bytes())?;
