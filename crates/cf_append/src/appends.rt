@@ -2,6 +2,7 @@
 ghost use Rattle.std.specs.Prelude.{◌≡◌, ◌⊎◌, ◌+◌, ◌-◌, ◌*◌, ◌<◌, ◌≤◌, length, false, IfOk};
 ghost use Rattle.cf_row.specs.Row.{Fits};
 ghost use Rattle.cf_row.specs.Words.{word_count as word_count_of, spelled};
+ghost use Rattle.cf_row.specs.declared.words.TheConstants.{MOST_WORDS};
 ghost use Rattle.cf_table.specs.Loads.{CountsLoads};
 ghost use Rattle.cf_table.specs.Values.{IsOf, book_of};
 ghost use Rattle.cf_table.specs.Moves.{HasAll, SeenFirst, Stops};
@@ -12,7 +13,7 @@ use crate::leaves::Leaves;
 use crate::links::{fill_cells, link_all};
 use crate::paths::make_paths;
 use crate::settles::{move_tail, wait_for};
-use cf_row::{Row, word_count, words_of};
+use cf_row::{MOST_WORDS, Row, word_count, words_of};
 use cf_table::{MultiLog, Steps, WriterPass};
 use std::sync::Wait;
 use std::sync::ledger::Ledger;
@@ -40,7 +41,7 @@ fn store_words<L: Ledger>(
 )
     requires of { IsOf pass.old log.now }
     requires place { offset < log.now.shape.capacity }
-    requires few { length words.now ≤ 64 }
+    requires few { length words.now ≤ MOST_WORDS }
     requires words { (length words.now ≡ word_count_of log.now.shape.schema + 1) × (words.now ≡ spelled record { writer = (book_of pass.old.view).writer; row = row.now }) }
     requires flies { pass.old ≡ flying offset row.now 0 pass.old }
     ensures pass { pass.new ≡ flying offset row.now (length words.now) pass.old }
@@ -70,7 +71,7 @@ pub(crate) fn fill<L: Ledger>(
     ensures loads { CountsLoads pass.old pass.new steps.old steps.new }
 {
     let schema = log.shape().schema();
-    let mut buffer = [0u64; 64];
+    let mut buffer = [0u64; MOST_WORDS];
     let words = &mut buffer[..word_count(schema) + 1];
     words_of(schema, row, pass.writer(), words);
     store_words(log, pass, offset, row, words, steps);

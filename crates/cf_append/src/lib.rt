@@ -5,16 +5,10 @@
 #![tactic(auto)]
 
 mod appends;
-#[cfg(test)]
-mod lane_tests;
 mod leaves;
 mod links;
-#[cfg(test)]
-mod near_tests;
 mod paths;
 mod settles;
-#[cfg(test)]
-mod tests;
 
 pub use appends::{AppendFault, append, append_near, append_wait};
 pub use leaves::Leaves;

@@ -8,15 +8,9 @@
 mod course;
 mod event;
 mod host;
-#[cfg(test)]
-mod host_tests;
 mod laws;
 mod snap;
 mod take;
-#[cfg(test)]
-mod take_tests;
-#[cfg(test)]
-mod tests;
 
 pub use course::{Course, Untaken};
 pub use event::SnapEvent;

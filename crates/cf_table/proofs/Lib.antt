@@ -9,6 +9,4 @@ pub mod Settling
 pub mod Homing
 pub mod Reading
 pub mod Mays
-pub mod Fresh
-pub mod Played
 pub mod Looks

@@ -8,8 +8,6 @@
 mod closes;
 mod count;
 mod deals;
-#[cfg(test)]
-mod lane_tests;
 mod loads;
 mod log;
 mod moves;
@@ -18,8 +16,6 @@ mod reads;
 mod rule;
 mod settles;
 mod steps;
-#[cfg(test)]
-mod tests;
 mod writes;
 
 pub use closes::{Closed, Seal};

@@ -1,6 +1,7 @@
 // Entries are read back.
 ghost use Rattle.std.specs.Prelude.{◌≡◌, ◌+◌, ◌<◌, ◌≤◌, length, slice_get, Some, IfOk};
 ghost use Rattle.cf_row.specs.Words.{word_count as word_count_of};
+ghost use Rattle.cf_row.specs.declared.words.TheConstants.{MOST_WORDS};
 ghost use Rattle.cf_table.specs.Loads.{CountsLoads};
 ghost use Rattle.cf_table.specs.Values.{IsOf};
 ghost use Rattle.cf_table.specs.Moves.{OnlyLooked, AreWordsAt};
@@ -8,7 +9,7 @@ ghost use Rattle.cf_table.specs.Moves.{OnlyLooked, AreWordsAt};
 use crate::count::Steps;
 use crate::log::MultiLog;
 use crate::pass::{Pass, Root};
-use cf_row::{Entry, Memory, row_of, word_count};
+use cf_row::{Entry, MOST_WORDS, Memory, row_of, word_count};
 use std::alloc::Global;
 use std::marker::Brand;
 use std::sync::ledger::{Blank, Ledger};
@@ -25,7 +26,7 @@ impl MultiLog {
         requires of { IsOf (P.held pass.old) self.now }
         requires covered { offset < length (P.held pass.old).view.seen }
         requires long { length words.old ≡ word_count_of self.now.shape.schema + 1 }
-        requires few { length words.old ≤ 64 }
+        requires few { length words.old ≤ MOST_WORDS }
         ensures words { AreWordsAt self.now.shape (P.held pass.old).view.seen offset words.new }
         ensures looked { OnlyLooked (P.held pass.old) (P.held pass.new) }
         ensures steps { steps.new ≡ steps.old + length words.old }
@@ -55,7 +56,7 @@ impl MultiLog {
         ensures loads { CountsLoads (P.held pass.old) (P.held pass.new) steps.old steps.new }
     {
         let schema = self.shape().schema();
-        let mut buffer = [0u64; 64];
+        let mut buffer = [0u64; MOST_WORDS];
         let words = &mut buffer[..word_count(schema) + 1];
         self.load_words(pass, offset, words, steps);
         row_of(alloc, schema, words)

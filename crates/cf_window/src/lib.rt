@@ -6,8 +6,6 @@ mod laws;
 mod needed;
 mod segment;
 mod spare;
-#[cfg(test)]
-mod tests;
 mod window;
 
 pub use laws::{none_goes_unseen, rounds_are_on_windows, windows_are_few, windows_are_of_records};

@@ -146,12 +146,6 @@ impl Window {
         }
     }
 
-    // Whether the segment that comes next is there, or begins to be.
-    #[cfg(test)]
-    pub(crate) fn is_prepared(&self) -> bool {
-        self.spare.is_some()
-    }
-
     // The row comes in the last segment, where there is one that takes it.
     fn go_in(&mut self, row: &Row) -> bool
         requires room { count_of self.old < 2 ^ 64 - 1 }

@@ -1,4 +1,0 @@
-use Rattle.cf_append.proofs.tests.two_unfinished.Given as goal
-
-abbrev pub ghosts-three_at_once : goal.ghosts-three_at_once
-ghosts-three_at_once g a = record { name = a.blank.name; parts = a.blank.parts }
