@@ -34,6 +34,7 @@ op_number ops.Le = 3
 op_number ops.Gt = 4
 op_number ops.Ge = 5
 op_number ops.Within = 6
+op_number ops.Outside = 7
 
 -- of an attribute: the bits of a number, or the size of a string
 abbrev pub kind_about : Kind → About

@@ -63,6 +63,7 @@ fn op_number(op: Op) -> u32
         Op::Gt => 4,
         Op::Ge => 5,
         Op::Within => 6,
+        Op::Outside => 7,
     }
 }
 

@@ -3,7 +3,7 @@ use Rattle.std.specs.Prelude.{◌≡◌, ℕ, ◌≤◌, ◌^◌, Bool, true, fa
 use Rattle.std.specs.List.{range_with_len}
 use Rattle.cf_row.specs.declared.row.Entry.{Entry}
 use Rattle.cf_row.specs.Row.{RowValue, Fits}
-use Rattle.cf_row.specs.Expr.{holds_of, is_of_schema, is_within}
+use Rattle.cf_row.specs.Expr.{holds_of, is_of_schema, is_range}
 use Rattle.cf_fold.specs.Quads.{QuadValue, quad_of}
 use Rattle.cf_fold.specs.Triggers.{fires_of, part_of}
 use Rattle.cf_fold.specs.declared.trigger.Trigger.{Trigger}
@@ -110,7 +110,7 @@ is_tally shape lane = is_indexed shape lane && is_some (lane_at shape lane).meas
 
 -- the trigger's lane is an aggregate, and its operator compares with one number
 abbrev pub suits_trigger : ShapeValue → Trigger → Bool
-suits_trigger shape trigger = is_aggregate shape trigger.agg && not (is_within trigger.op)
+suits_trigger shape trigger = is_aggregate shape trigger.agg && not (is_range trigger.op)
 
 -- the same as a fact
 abbrev pub SuitsTrigger : ShapeValue → Trigger → Type 0

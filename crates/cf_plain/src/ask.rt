@@ -4,7 +4,7 @@ ghost use Rattle.cf_plain.specs.Asks.{Suits, is_attr as is_attr_of, is_indexed a
 ghost use Rattle.cf_plain.specs.Asks.{is_aggregate as is_aggregate_of, is_tally as is_tally_of, suits_trigger as suits_trigger_of};
 
 use cf_fold::{Part, Trigger};
-use cf_row::{Expr, Memory, Op, is_of_schema};
+use cf_row::{Expr, Memory, is_of_schema};
 use cf_shape::{Key, Shape, is_lawful_measure};
 use std::alloc::Global;
 
@@ -108,18 +108,12 @@ fn is_tally(shape: &Shape, lane: u8) -> bool
 fn suits_trigger(shape: &Shape, trigger: &Trigger) -> bool
     ensures { result ≡ suits_trigger_of shape.now trigger.now }
 {
-    if !is_aggregate(shape, trigger.agg) {
-        return false;
-    }
-    match trigger.op {
-        Op::Within => false,
-        _ => true,
-    }
+    is_aggregate(shape, trigger.agg) && !trigger.op.is_range()
 }
 
 /// Whether the question can be asked of a log of that shape. `List` wants an expression of the schema, `Find` a lane
 /// whose key is an attribute, `Between` one whose key is the bucket, `Measure` and `Fired` one that also measures
-/// something, and `Fired` an operator other than `Within`. `Top` wants a lane whose key is an attribute and that measures
+/// something, and `Fired` an operator that is not of a range. `Top` wants a lane whose key is an attribute and that measures
 /// something, and a count from 1 to 1000; `Total` an attribute of numbers below 2^32 and an expression of the schema.
 pub fn suits(shape: &Shape, ask: &Ask) -> bool
     ensures { IsTrue result ↔ Suits shape.now ask.now }

@@ -5,6 +5,7 @@ ghost use Rattle.cf_row.specs.Expr.{IsOfSchema, atom_holds, holds_of};
 ghost use Rattle.cf_row.specs.Row.{value_at};
 ghost use Rattle.cf_row.specs.Words.{words_of_kind as words_of_kind_of};
 ghost use Rattle.cf_row.specs.declared.row.Value.TheVariants.{Num};
+ghost use Rattle.cf_row.specs.declared.schema.TheConstants.{MOST_ATTRS};
 ghost use Rattle.cf_shape.specs.Lanes.{IsShape, is_number, option_passes};
 ghost use Rattle.cf_table.specs.Loads.{CountsLoads};
 ghost use Rattle.cf_table.specs.Values.{IsOf};
@@ -12,7 +13,7 @@ ghost use Rattle.cf_table.specs.Moves.{AreFit, OnlyLooked};
 ghost use Rattle.cf_plain.specs.Asks.{row_at, rows_in};
 ghost use Rattle.cf_query.specs.Selecting.{ArePlaces, compare_numbers, compares_number, is_plain as is_plain_of};
 
-use cf_row::{Atom, Conjunction, Expr, Kind, Memory, Schema, Value, holds};
+use cf_row::{Atom, Conjunction, Expr, Kind, MOST_ATTRS, Memory, Schema, Value, holds};
 use cf_table::{MultiLog, Pass, Steps};
 use std::alloc::Global;
 use std::marker::Model;
@@ -29,12 +30,12 @@ fn words_of_kind(kind: Kind) -> u8
 }
 
 // For each attribute the place of its first word among the words of an entry.
-fn places_of(schema: &Schema) -> [u8; 24]
+fn places_of(schema: &Schema) -> [u8; MOST_ATTRS]
     ensures places { ArePlaces schema.now result }
-    ensures long { length result ≡ 24 }
+    ensures long { length result ≡ MOST_ATTRS }
 {
     let attrs = schema.attrs();
-    let mut places = [0; 24];
+    let mut places = [0; MOST_ATTRS];
     let mut word = 0;
     for place in 0..attrs.len() {
         places[place] = word;
@@ -73,7 +74,7 @@ pub(crate) struct Selection<'a> {
     log: &'a MultiLog,
     alloc: Global,
     expr: &'a Expr,
-    places: [u8; 24],
+    places: [u8; MOST_ATTRS],
     // Whether the expression compares numbers alone.
     numbers: bool,
 }
@@ -81,13 +82,14 @@ pub(crate) struct Selection<'a> {
 impl<'a> Model for Selection<'a> {
     ghost use Rattle.std.specs.Prelude.{◌≡◌, length, true};
     ghost use Rattle.cf_row.specs.Expr.{IsOfSchema};
+    ghost use Rattle.cf_row.specs.declared.schema.TheConstants.{MOST_ATTRS};
     ghost use Rattle.cf_query.specs.Selecting.{ArePlaces, SelectionValue, compare_numbers};
 
     ghost Value = { SelectionValue };
 
     ghost view = { λ s. record { log = s.log.now; expr = s.expr.now } };
 
-    ghost invariant = { λ s. IsOfSchema s.log.now.shape.schema s.expr.now × ArePlaces s.log.now.shape.schema s.places × (length s.places ≡ 24)
+    ghost invariant = { λ s. IsOfSchema s.log.now.shape.schema s.expr.now × ArePlaces s.log.now.shape.schema s.places × (length s.places ≡ MOST_ATTRS)
         × (s.numbers ≡ true → compare_numbers s.log.now.shape.schema s.expr.now ≡ true) };
 }
 

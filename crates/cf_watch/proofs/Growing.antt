@@ -3,7 +3,7 @@ use Rattle.std.proofs.Common.{◌≡◌, ℕ, ◌+◌, ◌≤◌, true, false, n
 use Rattle.std.proofs.lemmas.Bool.{ltb-true, leb-true, lt-ltb, le-leb, ne_eqb, and_parts, false≢true, not-true}
 use Rattle.cf_row.specs.Expr.{compares}
 use Rattle.cf_row.specs.declared.expr.Op.{Op}
-use Rattle.cf_row.specs.declared.expr.Op.TheVariants.{Eq, Ne, Lt, Le, Gt, Ge, Within}
+use Rattle.cf_row.specs.declared.expr.Op.TheVariants.{Eq, Ne, Lt, Le, Gt, Ge, Within, Outside}
 use Rattle.cf_fold.specs.Quads.{QuadValue}
 use Rattle.cf_fold.specs.Triggers.{part_of}
 use Rattle.cf_fold.specs.declared.trigger.Part.{Part}
@@ -21,6 +21,7 @@ upward Le x y number up le is = absurd (false≢true up)
 upward Gt x y number up le is = lt-ltb number y (omega (arith, le, ltb-true number x is))
 upward Ge x y number up le is = le-leb number y (omega (arith, le, leb-true number x is))
 upward Within x y number up le is = absurd (false≢true up)
+upward Outside x y number up le is = absurd (false≢true up)
 
 -- a lower number is below as well
 downward : (op : Op) (x y number : ℕ) → is_downward op ≡ true → y ≤ x → compares op x number 0 ≡ true → compares op y number 0 ≡ true
@@ -31,6 +32,7 @@ downward Le x y number down le is = le-leb y number (omega (arith, le, leb-true 
 downward Gt x y number down le is = absurd (false≢true down)
 downward Ge x y number down le is = absurd (false≢true down)
 downward Within x y number down le is = absurd (false≢true down)
+downward Outside x y number down le is = absurd (false≢true down)
 
 abbrev more : QuadValue → ℕ → QuadValue
 more q n = record { count = q.count + 1; sum = q.sum + n; least = min q.least n; greatest = max q.greatest n }

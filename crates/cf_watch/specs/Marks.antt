@@ -2,7 +2,7 @@
 use Rattle.std.specs.Prelude.{ℕ, ◌-◌, ◌^◌, Bool, true, false, not, ◌&&◌, ◌||◌, nat_lt, ◌==◌, List, [], ◌∷◌, ◌++◌, length, take, drop, map, filter, fold, min, slice_index_or, slice_set, if◌then◌else◌}
 use Rattle.std.specs.List.{list_any, range_with_len}
 use Rattle.cf_row.specs.declared.expr.Op.{Op}
-use Rattle.cf_row.specs.declared.expr.Op.TheVariants.{Eq, Ne, Lt, Le, Gt, Ge, Within}
+use Rattle.cf_row.specs.declared.expr.Op.TheVariants.{Eq, Ne, Lt, Le, Gt, Ge, Within, Outside}
 use Rattle.cf_fold.specs.Triggers.{fires_of, part_of}
 use Rattle.cf_fold.specs.declared.trigger.Part.{Part}
 use Rattle.cf_fold.specs.declared.trigger.Part.TheVariants.{Count, Sum, Least, Greatest}
@@ -19,6 +19,7 @@ is_upward Le = false
 is_upward Gt = true
 is_upward Ge = true
 is_upward Within = false
+is_upward Outside = false
 
 -- below a number
 abbrev pub is_downward : Op → Bool
@@ -29,6 +30,7 @@ is_downward Le = true
 is_downward Gt = false
 is_downward Ge = false
 is_downward Within = false
+is_downward Outside = false
 
 -- more records of a bucket can't undo that its part meets the operator
 abbrev pub grows : Part → Op → Bool

@@ -36,7 +36,7 @@ fn meets(op: Op, part: u128, number: u64) -> bool
 {
     match u64::try_from(part) {
         Ok(part) => op.compares(part, number, 0),
-        Err(_) => matches!(op, Op::Ne | Op::Gt | Op::Ge),
+        Err(_) => matches!(op, Op::Ne | Op::Gt | Op::Ge | Op::Outside),
     }
 }
 

@@ -4,7 +4,7 @@ use Rattle.cf_query.proofs.selection.places_of.Given as goal
 
 abbrev pub invariant-loop-place : goal.invariant-loop-place
 invariant-loop-place l = record {
-  long : length l.places ≡ 24;
+  long : length l.places ≡ 32;
   word : l.word ≡ word_count (take l.place l.attrs);
   filled : (k : ℕ) → k < l.place → get_or l.places k 0 ≡ word_count (take k l.attrs);
 }
