@@ -12,10 +12,11 @@ use Rattle.cf_command.specs.declared.words.SynthCommand.{SynthCommand}
 use Rattle.cf_command.specs.declared.words.DumpCommand.{DumpCommand}
 use Rattle.cf_command.specs.declared.words.SnapshotCommand.{SnapshotCommand}
 use Rattle.cf_command.specs.declared.words.WatchCommand.{WatchCommand}
+use Rattle.cf_command.specs.declared.words.LongCommand.{LongCommand}
 use Rattle.cf_command.specs.declared.words.Command.{Command}
-use Rattle.cf_command.specs.declared.words.Command.TheVariants.{Run, Synth, Dump, Snapshot, Watch}
+use Rattle.cf_command.specs.declared.words.Command.TheVariants.{Run, Synth, Dump, Snapshot, Watch, Long}
 use Rattle.cf_command.specs.Table.{SaidValue, said_of}
-use Rattle.cf_command.specs.Table.SaidValue.{run_said, synth_said, dump_said, snapshot_said, watch_said}
+use Rattle.cf_command.specs.Table.SaidValue.{run_said, synth_said, dump_said, snapshot_said, watch_said, long_said}
 
 -- the texts behind a list of references
 abbrev pub texts : List (Bor (List ℕ)) → List (List ℕ)
@@ -41,6 +42,10 @@ abbrev pub sizes_with : ℕ → List ℕ → List ℕ → Option LogSizes
 sizes_with writers capacity nodes =
     option_and_then (λ c. option_and_then (λ n. Some (record { writers = writers; capacity = c; nodes = n; segments = 1 }))
     (number_in 0 65536 nodes)) (number_in 1 65536 capacity)
+
+-- the same where a text writes out the number of writers too
+abbrev pub undivided_in : List ℕ → List ℕ → List ℕ → Option LogSizes
+undivided_in writers capacity nodes = option_and_then (λ w. sizes_with w capacity nodes) (number_in 1 15 writers)
 
 -- the same sizes with so many segments: all together hold 2^20 records at most, and where there are several, each ends where a batch of
 -- 4,096 records does
@@ -125,6 +130,14 @@ pub record WatchCall : Type 0 where
   pub beat : ℕ
   pub truncated : Bool
 
+-- what `run --long` is called for: the report of captures end to end by a setup, all named, over a log of these sizes, one of whose
+-- segments is left at a time; whether captures are read as truncated
+pub record LongCall : Type 0 where
+  pub setup : List ℕ
+  pub captures : List (List ℕ)
+  pub sizes : LogSizes
+  pub truncated : Bool
+
 -- what a command line is called for
 pub data Call : Type 0 where
   run : (call : RunCall) → Call
@@ -132,10 +145,15 @@ pub data Call : Type 0 where
   dump : (call : DumpCall) → Call
   snapshot : (call : SnapshotCall) → Call
   watch : (call : WatchCall) → Call
+  long : (call : LongCall) → Call
 
 -- a snapshot of 1 to 16 captures
 abbrev pub snapshot_over : SnapshotCall → Option Call
 snapshot_over call = if nat_le 1 (length call.captures) && nat_le (length call.captures) 16 then Some (snapshot call) else None
+
+-- a long run over 1 to 4,096 captures
+abbrev pub long_over : LongCall → Option Call
+long_over call = if nat_le 1 (length call.captures) && nat_le (length call.captures) 4096 then Some (long call) else None
 
 -- the call of what is said, where each number is in its range
 abbrev pub call_in : SaidValue → Option Call
@@ -166,6 +184,10 @@ call_in (watch_said texts) =
     (watch
     (record { setup = texts.setup; capture = texts.capture; sizes = sizes; every = every; beat = beat; truncated = is_given texts.truncated })))
     (number_in 0 (2 ^ 32 - 1) texts.beat)) (number_in 0 (2 ^ 32 - 1) texts.every)) (window_in texts.capacity texts.segments texts.nodes)
+call_in (long_said texts) =
+    option_and_then
+    (λ sizes. long_over (record { setup = texts.setup; captures = texts.captures; sizes = sizes; truncated = is_given texts.truncated }))
+    (undivided_in texts.writers texts.capacity texts.nodes)
 
 -- What the words call for: a command with its options, as clap takes them, each number being in its range. Other words are no
 -- command.
@@ -180,6 +202,7 @@ HasSizes (Some (synth call)) = AreSizes call.sizes
 HasSizes (Some (dump call)) = Unit {0}
 HasSizes (Some (snapshot call)) = AreSizes call.sizes
 HasSizes (Some (watch call)) = AreWindowSizes call.sizes
+HasSizes (Some (long call)) = AreSizes call.sizes
 
 -- the calls that commands were read as
 abbrev pub run_by : RunCommand → RunCall
@@ -214,6 +237,15 @@ watch_by command =
       truncated = command.truncated;
     }
 
+abbrev pub long_by : LongCommand → LongCall
+long_by command =
+    record {
+      setup = command.setup.now;
+      captures = map (λ name. name.now) command.captures.items;
+      sizes = command.sizes;
+      truncated = command.truncated;
+    }
+
 -- the call of a command that was read
 abbrev pub call_by : Command → Call
 call_by (Run command) = run (run_by command)
@@ -221,6 +253,7 @@ call_by (Synth command) = synth (synth_by command)
 call_by (Dump command) = dump (dump_by command)
 call_by (Snapshot command) = snapshot (snapshot_by command)
 call_by (Watch command) = watch (watch_by command)
+call_by (Long command) = long (long_by command)
 
 -- a snapshot has 1 to 16 hosts, each with one writer and one segment
 pub record IsSnapshotInRange (command : SnapshotCommand) : Type 0 where
@@ -230,6 +263,12 @@ pub record IsSnapshotInRange (command : SnapshotCommand) : Type 0 where
   pub hosts : (1 ≤ length command.captures.items) × (length command.captures.items ≤ 16)
   pub turn : (1 ≤ command.turn) × (command.turn ≤ 4096)
 
+-- a long run has one segment at a time, and 1 to 4,096 captures
+pub record IsLongInRange (command : LongCommand) : Type 0 where
+  pub sizes : AreSizes command.sizes
+  pub undivided : command.sizes.segments ≡ 1
+  pub captures : (1 ≤ length command.captures.items) × (length command.captures.items ≤ 4096)
+
 -- the sizes and the counts of a command are in their ranges
 abbrev pub IsInRange : Command → Type 0
 IsInRange (Run command) = AreSizes command.sizes
@@ -237,3 +276,4 @@ IsInRange (Synth command) = AreSizes command.sizes × (command.count ≤ 2 ^ 20)
 IsInRange (Dump command) = Unit {0}
 IsInRange (Snapshot command) = IsSnapshotInRange command
 IsInRange (Watch command) = AreWindowSizes command.sizes
+IsInRange (Long command) = IsLongInRange command

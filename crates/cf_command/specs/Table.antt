@@ -1,13 +1,15 @@
 -- The table of commands, and what words say by it: what clap's own definition for simple commands takes and matches.
 use Rattle.std.specs.Prelude.{◌==◌, Bool, true, List, [], ◌∷◌, Option, Some, None, map, codes, option_map, option_and_then, if◌then◌else◌, length}
+use Rattle.std.specs.Option.{option_or}
 use Rattle.std.specs.Str.{bytes_eq}
 use Rattle.cf_command.specs.declared.table.RunTexts.{RunTexts}
 use Rattle.cf_command.specs.declared.table.SynthTexts.{SynthTexts}
 use Rattle.cf_command.specs.declared.table.DumpTexts.{DumpTexts}
 use Rattle.cf_command.specs.declared.table.SnapshotTexts.{SnapshotTexts}
 use Rattle.cf_command.specs.declared.table.WatchTexts.{WatchTexts}
+use Rattle.cf_command.specs.declared.table.LongTexts.{LongTexts}
 use Rattle.cf_command.specs.declared.table.Said.{Said}
-use Rattle.cf_command.specs.declared.table.Said.TheVariants.{Run, Synth, Dump, Snapshot, Watch}
+use Rattle.cf_command.specs.declared.table.Said.TheVariants.{Run, Synth, Dump, Snapshot, Watch, Long}
 use Rattle.clap.specs.Words.{App, Rule, Row, Text, new_app, new_rule, with_rule, with_subcommand, subcommand_of, fault_of, first_of, all_of}
 use Rattle.clap.specs.declared.builder.action.ArgAction.TheVariants.{Append, SetTrue}
 
@@ -22,6 +24,10 @@ optional id value = record (new_rule id) { long = Some id; defaults = value ∷ 
 -- an option without a value
 abbrev pub flag : Text → Rule
 flag id = record (new_rule id) { long = Some id; action = Some SetTrue }
+
+-- an option without a value that has to be given
+abbrev pub needed_flag : Text → Rule
+needed_flag id = record (flag id) { required = true }
 
 -- a word of its own
 abbrev pub place : Text → Rule
@@ -66,10 +72,13 @@ snapshot_app =
     (roomed_app (with_rule (with_rule (with_rule (new_app (codes "snapshot")) (needed (codes "setup"))) (needed (codes "after")))
     (optional (codes "turn") (codes "1"))))) (places (codes "captures"))
 
+-- with the options of the nodes and the capacity of segments that are let go
+abbrev pub wide_app : App → App
+wide_app app = with_rule (with_rule app (optional (codes "nodes") (codes "65536"))) (optional (codes "capacity") (codes "65536"))
+
 -- with the options of a window's sizes
 abbrev pub windowed_app : App → App
-windowed_app app = with_rule (with_rule (with_rule app (optional (codes "segments") (codes "4"))) (optional (codes "nodes") (codes "65536")))
-    (optional (codes "capacity") (codes "65536"))
+windowed_app app = wide_app (with_rule app (optional (codes "segments") (codes "4")))
 
 -- `watch`: a setup, the sizes of the window, after how many records live questions are asked and a beat comes, whether the capture is
 -- read as truncated, and a capture
@@ -79,6 +88,14 @@ watch_app = with_rule
     (with_rule (with_rule (windowed_app (with_rule (new_app (codes "watch")) (needed (codes "setup")))) (optional (codes "every") (codes "4096")))
     (optional (codes "beat") (codes "0"))))
     (place (codes "capture"))
+
+-- `run --long`: the option itself, a setup, the writers, the nodes and capacity of a segment, whether captures are read as truncated, and
+-- captures
+abbrev pub long_run_app : App
+long_run_app =
+    with_rule (truncatable_app
+    (wide_app (with_rule (with_rule (with_rule (new_app (codes "run")) (needed_flag (codes "long"))) (needed (codes "setup")))
+    (optional (codes "writers") (codes "4"))))) (places (codes "captures"))
 
 -- the program, whose words begin with a command of their own
 abbrev pub bare_app : App
@@ -90,13 +107,17 @@ confluo_app =
     with_subcommand (with_subcommand (with_subcommand (with_subcommand (with_subcommand bare_app run_app.top) synth_app.top) dump_app.top) snapshot_app.top)
     watch_app.top
 
+-- the program with `run --long` alone
+unfoldable pub long_app : App
+long_app = with_subcommand bare_app long_run_app.top
+
 -- the list is empty
 abbrev pub none_of : {X : Type 0} → List X → Bool
 none_of xs = length xs == 0
 
--- the command that the words name, with its matches, where clap takes them
-unfoldable pub taken : List Text → Option (Text × List Row)
-taken words = if none_of (fault_of confluo_app words) then subcommand_of confluo_app words else None
+-- the command of a program that the words name, with its matches, where clap takes them
+unfoldable pub taken : App → List Text → Option (Text × List Row)
+taken app words = if none_of (fault_of app words) then subcommand_of app words else None
 
 -- the texts of a `run` command
 pub record RunSays : Type 0 where
@@ -232,6 +253,32 @@ watch_texts_of rows =
     (first_of (codes "capture") rows)) (first_of (codes "truncated") rows)) (first_of (codes "beat") rows)) (first_of (codes "every") rows))
     (first_of (codes "nodes") rows)) (first_of (codes "segments") rows)) (first_of (codes "capacity") rows)) (first_of (codes "setup") rows)
 
+-- the texts of `run --long`
+pub record LongSays : Type 0 where
+  pub setup : Text
+  pub writers : Text
+  pub capacity : Text
+  pub nodes : Text
+  pub truncated : Text
+  pub captures : List Text
+
+-- these texts as a record, in the order in which they are looked up
+abbrev pub long_says : Text → Text → Text → Text → Text → List Text → LongSays
+long_says s w n m t cs = record { setup = s; writers = w; capacity = n; nodes = m; truncated = t; captures = cs }
+
+-- what was read of `run --long`
+abbrev pub long_says_of : LongTexts → LongSays
+long_says_of r = long_says r.setup.now r.writers.now r.capacity.now r.nodes.now r.truncated.now (map (λ s. s.now) r.captures.items)
+
+-- what the rows of `run --long` say
+unfoldable pub long_texts_of : List Row → Option LongSays
+long_texts_of rows =
+    option_and_then
+    (λ s. option_and_then
+    (λ w. option_and_then (λ n. option_and_then (λ m. option_and_then (λ t. option_and_then (λ cs. Some (long_says s w n m t cs))
+    (all_of (codes "captures") rows)) (first_of (codes "truncated") rows)) (first_of (codes "nodes") rows)) (first_of (codes "capacity") rows))
+    (first_of (codes "writers") rows)) (first_of (codes "setup") rows)
+
 -- what a command line says: the texts of its command
 pub data SaidValue : Type 0 where
   run_said : (said : RunSays) → SaidValue
@@ -239,6 +286,7 @@ pub data SaidValue : Type 0 where
   dump_said : (said : DumpSays) → SaidValue
   snapshot_said : (said : SnapshotSays) → SaidValue
   watch_said : (said : WatchSays) → SaidValue
+  long_said : (said : LongSays) → SaidValue
 
 -- what a command of that name says with these rows
 abbrev pub said_in : Text × List Row → Option SaidValue
@@ -249,9 +297,19 @@ said_in p =
     if bytes_eq p.0 (codes "snapshot") then option_map snapshot_said (snapshot_texts_of p.1) else (
     if bytes_eq p.0 (codes "watch") then option_map watch_said (watch_texts_of p.1) else None))))
 
--- what words say, where clap takes them
+-- what words say by the table of all commands, where clap takes them
+unfoldable pub plain_said_of : List Text → Option SaidValue
+plain_said_of words = option_and_then said_in (taken confluo_app words)
+
+-- what words of `run --long` say, where clap takes them
+unfoldable pub long_said_of : List Text → Option SaidValue
+long_said_of words = option_and_then (λ p. option_map long_said (long_texts_of p.1)) (taken long_app words)
+
+-- What words say by the first table, or else by the second. There are two, since a table has the same options, defaults and words for all
+-- uses of a command, and `run` with `--long` differs in each: it has no `--segments` and no `--live`, more nodes where none are said, and
+-- several captures. Without `--long` the second takes nothing.
 unfoldable pub said_of : List Text → Option SaidValue
-said_of words = option_and_then said_in (taken words)
+said_of words = option_or (plain_said_of words) (long_said_of words)
 
 -- what was read
 abbrev pub said_by : Said → SaidValue
@@ -260,3 +318,4 @@ said_by (Synth texts) = synth_said (synth_says_of texts)
 said_by (Dump texts) = dump_said (dump_says_of texts)
 said_by (Snapshot texts) = snapshot_said (snapshot_says_of texts)
 said_by (Watch texts) = watch_said (watch_says_of texts)
+said_by (Long texts) = long_said (long_says_of texts)

@@ -7,8 +7,8 @@ mod words;
 
 use std::alloc::AllocError;
 pub use words::{
-    Command, DumpCommand, LogSizes, RunCommand, SnapshotCommand, SynthCommand, WatchCommand,
-    WindowSizes, command_of,
+    Command, DumpCommand, LogSizes, LongCommand, RunCommand, SnapshotCommand, SynthCommand,
+    WatchCommand, WindowSizes, command_of,
 };
 
 /// Want of memory, the one refusal of reading words.

@@ -1,9 +1,10 @@
 // The table of commands, as clap is told of it.
-ghost use Rattle.std.specs.Prelude.{◌≡◌, IfOk, option_map, option_and_then, map, false, codes};
+ghost use Rattle.std.specs.Prelude.{◌≡◌, IfOk, option_map, option_and_then, map, true, false, codes};
 ghost use Rattle.clap.specs.Words.{app_of, rule_of, shape_of, subcommand_rows_of, with_rule, with_subcommand, first_of, all_of, found_of, rows_of};
+ghost use Rattle.clap.specs.Faults.{is_simple_and_free};
 ghost use Rattle.clap.specs.declared.builder.command.Command.TheViews.{out-Command as fields_of};
-ghost use Rattle.cf_command.specs.Table.{bare_app, confluo_app, roomed_app, sized_app, truncatable_app, windowed_app, needed, optional, flag, place, places, run_app, synth_app, dump_app, snapshot_app, watch_app, taken, said_of, said_by, run_texts_of, says_of, synth_texts_of, synth_says_of, dump_texts_of, dump_says_of, snapshot_texts_of, snapshot_says_of, watch_texts_of, watch_says_of};
-ghost use Rattle.cf_command.specs.Table.SaidValue.{run_said, synth_said, dump_said, snapshot_said, watch_said};
+ghost use Rattle.cf_command.specs.Table.{bare_app, confluo_app, long_app, roomed_app, sized_app, truncatable_app, wide_app, windowed_app, needed, needed_flag, optional, flag, place, places, run_app, synth_app, dump_app, snapshot_app, watch_app, long_run_app, taken, said_of, plain_said_of, long_said_of, said_by, run_texts_of, says_of, synth_texts_of, synth_says_of, dump_texts_of, dump_says_of, snapshot_texts_of, snapshot_says_of, watch_texts_of, watch_says_of, long_texts_of, long_says_of};
+ghost use Rattle.cf_command.specs.Table.SaidValue.{run_said, synth_said, dump_said, snapshot_said, watch_said, long_said};
 
 use crate::Memory;
 use clap::error::ErrorKind;
@@ -29,6 +30,13 @@ fn bare_option<'a>(alloc: Global, id: &'a str) -> Arg<'a>
     ensures local { result.global ≡ false }
 {
     Arg::new(alloc, id).long(id).action(ArgAction::SetTrue)
+}
+
+fn needed_flag<'a>(alloc: Global, id: &'a str) -> Arg<'a>
+    ensures rule { rule_of result ≡ needed_flag id.entry.now }
+    ensures local { result.global ≡ false }
+{
+    bare_option(alloc, id).required(true)
 }
 
 fn own_word<'a>(alloc: Global, id: &'a str) -> Arg<'a>
@@ -83,6 +91,16 @@ fn truncatable<'a>(alloc: Global, command: Command<'a>) -> Result<Command<'a>, M
     and(command, bare_option(alloc, "truncated"))
 }
 
+// With the options of the nodes and the capacity of segments that are let go.
+fn wide<'a>(alloc: Global, command: Command<'a>) -> Result<Command<'a>, Memory>
+    requires local { (fields_of command).has_globals ≡ false }
+    ensures rules { IfOk result (λ c. app_of c ≡ wide_app (app_of command.entry)) }
+    ensures local { IfOk result (λ c. (fields_of c).has_globals ≡ false) }
+{
+    let command = and(command, optional_option(alloc, "nodes", "65536"))?;
+    and(command, optional_option(alloc, "capacity", "65536"))
+}
+
 // With the options of a window's sizes.
 fn windowed<'a>(alloc: Global, command: Command<'a>) -> Result<Command<'a>, Memory>
     requires local { (fields_of command).has_globals ≡ false }
@@ -90,8 +108,7 @@ fn windowed<'a>(alloc: Global, command: Command<'a>) -> Result<Command<'a>, Memo
     ensures local { IfOk result (λ c. (fields_of c).has_globals ≡ false) }
 {
     let command = and(command, optional_option(alloc, "segments", "4"))?;
-    let command = and(command, optional_option(alloc, "nodes", "65536"))?;
-    and(command, optional_option(alloc, "capacity", "65536"))
+    wide(alloc, command)
 }
 
 fn run_command<'a>(alloc: Global) -> Result<Command<'a>, Memory>
@@ -153,6 +170,19 @@ fn watch_command<'a>(alloc: Global) -> Result<Command<'a>, Memory>
     and(command, own_word(alloc, "capture"))
 }
 
+fn long_run_command<'a>(alloc: Global) -> Result<Command<'a>, Memory>
+    ensures rules { IfOk result (λ c. app_of c ≡ long_run_app) }
+    ensures local { IfOk result (λ c. (fields_of c).has_globals ≡ false) }
+{
+    let command = Command::new(alloc, "run");
+    let command = and(command, needed_flag(alloc, "long"))?;
+    let command = and(command, needed_option(alloc, "setup"))?;
+    let command = and(command, optional_option(alloc, "writers", "4"))?;
+    let command = wide(alloc, command)?;
+    let command = truncatable(alloc, command)?;
+    and(command, own_words(alloc, "captures"))
+}
+
 fn under<'a>(command: Command<'a>, sub: Command<'a>) -> Result<Command<'a>, Memory>
     requires { (fields_of sub).has_globals ≡ false }
     ensures { IfOk result (λ c. app_of c ≡ with_subcommand (app_of command.entry) (shape_of sub.entry)) }
@@ -179,12 +209,19 @@ fn confluo_command<'a>(alloc: Global) -> Result<Command<'a>, Memory>
     under(command, watch_command(alloc)?)
 }
 
-// The command that the words name, with its values, or nothing where clap refuses them.
-fn parse<'a>(alloc: Global, words: &'a [&'a str]) -> Result<Option<ArgMatches<'a>>, Memory>
-    ensures { IfOk result (λ o. option_and_then subcommand_rows_of o ≡ taken (map (λ w. w.now) words.entry.now)) }
+#[tactic(auto, unfolding(crate::specs::Table::long_app))]
+fn long_command<'a>(alloc: Global) -> Result<Command<'a>, Memory>
+    ensures { IfOk result (λ c. app_of c ≡ long_app) }
 {
-    let command = confluo_command(alloc)?;
-    match command.try_get_matches_from(words) {
+    under(bare_command(alloc), long_run_command(alloc)?)
+}
+
+// The command of a program that the words name, with its values, or nothing where clap refuses them.
+fn parse<'a>(program: Command<'a>, words: &'a [&'a str]) -> Result<Option<ArgMatches<'a>>, Memory>
+    requires { is_simple_and_free (app_of program) ≡ true }
+    ensures { IfOk result (λ o. option_and_then subcommand_rows_of o ≡ taken (app_of program.entry) (map (λ w. w.now) words.entry.now)) }
+{
+    match program.try_get_matches_from(words) {
         Ok(matches) => Ok(Some(matches)),
         Err(error) => match error.kind() {
             ErrorKind::OutOfMemory => Err(AllocError),
@@ -393,6 +430,39 @@ fn watch_texts<'a>(matches: &ArgMatches<'a>) -> Option<WatchTexts<'a>>
     })
 }
 
+/// The texts of `run --long`.
+#[derive(Drop)]
+pub(crate) struct LongTexts<'a> {
+    pub(crate) setup: &'a str,
+    pub(crate) writers: &'a str,
+    pub(crate) capacity: &'a str,
+    pub(crate) nodes: &'a str,
+    pub(crate) truncated: &'a str,
+    pub(crate) captures: Vec<&'a str>,
+}
+
+// With the captures that were found.
+#[tactic(auto, unfolding(crate::specs::Table::long_texts_of))]
+fn long_texts<'a>(matches: &ArgMatches<'a>, captures: Option<Vec<&'a str>>) -> Option<LongTexts<'a>>
+    requires { option_map (λ v. map (λ s. s.now) v.items) captures ≡ all_of (codes "captures") (rows_of (found_of matches.now)) }
+    ensures { option_map long_says_of result ≡ long_texts_of (rows_of (found_of matches.now)) }
+{
+    let setup = text_of(matches, "setup")?;
+    let writers = text_of(matches, "writers")?;
+    let capacity = text_of(matches, "capacity")?;
+    let nodes = text_of(matches, "nodes")?;
+    let truncated = text_of(matches, "truncated")?;
+    let captures = captures?;
+    Some(LongTexts {
+        setup,
+        writers,
+        capacity,
+        nodes,
+        truncated,
+        captures,
+    })
+}
+
 /// What the words of a command say.
 #[derive(Drop)]
 pub(crate) enum Said<'a> {
@@ -401,6 +471,7 @@ pub(crate) enum Said<'a> {
     Dump(DumpTexts<'a>),
     Snapshot(SnapshotTexts<'a>),
     Watch(WatchTexts<'a>),
+    Long(LongTexts<'a>),
 }
 
 fn run_said_by<'a>(matches: &ArgMatches<'a>) -> Option<Said<'a>>
@@ -434,15 +505,20 @@ fn snapshot_said_by<'a>(alloc: Global, matches: &ArgMatches<'a>) -> Result<Optio
     Ok(snapshot_texts(matches, captures).map(Said::Snapshot))
 }
 
-/// What the words of a command say, or nothing where they are no command.
-#[tactic(auto, unfolding(crate::specs::Table::said_of))]
-pub(crate) fn read_words<'a>(
-    alloc: Global,
-    words: &'a [&'a str],
-) -> Result<Option<Said<'a>>, Memory>
-    ensures { IfOk result (λ o. option_map said_by o ≡ said_of (map (λ w. w.now) words.entry.now)) }
+fn long_said_by<'a>(alloc: Global, matches: &ArgMatches<'a>) -> Result<Option<Said<'a>>, Memory>
+    ensures { IfOk result (λ found. option_map said_by found ≡ option_map long_said (long_texts_of (rows_of (found_of matches.now)))) }
 {
-    let Some(matches) = parse(alloc, words)? else {
+    let captures = texts_of(alloc, matches, "captures")?;
+    Ok(long_texts(matches, captures).map(Said::Long))
+}
+
+// What the words say by the table of all commands.
+#[tactic(auto, unfolding(crate::specs::Table::plain_said_of))]
+fn read_plain<'a>(alloc: Global, words: &'a [&'a str]) -> Result<Option<Said<'a>>, Memory>
+    ensures { IfOk result (λ o. option_map said_by o ≡ plain_said_of (map (λ w. w.now) words.entry.now)) }
+{
+    let program = confluo_command(alloc)?;
+    let Some(matches) = parse(program, words)? else {
         return Ok(None);
     };
     match matches.subcommand() {
@@ -462,5 +538,34 @@ pub(crate) fn read_words<'a>(
             }
         }
         None => Ok(None),
+    }
+}
+
+// What the words of `run --long` say.
+#[tactic(auto, unfolding(crate::specs::Table::long_said_of))]
+fn read_long<'a>(alloc: Global, words: &'a [&'a str]) -> Result<Option<Said<'a>>, Memory>
+    ensures { IfOk result (λ o. option_map said_by o ≡ long_said_of (map (λ w. w.now) words.entry.now)) }
+{
+    let program = long_command(alloc)?;
+    let Some(matches) = parse(program, words)? else {
+        return Ok(None);
+    };
+    match matches.subcommand() {
+        Some((_, inner)) => long_said_by(alloc, inner),
+        None => Ok(None),
+    }
+}
+
+/// What the words of a command say, or nothing where they are no command.
+#[tactic(auto, unfolding(crate::specs::Table::said_of))]
+pub(crate) fn read_words<'a>(
+    alloc: Global,
+    words: &'a [&'a str],
+) -> Result<Option<Said<'a>>, Memory>
+    ensures { IfOk result (λ o. option_map said_by o ≡ said_of (map (λ w. w.now) words.entry.now)) }
+{
+    match read_plain(alloc, words)? {
+        Some(said) => Ok(Some(said)),
+        None => read_long(alloc, words),
     }
 }

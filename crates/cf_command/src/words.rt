@@ -1,12 +1,14 @@
 // What the words ask for.
 ghost use Rattle.std.specs.Prelude.{◌≡◌, ◌≤◌, ◌*◌, IfOk, IfSome, option_map};
-ghost use Rattle.cf_command.specs.Call.{call_said, call_in, call_by, is_given, schema_named, sizes_in, sizes_with, divided, bounded_window, window_in, texts, AreSizes, AreWindowSizes, IsInRange};
-ghost use Rattle.cf_command.specs.Table.{says_of, synth_says_of, dump_says_of, snapshot_says_of, watch_says_of};
-ghost use Rattle.cf_command.specs.Table.SaidValue.{run_said, synth_said, dump_said, snapshot_said, watch_said};
+ghost use Rattle.cf_command.specs.Call.{call_said, call_in, call_by, is_given, schema_named, sizes_in, sizes_with, undivided_in, divided, bounded_window, window_in, texts, AreSizes, AreWindowSizes, IsInRange};
+ghost use Rattle.cf_command.specs.Table.{says_of, synth_says_of, dump_says_of, snapshot_says_of, watch_says_of, long_says_of};
+ghost use Rattle.cf_command.specs.Table.SaidValue.{run_said, synth_said, dump_said, snapshot_said, watch_said, long_said};
 
 use crate::Memory;
 use crate::number::number_between;
-use crate::table::{DumpTexts, RunTexts, Said, SnapshotTexts, SynthTexts, WatchTexts, read_words};
+use crate::table::{
+    DumpTexts, LongTexts, RunTexts, Said, SnapshotTexts, SynthTexts, WatchTexts, read_words,
+};
 use cf_packet6::PacketSchema;
 use std::alloc::Global;
 
@@ -103,6 +105,17 @@ pub struct WatchCommand<'a> {
     pub truncated: bool,
 }
 
+/// The command `run --long`: the names of the setup and of the captures, in the order of the words, and the sizes of the log, which
+/// has one segment at a time.
+#[derive(Debug, Drop)]
+pub struct LongCommand<'a> {
+    pub setup: &'a str,
+    pub captures: Vec<&'a str>,
+    pub sizes: LogSizes,
+    /// A capture that ends within a record has the records before it.
+    pub truncated: bool,
+}
+
 /// What the words of a command line ask for.
 #[derive(Debug, Drop)]
 pub enum Command<'a> {
@@ -116,6 +129,8 @@ pub enum Command<'a> {
     Snapshot(SnapshotCommand<'a>),
     /// What the rounds of a capture say by a setup, while it comes.
     Watch(WatchCommand<'a>),
+    /// The report of captures end to end by a setup, however long they are.
+    Long(LongCommand<'a>),
 }
 
 // An option without a value is given.
@@ -160,6 +175,23 @@ fn sizes_of_writers(
         nodes: nodes as u32,
         segments: 1,
     }))
+}
+
+// The same where a text writes out the number of writers too.
+fn undivided_sizes(
+    alloc: Global,
+    writers: &str,
+    capacity: &str,
+    nodes: &str,
+) -> Result<Option<LogSizes>, Memory>
+    ensures sizes { IfOk result (λ found. found ≡ undivided_in writers.now capacity.now nodes.now) }
+    ensures within { IfOk result (λ found. IfSome found AreSizes) }
+    ensures undivided { IfOk result (λ found. IfSome found (λ sizes. sizes.segments ≡ 1)) }
+{
+    let Some(count) = number_between(alloc, writers, 1, 15)? else {
+        return Ok(None);
+    };
+    sizes_of_writers(alloc, count as u8, capacity, nodes)
 }
 
 // The same sizes with so many segments, where all together hold no more records than a log may, and several end where batches do.
@@ -357,6 +389,25 @@ fn watch_from<'a>(alloc: Global, texts: &WatchTexts<'a>) -> Result<Option<Comman
     })))
 }
 
+// The command of these texts, where each number is in its range, and there are 1 to 4,096 captures.
+fn long_from<'a>(alloc: Global, said: LongTexts<'a>) -> Result<Option<Command<'a>>, Memory>
+    ensures call { IfOk result (λ found. option_map call_by found ≡ call_in (long_said (long_says_of said.entry))) }
+    ensures within { IfOk result (λ found. IfSome found IsInRange) }
+{
+    let Some(sizes) = undivided_sizes(alloc, said.writers, said.capacity, said.nodes)? else {
+        return Ok(None);
+    };
+    if !(1..=4096).contains(&said.captures.len()) {
+        return Ok(None);
+    }
+    Ok(Some(Command::Long(LongCommand {
+        setup: said.setup,
+        captures: said.captures,
+        sizes,
+        truncated: is_given(said.truncated),
+    })))
+}
+
 /// The command that the words are, or nothing where they are none. Each of its numbers is in its range.
 #[tactic(auto, unfolding(crate::specs::Call::call_said))]
 pub fn command_of<'a>(alloc: Global, words: &'a [&'a str]) -> Result<Option<Command<'a>>, Memory>
@@ -372,5 +423,6 @@ pub fn command_of<'a>(alloc: Global, words: &'a [&'a str]) -> Result<Option<Comm
         Said::Dump(texts) => Ok(dump_from(&texts)),
         Said::Snapshot(texts) => snapshot_from(alloc, texts),
         Said::Watch(texts) => watch_from(alloc, &texts),
+        Said::Long(texts) => long_from(alloc, texts),
     }
 }

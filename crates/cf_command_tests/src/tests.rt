@@ -5,7 +5,8 @@ use std::test::Fail;
 
 // Four numbers of a command, whose words have spaces between them: the writers, capacity, nodes and live rounds of a `run`. A `synth`
 // has its count in place of the rounds, a `snapshot` its captures in place of the writers and its turns in place of the rounds, a `watch`
-// its segments and its live interval in place of the writers and the rounds. Those of a `dump` are zeros.
+// its segments and its live interval in place of the writers and the rounds, a `run --long` its captures in place of the rounds. Those of
+// a `dump` are zeros.
 fn numbers_of(alloc: Global, text: &str) -> Result<Option<(u32, u32, u32, u32)>, Memory> {
     let mut words = Vec::new(alloc);
     for word in text.split(' ') {
@@ -36,6 +37,12 @@ fn numbers_of(alloc: Global, text: &str) -> Result<Option<(u32, u32, u32, u32)>,
             command.sizes.capacity,
             command.sizes.nodes,
             command.every,
+        ))),
+        Some(Command::Long(command)) => Ok(Some((
+            u32::from(command.sizes.writers),
+            command.sizes.capacity,
+            command.sizes.nodes,
+            command.captures.len() as u32,
         ))),
         None => Ok(None),
     }
@@ -185,6 +192,97 @@ fn other_options_and_numbers_are_refused(rt: HostRuntime) -> Result<(), Fail> {
 }
 
 #[test]
+fn a_long_run_takes_its_options_in_any_place(rt: HostRuntime) -> Result<(), Fail> {
+    let alloc = rt.alloc();
+    for (text, answer) in [
+        ("run --long --setup s c", (4, 65536, 65536, 1)),
+        ("run --setup s --long c c c", (4, 65536, 65536, 3)),
+        ("run c d --setup=s --long", (4, 65536, 65536, 2)),
+        (
+            "run a b --writers 15 c --long --nodes 0 d --truncated --capacity 1 --setup s",
+            (15, 1, 0, 4),
+        ),
+        (
+            "run --nodes=65536 --writers=1 --long --capacity=65536 --setup=s c",
+            (1, 65536, 65536, 1),
+        ),
+        (
+            "run --long --setup s --capacity 4097 c",
+            (4, 4097, 65536, 1),
+        ),
+        ("run --long 1 --setup s", (4, 65536, 65536, 1)),
+    ] {
+        assert_eq!(rt; numbers_of(alloc, text)?, Some(answer), "of {text}");
+    }
+    Ok(())
+}
+
+#[test]
+fn other_words_with_long_are_refused(rt: HostRuntime) -> Result<(), Fail> {
+    let alloc = rt.alloc();
+    for text in [
+        "run --long --segments 2 --setup s c",
+        "run --long --segments 1 --setup s c",
+        "run --long --live 0 --setup s c",
+        "run --live=0 --setup s c --long",
+        "run --long --long --setup s c",
+        "run --long --setup s c --long",
+        "run --long=1 --setup s c",
+        "run --long=true --setup s c",
+        "run --long= --setup s c",
+        "run --long --setup s",
+        "run --long c",
+        "run --long --setup s --setup t c",
+        "run --long --setup s --writers 0 c",
+        "run --long --setup s --writers 16 c",
+        "run --long --setup s --capacity 0 c",
+        "run --long --setup s --capacity 65537 c",
+        "run --long --setup s --capacity 01 c",
+        "run --long --setup s --nodes 65537 c",
+        "run --long --setup s --truncated --truncated c",
+        "run --long --setup s --truncated=true c",
+        "run --long --setup s --every 1 c",
+        "run --long --setup s --beat 1 c",
+        "run --long --setup s --schema packet6 c",
+        "run --long --setup s --help c",
+        "run --lon --setup s c",
+        "run -long --setup s c",
+        "run --setup s c d",
+        "--long run --setup s c",
+        "synth --long",
+        "synth --long --setup s --seed 1 --count 1",
+        "dump --long c",
+        "snapshot --long --setup s --after 0 c",
+        "watch --long --setup s c",
+    ] {
+        assert_eq!(rt; numbers_of(alloc, text)?, None, "of {text}");
+    }
+    Ok(())
+}
+
+// How many captures the words of a long run name.
+fn capture_count(alloc: Global, words: &[&str]) -> Result<Option<usize>, Memory> {
+    match command_of(alloc, words)? {
+        Some(Command::Long(command)) => Ok(Some(command.captures.len())),
+        Some(_other) => Ok(None),
+        None => Ok(None),
+    }
+}
+
+#[test]
+fn a_long_run_has_at_most_4096_captures(rt: HostRuntime) -> Result<(), Fail> {
+    let alloc = rt.alloc();
+    let mut words = vec![in alloc; "run", "--setup", "s", "--long"]?;
+    for _ in 0..4096 {
+        words.push("c")?;
+    }
+    assert_eq!(rt; capture_count(alloc, &words)?, Some(4096));
+    words.push("c")?;
+    assert_eq!(rt; capture_count(alloc, &words)?, None);
+    Ok(())
+}
+
+#[test]
 fn a_watch_beats_as_its_words_say(rt: HostRuntime) -> Result<(), Fail> {
     let alloc = rt.alloc();
     let table: [(&[&str], u32); 3] = [
@@ -218,6 +316,7 @@ fn segments_of(alloc: Global, text: &str) -> Result<Option<u32>, Memory> {
         Some(Command::Synth(command)) => Some(command.sizes.segments),
         Some(Command::Snapshot(command)) => Some(command.sizes.segments),
         Some(Command::Watch(command)) => Some(command.sizes.segments),
+        Some(Command::Long(command)) => Some(command.sizes.segments),
         Some(Command::Dump(_)) => None,
         None => None,
     })
@@ -240,6 +339,9 @@ fn segments_end_where_batches_do(rt: HostRuntime) -> Result<(), Fail> {
         ("synth --setup s --seed 1 --count 1 --segments 2", Some(2)),
         ("snapshot --setup s --after 1 c", Some(1)),
         ("snapshot --setup s --after 1 --segments 1 c", None),
+        ("run --setup s --long c", Some(1)),
+        ("run --setup s --long --capacity 4097 c d", Some(1)),
+        ("run --setup s --long --segments 1 c", None),
     ] {
         assert_eq!(rt; segments_of(alloc, text)?, answer, "of {text}");
     }
@@ -259,6 +361,12 @@ fn names_of<'a>(alloc: Global, words: &'a [&'a str]) -> Result<Option<(&'a str, 
             )))
         }
         Some(Command::Watch(command)) => Ok(Some((command.setup, command.capture))),
+        Some(Command::Long(command)) => {
+            Ok(Some((
+                command.setup,
+                command.captures.last().copied().unwrap_or(""),
+            )))
+        }
         None => Ok(None),
     }
 }
@@ -266,7 +374,7 @@ fn names_of<'a>(alloc: Global, words: &'a [&'a str]) -> Result<Option<(&'a str, 
 #[test]
 fn names_of_files_are_those_of_the_words(rt: HostRuntime) -> Result<(), Fail> {
     let alloc = rt.alloc();
-    let table: [(&[&str], (&str, &str)); 6] = [
+    let table: [(&[&str], (&str, &str)); 8] = [
         (&["run", "c.pcap", "--setup", "s"], ("s", "c.pcap")),
         (&["run", "--setup=c", "s"], ("c", "s")),
         (
@@ -282,6 +390,8 @@ fn names_of_files_are_those_of_the_words(rt: HostRuntime) -> Result<(), Fail> {
             &["watch", "/dev/stdin", "--setup", "s"],
             ("s", "/dev/stdin"),
         ),
+        (&["run", "b", "--long", "a", "--setup", "s"], ("s", "a")),
+        (&["run", "--setup=a", "--long", "1"], ("a", "1")),
     ];
     for (words, names) in table {
         assert_eq!(rt; names_of(alloc, words)?, Some(names));
@@ -301,6 +411,7 @@ fn reading_of(alloc: Global, text: &str) -> Result<Option<bool>, Memory> {
         Some(Command::Snapshot(command)) => Some(command.truncated),
         Some(Command::Dump(command)) => Some(command.truncated),
         Some(Command::Watch(command)) => Some(command.truncated),
+        Some(Command::Long(command)) => Some(command.truncated),
         None => None,
     })
 }
@@ -318,6 +429,8 @@ fn captures_are_read_as_the_option_says(rt: HostRuntime) -> Result<(), Fail> {
         ("dump --truncated c", true),
         ("watch --setup s c", false),
         ("watch --setup s c --truncated", true),
+        ("run --long --setup s c", false),
+        ("run c --truncated --setup s --long c", true),
     ] {
         assert_eq!(rt; reading_of(alloc, text)?, Some(reading), "of {text}");
     }

@@ -6,10 +6,10 @@ use Rattle.cf_command.proofs.table.parse.Goals as goal
 
 pub returns-in-Ok : goal.returns-in-Ok
 returns-in-Ok c =
-    taken-ok (app_of c.in_ok-command.command) (map (λ w. w.now) c.args.words.now)
-    (subcommand_rows_of c.in-Ok.matches) c.in_ok-command.ensures c.in-Ok.ensures.kinds (λ e. (c.in-Ok.ensures.matches e).1)
+    taken-ok (app_of c.args.program) (map (λ w. w.now) c.args.words.now) (subcommand_rows_of c.in-Ok.matches) c.requires
+    c.in-Ok.ensures.kinds (λ e. (c.in-Ok.ensures.matches e).1)
 
 pub returns : goal.returns
 returns c =
-    taken-err (app_of c.in_ok-command.command) (map (λ w. w.now) c.args.words.now) (kind_of c.in-Err.error) c.in_ok-command.ensures
-    (search rules) c.in-Err.ensures.kinds
+    taken-err (app_of c.args.program) (map (λ w. w.now) c.args.words.now) (kind_of c.in-Err.error) c.requires (search rules)
+    c.in-Err.ensures.kinds
