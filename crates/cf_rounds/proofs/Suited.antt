@@ -4,7 +4,7 @@ use Rattle.std.specs.declared.alloc.AllocError.{AllocError}
 use Rattle.std.specs.Option.{is_some}
 use Rattle.std.proofs.lemmas.Bool.{ltb-true}
 use Rattle.std.proofs.lemmas.List.Sums.{AllPass-from_list_all}
-use Rattle.cf_row.specs.Expr.{is_within}
+use Rattle.cf_row.specs.Expr.{is_range}
 use Rattle.cf_row.proofs.Bytes.{both}
 use Rattle.cf_fold.specs.declared.trigger.Trigger.{Trigger}
 use Rattle.cf_plain.specs.Asks.{Suits, SuitsTrigger, exists, is_aggregate, is_attr, is_bucketed, suits_of, suits_trigger}
@@ -29,7 +29,7 @@ lives_exist setup lawful k d low =
 -- the lane of a trigger is there
 pub agg_low : (shape : ShapeValue) (trigger : Trigger) → SuitsTrigger shape trigger → trigger.agg < length shape.lanes
 agg_low shape trigger suits =
-    let agg = both (is_aggregate shape trigger.agg) (not (is_within trigger.op)) suits in
+    let agg = both (is_aggregate shape trigger.agg) (not (is_range trigger.op)) suits in
     let bucketed = both (is_bucketed shape trigger.agg) (is_some (lane_at shape trigger.agg).measure) agg.0 in
     let there = both (exists shape trigger.agg) (not (is_attr (lane_at shape trigger.agg).key)) bucketed.0 in
     ltb-true trigger.agg (length shape.lanes) there.0
