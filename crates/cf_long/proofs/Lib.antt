@@ -4,3 +4,5 @@ pub mod Nodes
 pub mod Longs
 pub mod Texts
 pub mod Setups
+pub mod Numbered
+pub mod Ends

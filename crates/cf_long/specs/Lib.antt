@@ -3,3 +3,4 @@ pub mod Found
 pub mod Longs
 pub mod Answered
 pub mod Texts
+pub mod Ends

@@ -1,17 +1,20 @@
 //! A log of any length: its rows fill one segment at a time, and a full one is asked each question once and let go.
 //!
 //! `long_of` opens one for a setup, `Long::take_rows` takes rows as they come, and `long_report` answers about all of them at the end.
+//! `series_report` does all this with captures that are read one after another.
 #![tactic(auto)]
 
 mod answers;
 mod joins;
 mod long;
 mod order;
+mod reads;
 mod report;
 mod segment;
 mod text;
 
 pub use answers::Answers;
 pub use long::Long;
+pub use reads::series_report;
 pub use report::{long_of, long_report};
 pub use text::final_text;

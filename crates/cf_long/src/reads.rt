@@ -1,0 +1,145 @@
+// Captures are read one after another into a log of any length.
+ghost use Rattle.std.specs.Prelude.{◌≡◌, ◌++◌, ℕ, List, [], All, Err, MatchResult, length};
+ghost use Rattle.cf_packet6.specs.Schema6.{attrs_by};
+ghost use Rattle.cf_row.specs.Row.{Fits, RowValue};
+ghost use Rattle.cf_setup.specs.Setups.{shaped};
+ghost use Rattle.cf_intake.specs.Causes.{HasHaltCause};
+ghost use Rattle.cf_intake.specs.Reads.{numbered_on};
+ghost use Rattle.cf_intake.specs.Series.{IsSeriesAt, KeepsSeries};
+ghost use Rattle.cf_intake.specs.declared.refusal.Halt.TheVariants.{Stopped};
+ghost use Rattle.cf_intake.specs.declared.refusal.Stop.TheVariants as stops;
+ghost use Rattle.cf_long.specs.Ends.{AreTaken, AreToldOf, IsReadInto, IsUntold, ReadComesTo, ReadsComeTo};
+ghost use Rattle.cf_long.specs.Longs.{IsLong, IsLongFor, IsSomeLong, KeepsLong, count_of, shape_in};
+
+use crate::long::Long;
+use crate::report::long_report;
+use cf_fill::Context;
+use cf_intake::{Halt, Refusal, Series, Stop};
+use cf_outside::{Gate, Shelf};
+use cf_row::Row;
+use cf_setup::Setup;
+use std::thread::Threads;
+
+/// How captures end that are read into a log.
+#[derive(Clone, Copy, Debug)]
+pub(crate) enum End {
+    /// All were read.
+    Whole,
+    /// The one at hand is refused.
+    Refused(Refusal),
+    /// There is one record more than can be numbered.
+    Full,
+}
+
+// Takes the rows that a read gave, as many as can be numbered. The answer is whether there are more.
+fn take<R: Threads + Sync, G: Gate>(
+    context: &Context<'_, R, G>,
+    long: &mut Long,
+    mut rows: Vec<Row>,
+) -> Result<bool, Halt>
+    requires long { IsSomeLong long.old }
+    requires fit { All (Fits (shape_in long.old).schema) rows.items }
+    requires numbered { (before more : List RowValue) × IsLong long.old (numbered_on 0 before) × (rows.items ≡ numbered_on (length before) more) }
+    ensures keeps { KeepsLong long.old long.new }
+    ensures taken { (before more : List RowValue) → IsLong long.old (numbered_on 0 before) → rows.items ≡ numbered_on (length before) more
+        → AreTaken long.new (before ++ more) result }
+    ensures unfailed { result ≡ Err (Stopped stops.ReadFault) → ⊥ }
+{
+    let room = long.room() as usize;
+    let full = rows.len() > room;
+    rows.truncate(room);
+    let nodes = long.shape().nodes();
+    match long.take_rows(context, &mut rows) {
+        Ok(()) => Ok(full),
+        Err(why) => Err(why.halt(nodes)),
+    }
+}
+
+// Opens the next capture, or reads once, and takes the rows that the read gave. The answer is how the captures end, if they do.
+fn step<R: Threads + Sync, F: Shelf, G: Gate>(
+    context: &Context<'_, R, G>,
+    shelf: &mut F,
+    series: &mut Series<'_>,
+    long: &mut Long,
+) -> Result<Option<End>, Halt>
+    requires { IsReadInto series.old (F.files shelf.old) (F.rest shelf.old) long.old }
+    ensures series { KeepsSeries series.old series.new }
+    ensures keeps { KeepsLong long.old long.new }
+    ensures files { F.files shelf.new ≡ F.files shelf.old }
+    ensures comes { ReadComesTo series.new (F.files shelf.old) (F.rest shelf.new) long.new result }
+    ensures cause { HasHaltCause (F.faults shelf.old) (F.faults shelf.new) result }
+{
+    match series.next(context.alloc, shelf) {
+        Ok(Some(rows)) => match take(context, long, rows) {
+            Ok(true) => Ok(Some(End::Full)),
+            Ok(false) => Ok(None),
+            Err(halt) => Err(halt),
+        },
+        Ok(None) => Ok(Some(End::Whole)),
+        Err(Halt::Refused(why)) => Ok(Some(End::Refused(why))),
+        Err(Halt::Stopped(stop)) => Err(Halt::Stopped(stop)),
+    }
+}
+
+// Reads the captures, until they end or one of them is refused, or there are more records than can be numbered.
+fn read_all<R: Threads + Sync, F: Shelf, G: Gate>(
+    context: &Context<'_, R, G>,
+    shelf: &mut F,
+    series: &mut Series<'_>,
+    long: &mut Long,
+) -> Result<End, Halt>
+    requires { IsReadInto series.old (F.files shelf.old) (F.rest shelf.old) long.old }
+    ensures series { KeepsSeries series.old series.new }
+    ensures keeps { KeepsLong long.old long.new }
+    ensures files { F.files shelf.new ≡ F.files shelf.old }
+    ensures come { ReadsComeTo series.new (F.files shelf.old) (F.rest shelf.new) long.new result }
+    ensures cause { HasHaltCause (F.faults shelf.old) (F.faults shelf.new) result }
+{
+    for _made in 0..u64::MAX {
+        match step(context, shelf, series, long) {
+            Ok(None) => {}
+            Ok(Some(end)) => return Ok(end),
+            Err(halt) => return Err(halt),
+        }
+    }
+    Err(Halt::Stopped(Stop::Memory))
+}
+
+/// Reads the captures one after another into the log, in which no row is yet, and gives the final part of the setup's report over all
+/// their records, numbered from 0. There is none if a capture is missing or has a fault, then `place` captures are before it; or if there are
+/// more than 2^32 - 1 records, or those in some segment need more nodes than a writer has in it; or if the shelf fails or memory runs out,
+/// which comes after 2^64 - 1 reads too. The records before a missing or faulty capture, and its own before the fault, are loaded first.
+pub fn series_report<R: Threads + Sync, F: Shelf, G: Gate>(
+    context: &Context<'_, R, G>,
+    shelf: &mut F,
+    setup: &Setup,
+    series: &mut Series<'_>,
+    mut long: Long,
+) -> Result<Vec<u8>, Halt>
+    requires begun { IsSeriesAt series.old (F.files shelf.old) (F.rest shelf.old) [] }
+    requires long { (capacity writers nodes : ℕ) × IsLongFor setup.now capacity writers nodes long [] }
+    requires kind { (shape_in long).schema ≡ attrs_by series.old.schema }
+    ensures series { KeepsSeries series.old series.new }
+    ensures files { F.files shelf.new ≡ F.files shelf.old }
+    ensures told { (capacity writers nodes : ℕ) → IsLongFor setup.now capacity writers nodes long []
+        → MatchResult result
+        (λ text. AreToldOf series.new (F.files shelf.old) (F.rest shelf.new) setup.now (shaped setup.now capacity writers nodes) text.items)
+        (IsUntold series.new (F.files shelf.old) (F.rest shelf.new) (shaped setup.now capacity writers nodes)) }
+    ensures cause { HasHaltCause (F.faults shelf.old) (F.faults shelf.new) result }
+{
+    let nodes = long.shape().nodes();
+    let end = read_all(context, shelf, series, &mut long)?;
+    // The rows that wait are loaded, however the captures end.
+    let text = match long_report(context, setup, long) {
+        Ok(text) => text,
+        Err(why) => return Err(why.halt(nodes)),
+    };
+    match end {
+        End::Whole => Ok(text),
+        End::Refused(why) => Err(Halt::Refused(why)),
+        End::Full => {
+            let most = u64::from(u32::MAX);
+            Err(Halt::Refused(Refusal::Full { most }))
+        }
+    }
+}
