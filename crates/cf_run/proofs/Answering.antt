@@ -1,5 +1,5 @@
 -- From what is prepared to what the program answers.
-use Rattle.std.proofs.Common.{◌≡◌, ◌⊎◌, ℕ, ◌*◌, ◌≤◌, Bool, true, false, List, [], length, Option, Some, None, refl, sym, inl, inr, IfSome, subst}
+use Rattle.std.proofs.Common.{◌≡◌, ◌⊎◌, ◌∙◌, ℕ, suc, ◌*◌, ◌-◌, ◌^◌, ◌≤◌, Bool, true, false, List, [], ◌∷◌, length, Option, Some, None, ap, refl, sym, inl, inr, IfSome, subst}
 use Rattle.std.specs.Io.KnownBytes.{Keeps}
 use Rattle.std.specs.Option.{option_map}
 use Rattle.cf_outside.specs.Files.{File}
@@ -10,18 +10,22 @@ use Rattle.cf_setup.specs.declared.source.Source.TheVariants.{Packets, Records}
 use Rattle.cf_command.specs.declared.words.LogSizes.{LogSizes}
 use Rattle.cf_command.specs.declared.words.Command.{Command}
 use Rattle.cf_command.specs.declared.words.Command.TheVariants as commands
-use Rattle.cf_command.specs.Call.{Call, RunCall, SynthCall, DumpCall, SnapshotCall, WatchCall, AreSizes, HasSizes, IsInRange, call_by}
-use Rattle.cf_command.specs.Call.Call.{run, synth, dump, snapshot, watch}
+use Rattle.cf_command.specs.Call.{Call, RunCall, SynthCall, DumpCall, SnapshotCall, WatchCall, LongCall, AreSizes, HasSizes, IsInRange, call_by}
+use Rattle.cf_command.specs.Call.Call.{run, synth, dump, snapshot, watch, long}
 use Rattle.cf_setup.specs.Setups.{SetupValue}
 use Rattle.cf_table.specs.Moves.{SealValue}
 use Rattle.cf_run.specs.Answers.{Yields, IsDecided, IsByCall}
-use Rattle.cf_run.specs.Due.{Work, RunAfter, SnapshotAfter, WatchFrom, ComesTo, StopsAt, GivesLog, GivesCut, IsReportOf, AreAnswersOf, WorkGives, IsDue, IsLawful, drawn_work}
+use Rattle.cf_run.specs.Due.{Work, RunAfter, SnapshotAfter, WatchFrom, LongFrom, GivesAll, ComesTo, StopsAt, GivesLog, GivesCut, IsReportOf, AreAnswersOf, WorkGives, IsDue, IsLawful, drawn_work}
 use Rattle.cf_run.specs.Due.Work.{refused}
 use Rattle.cf_run.specs.Due.CallsBy.{halted, whole}
 use Rattle.cf_run.specs.Due.CallsByAll.{one_halted, all_whole}
 use Rattle.cf_run.specs.Due.HostsExceed.{some_full, some_short}
 use Rattle.cf_run.specs.Due.GivesCut.{refuses_hosts, tells_hosts}
+use Rattle.cf_run.specs.Due.GivesAll.{nodes_lack, one_too_many, one_breaks, tells_all}
 use Rattle.cf_run.specs.Due.Exceeds.{full, short}
+use Rattle.cf_intake.specs.Series.{AreEndToEnd, SeriesEnd, behind}
+use Rattle.cf_intake.specs.Series.SeriesEnd.{whole as all_read, refused as one_refused}
+use Rattle.cf_packet6.specs.declared.PacketSchema.{PacketSchema}
 use Rattle.cf_run.specs.Due.GivesLog.{refuses, tells}
 use Rattle.cf_intake.specs.Files.{Grammar, setups, captures, IsFileRefused}
 use Rattle.cf_intake.specs.Files.IsFileRefused.{missing, broken}
@@ -88,6 +92,23 @@ file_refusal : {A : Type 0} (g : Grammar A) (told : Option (List File)) (name : 
     → P refusals.NoFile → ((place code : ℕ) → P (g.refusal place code)) → (why : Refusal) → IsFileRefused g told name before now why → P why
 file_refusal {A} g told name before now P none broke why (missing file left is) = subst P (sym is) none
 file_refusal {A} g told name before now P none broke why (broken bytes place code file breaks left is) = subst P (sym is) (broke place code)
+
+-- captures are refused as missing, or for a fault
+pub refused_behind : (after : SeriesEnd) (at : ℕ) (why : Refusal) (cut : Option ℕ) → behind cut after ≡ one_refused at why → after ≡ one_refused at why
+refused_behind (all_read cuts) at why cut is = absurd (cc is)
+refused_behind (one_refused place other) at why cut is = is
+
+end_words : (schema : PacketSchema) (truncated : Bool) (told : Option (List File)) (place : ℕ) (names : List (List ℕ)) (rows : List RowValue)
+    (end : SeriesEnd) (at : ℕ) (why : Refusal) → AreEndToEnd schema truncated told place names rows end → end ≡ one_refused at why → status_of why ≡ Words → ⊥
+end_words schema truncated told place [] rows end at why ends is words = (let all = ends.1 in cc (is, all))
+end_words schema truncated told place (name ∷ names) rows end at why (inl none) is words =
+    let its : refusals.NoFile ≡ why = (let e = none.2 in cc (e, is)) in
+    absurd (let other : NoFile ≡ Words = ap status_of its ∙ words in cc other)
+end_words schema truncated told place (name ∷ names) rows end at why (inr (inl bad)) is words =
+    let its : refusals.Capture bad.0 bad.1 ≡ why = (let e = bad.3 in cc (e, is)) in
+    absurd (let other : Capture bad.0 bad.1 ≡ Words = ap status_of its ∙ words in cc other)
+end_words schema truncated told place (name ∷ names) rows end at why (inr (inr (what, more, after, says, ends, rows_are, end_is))) is words =
+    end_words schema truncated told (suc place) names more after at why ends (refused_behind after at why what.cut (sym end_is ∙ is)) words
 
 -- of the seals and the status that work gives
 module _ (told : Option (List File)) (before now : Option (List ℕ)) (status : Status) (text : List ℕ) (seals : List SealValue) where
@@ -230,6 +251,35 @@ module _ (told : Option (List File)) (before now : Option (List ℕ)) (status : 
       (subst (λ (w : Work). WorkGives w status text seals) is gives)
   watch_by_work call work gives (whole setup said next) = watch_by_source call setup setup.source work gives next
 
+  -- of a run over captures of any length
+  long_by_all : (call : LongCall) (setup : SetupValue) (schema : PacketSchema) (rows : List RowValue) (end : SeriesEnd)
+      → AreEndToEnd schema call.truncated told 1 call.captures rows end → GivesAll call setup rows end status text seals
+      → IsByCall (Some (long call)) status seals
+  long_by_all call setup schema rows end ends (nodes_lack more gives) =
+      by_refusal (IsByCall (Some (long call))) (refusals.Nodes call.sizes.nodes) (λ e. cc e, refl) gives
+  long_by_all call setup schema rows end ends (one_too_many many nodes gives) =
+      by_refusal (IsByCall (Some (long call))) (refusals.Full (2 ^ 32 - 1)) (λ e. cc e, refl) gives
+  long_by_all call setup schema rows end ends (one_breaks place why few nodes is st tx none) =
+      (λ e. end_words schema call.truncated told 1 call.captures rows end (suc place) why ends is (sym st ∙ e), none)
+  long_by_all call setup schema rows end ends (tells_all cuts few nodes is st tx none) = (λ e. cc (e, st), none)
+
+  long_by_source : (call : LongCall) (setup : SetupValue) (source : Source) (work : Work) → WorkGives work status text seals
+      → LongFrom told call now setup source work → IsByCall (Some (long call)) status seals
+  long_by_source call setup Records work gives next =
+      by_refusal (IsByCall (Some (long call))) (refusals.Setup setup.schema_line 4) (λ e. cc e, refl)
+      (subst (λ (w : Work). WorkGives w status text seals) next.0 gives)
+  long_by_source call setup (Packets schema) work gives next =
+      long_by_all call setup schema next.0 next.1 next.2 (subst (λ (w : Work). WorkGives w status text seals) next.3 gives)
+
+  long_by_work : (call : LongCall) (work : Work) → WorkGives work status text seals → ComesTo told (Some (long call)) before now work
+      → IsByCall (Some (long call)) status seals
+  long_by_work call work gives (halted why file is) =
+      by_refusal (IsByCall (Some (long call))) why
+      (file_refusal setups told call.setup before now (λ w. IsByCall (Some (long call)) (status_of w) []) (λ e. cc e, refl)
+      (λ line code. (λ e. cc e, refl)) why file)
+      (subst (λ (w : Work). WorkGives w status text seals) is gives)
+  long_by_work call work gives (whole setup said next) = long_by_source call setup setup.source work gives next
+
   pub by_due : (call : Option Call) → HasSizes call → IsDue told call before now status text seals → IsByCall call status seals
   by_due None sized due = inl (subst (λ (w : Work). WorkGives w status text seals) due.comes.0 due.gives).0
   by_due (Some (run call)) sized due = run_by_work call due.work sized due.gives due.comes
@@ -237,6 +287,7 @@ module _ (told : Option (List File)) (before now : Option (List ℕ)) (status : 
   by_due (Some (dump call)) sized due = dump_by_work call due.work due.gives due.comes
   by_due (Some (snapshot call)) sized due = snapshot_by_work call due.work due.gives due.comes
   by_due (Some (watch call)) sized due = watch_by_work call due.work due.gives due.comes
+  by_due (Some (long call)) sized due = long_by_work call due.work due.gives due.comes
 
 -- of the faults of devices, and of want of memory
 pub by_cut : (call : Option Call) (status : Status) (seals : List SealValue) → status ≡ WriteFault → seals ≡ [] → IsByCall call status seals
@@ -246,6 +297,7 @@ by_cut (Some (synth call)) status seals is none = (λ e. cc (e, is), λ at code 
 by_cut (Some (dump call)) status seals is none = (λ e. cc (e, is), λ line code e. cc (e, is), λ e. cc (e, is), λ e. cc (e, is), none)
 by_cut (Some (snapshot call)) status seals is none = (λ e. cc (e, is), none)
 by_cut (Some (watch call)) status seals is none = (λ e. cc (e, is), none)
+by_cut (Some (long call)) status seals is none = (λ e. cc (e, is), none)
 
 pub by_memory : (call : Option Call) (status : Status) (seals : List SealValue) → status ≡ Memory → seals ≡ [] → IsByCall call status seals
 by_memory None status seals is none = inr (inl is)
@@ -254,6 +306,7 @@ by_memory (Some (synth call)) status seals is none = (λ e. cc (e, is), λ at co
 by_memory (Some (dump call)) status seals is none = (λ e. cc (e, is), λ line code e. cc (e, is), λ e. cc (e, is), λ e. cc (e, is), none)
 by_memory (Some (snapshot call)) status seals is none = (λ e. cc (e, is), none)
 by_memory (Some (watch call)) status seals is none = (λ e. cc (e, is), none)
+by_memory (Some (long call)) status seals is none = (λ e. cc (e, is), none)
 
 pub by_stop : (told : Option (List File)) (call : Option Call) (before now : Option (List ℕ)) (status : Status) (seals : List SealValue) (stop : Stop)
     → status ≡ stop_status stop → seals ≡ [] → StopsAt told call stop before now → IsByCall call status seals
@@ -265,6 +318,7 @@ by_stop told (Some (dump call)) before now status seals stops.ReadFault is none 
     (λ e. cc (e, is), λ line code e. cc (e, is), λ e. cc (e, is), λ e. cc (e, is), none)
 by_stop told (Some (snapshot call)) before now status seals stops.ReadFault is none left = (λ e. cc (e, is), none)
 by_stop told (Some (watch call)) before now status seals stops.ReadFault is none left = (λ e. cc (e, is), none)
+by_stop told (Some (long call)) before now status seals stops.ReadFault is none left = (λ e. cc (e, is), none)
 
 -- words that are no command
 pub words_text : (told : Option (List File)) (call : Option Call) (before now : Option (List ℕ)) (status : Status) (text : List ℕ) (seals : List SealValue)
@@ -285,6 +339,8 @@ words_call told (Some (snapshot call)) before now status text seals sized due is
     absurd ((by_due told before now status text seals (Some (snapshot call)) sized due).0 is)
 words_call told (Some (watch call)) before now status text seals sized due is =
     absurd ((by_due told before now status text seals (Some (watch call)) sized due).0 is)
+words_call told (Some (long call)) before now status text seals sized due is =
+    absurd ((by_due told before now status text seals (Some (long call)) sized due).0 is)
 
 -- the sizes of a command are in their ranges
 pub sized_by : (command : Option Command) → IfSome command IsInRange → HasSizes (option_map call_by command)
@@ -294,6 +350,7 @@ sized_by (Some (commands.Synth command)) within = within.0
 sized_by (Some (commands.Dump command)) within = tt
 sized_by (Some (commands.Snapshot command)) within = within.sizes
 sized_by (Some (commands.Watch command)) within = within
+sized_by (Some (commands.Long command)) within = within.sizes
 
 pub keeps_same : (held : Option (List ℕ)) → Keeps held held
 keeps_same None = tt

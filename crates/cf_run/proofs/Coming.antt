@@ -6,13 +6,13 @@ use Rattle.cf_row.specs.Row.{RowValue}
 use Rattle.cf_packet6.specs.Schema6.{attrs_by}
 use Rattle.cf_setup.specs.declared.source.Source.{Source}
 use Rattle.cf_setup.specs.declared.source.Source.TheVariants.{Packets, Records}
-use Rattle.cf_command.specs.Call.{Call, RunCall, SynthCall, DumpCall, SnapshotCall, WatchCall}
-use Rattle.cf_command.specs.Call.Call.{run, synth, dump, snapshot, watch}
+use Rattle.cf_command.specs.Call.{Call, RunCall, SynthCall, DumpCall, SnapshotCall, WatchCall, LongCall}
+use Rattle.cf_command.specs.Call.Call.{run, synth, dump, snapshot, watch, long}
 use Rattle.cf_follow.specs.Followed.{truncated_line}
 use Rattle.cf_report.specs.Dump.{dump_text}
 use Rattle.cf_setup.specs.Setups.{SetupValue}
 use Rattle.cf_table.specs.Moves.{SealValue}
-use Rattle.cf_run.specs.Due.{Work, CallsBy, CallsByAll, CallsFor, RunAfter, SynthAfter, SnapshotAfter, WatchFrom, WatchAfter, ComesTo, Exceeds, GivesLog, HostsExceed, LogHasRoom, IsSnapshotOf, GivesCut, IsReportOf, AreAnswersOf, IsDue, StopsAt, drawn_work}
+use Rattle.cf_run.specs.Due.{Work, CallsBy, CallsByAll, CallsFor, RunAfter, SynthAfter, SnapshotAfter, WatchFrom, WatchAfter, LongFrom, LongAfter, ComesTo, Exceeds, GivesLog, HostsExceed, LogHasRoom, IsSnapshotOf, GivesCut, IsReportOf, AreAnswersOf, IsDue, StopsAt, drawn_work}
 use Rattle.cf_run.specs.Due.Work.{report, answers, listing, at_cut, refused}
 use Rattle.cf_run.specs.Due.CallsBy.{halted, whole}
 use Rattle.cf_run.specs.Due.CallsByAll.{one_halted, all_whole}
@@ -212,6 +212,7 @@ stops_unopened told (Some (synth call)) before = inl (left_same told before)
 stops_unopened told (Some (dump call)) before = inl (left_same told before)
 stops_unopened told (Some (snapshot call)) before = inl (inl (left_same told before))
 stops_unopened told (Some (watch call)) before = inl (inl (left_same told before))
+stops_unopened told (Some (long call)) before = inl (inl (left_same told before))
 
 pub words_due : (told : Option (List File)) (before : Option (List ℕ)) → EndsWith told None before before (Err (Refused refusals.Words))
 words_due told before = record { work = refused refusals.Words; comes = (refl, left_same told before); gives = (refl, refl, refl) }
@@ -239,6 +240,13 @@ watch_left told call before now setup work said Records kind next = inl (whole_t
 watch_left told call before now setup work said (Packets schema) kind (inl next) = inr (setup, schema, said, kind, inl next.1.1)
 watch_left told call before now setup work said (Packets schema) kind (inr next) =
     inr (setup, schema, said, kind, inr (next.0, next.1, record { count = 0; most = omega arith; left = next.3 }))
+
+-- once the setup of a run over captures of any length is read
+long_left : (told : Option (List File)) (call : LongCall) (before now : Option (List ℕ)) (setup : SetupValue) (work : Work)
+    → IsFileAs setups told call.setup setup → (source : Source) → setup.source ≡ source → LongFrom told call now setup source work
+    → StopsAt told (Some (long call)) stops.Memory before now
+long_left told call before now setup work said Records kind next = inl (whole_taken setups told call.setup before now setup (said, next.1))
+long_left told call before now setup work said (Packets schema) kind next = inr (setup, schema, said, kind)
 
 pub comes_stopped : (told : Option (List File)) (call : Option Call) (before now : Option (List ℕ)) (work : Work) → ComesTo told call before now work
     → StopsAt told call stops.Memory before now
@@ -269,6 +277,9 @@ comes_stopped told (Some (snapshot call)) before now work comes =
 comes_stopped told (Some (watch call)) before now work comes =
     called_left setups told call.setup before now (WatchAfter told call now) work (StopsAt told (Some (watch call)) stops.Memory before now)
     (λ stop. inl stop) (λ setup said next. watch_left told call before now setup work said setup.source refl next) comes
+comes_stopped told (Some (long call)) before now work comes =
+    called_left setups told call.setup before now (LongAfter told call now) work (StopsAt told (Some (long call)) stops.Memory before now)
+    (λ stop. inl stop) (λ setup said next. long_left told call before now setup work said setup.source refl next) comes
 
 pub refused_prepared : (told : Option (List File)) (call : Option Call) (before now : Option (List ℕ)) (why : Refusal) (result : Result WorkReply Stop)
     → EndsWith told call before now (Err (Refused why))

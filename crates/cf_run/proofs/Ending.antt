@@ -1,7 +1,7 @@
 -- What the number says with which the program ends.
 use Rattle.std.proofs.Common.{◌≡◌, ◌⊎◌, inl, inr, ℕ, Option, Some, None, refl, sym, ap, subst, ◌∙◌, arith}
 use Rattle.cf_command.specs.Call.{Call}
-use Rattle.cf_command.specs.Call.Call.{run, synth, dump, snapshot, watch}
+use Rattle.cf_command.specs.Call.Call.{run, synth, dump, snapshot, watch, long}
 use Rattle.cf_run.specs.Answers.{number_of}
 use Rattle.cf_run.specs.Ending.{EndsBy}
 use Rattle.cf_run.specs.declared.status.Status.{Status}
@@ -27,6 +27,7 @@ no_command (Some (synth call)) number by is = absurd (by.3.0 (words_number by.0 
 no_command (Some (dump call)) number by is = absurd (by.3.0 (words_number by.0 (sym by.2 ∙ is)))
 no_command (Some (snapshot call)) number by is = absurd (by.3.0 (words_number by.0 (sym by.2 ∙ is)))
 no_command (Some (watch call)) number by is = absurd (by.3.0 (words_number by.0 (sym by.2 ∙ is)))
+no_command (Some (long call)) number by is = absurd (by.3.0 (words_number by.0 (sym by.2 ∙ is)))
 
 no_other : (number : ℕ) → EndsBy None number → (number ≡ 1) ⊎ (number ≡ 8) ⊎ (number ≡ 5)
 no_other number by = elim by.3 [

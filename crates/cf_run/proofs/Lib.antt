@@ -6,3 +6,5 @@ pub mod Coming
 mod Counted
 pub mod Answering
 pub mod Watching
+pub mod Serials
+pub mod Lengths

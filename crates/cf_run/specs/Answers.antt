@@ -3,7 +3,7 @@ use Rattle.std.specs.Prelude.{◌≡◌, ◌⊎◌, ◌≤◌, ℕ, List, [], le
 use Rattle.std.specs.Io.KnownBytes.{Appends, Keeps}
 use Rattle.cf_command.specs.declared.words.LogSizes.{LogSizes}
 use Rattle.cf_command.specs.Call.{Call, WatchCall}
-use Rattle.cf_command.specs.Call.Call.{run, synth, dump, snapshot, watch}
+use Rattle.cf_command.specs.Call.Call.{run, synth, dump, snapshot, watch, long}
 use Rattle.cf_outside.specs.Files.{File}
 use Rattle.cf_table.specs.Moves.{SealValue}
 use Rattle.cf_intake.specs.Devices.{WritesFront}
@@ -49,10 +49,20 @@ pub data RunAnswers (told : Option (List File)) (call : Option Call) (status : S
 abbrev pub AreBetween : Status → Status → Type 0
 AreBetween one other = ((one ≡ Done) × (other ≡ Nodes)) ⊎ ((one ≡ Nodes) × (other ≡ Done))
 
+-- They decide so too about captures of any length, where a lack of nodes shows before the line of a refusal.
+abbrev pub MayLackNodes : Option Call → Status → Status → Type 0
+MayLackNodes None one other = ⊥
+MayLackNodes (Some (run call)) one other = ⊥
+MayLackNodes (Some (synth call)) one other = ⊥
+MayLackNodes (Some (dump call)) one other = ⊥
+MayLackNodes (Some (snapshot call)) one other = ⊥
+MayLackNodes (Some (watch call)) one other = ⊥
+MayLackNodes (Some (long call)) one other = (one ≡ Nodes) ⊎ (other ≡ Nodes)
+
 -- whatever the call and the files call for comes, unless memory ran out or a device failed
 abbrev pub IsDecided : List File → Option Call → Status → Type 0
 IsDecided files call status = (before after : Option (List ℕ)) (due : Status) (text : List ℕ) (seals : List SealValue)
-    → IsDue (Some files) call before after due text seals → (status ≡ due) ⊎ Yields status ⊎ AreBetween status due
+    → IsDue (Some files) call before after due text seals → (status ≡ due) ⊎ Yields status ⊎ AreBetween status due ⊎ MayLackNodes call status due
 
 -- a seal for each segment that was opened: one at least, and no more than the log may have
 abbrev pub HasSeals : LogSizes → List SealValue → Type 0
@@ -60,7 +70,7 @@ HasSeals sizes seals = (1 ≤ length seals) × (length seals ≤ sizes.segments)
 
 -- What the call alone says of a status and of the seals, whatever the files are. Only words that are no command come to that status. A
 -- synth opens no capture, and a dump has no setup and no log. A run or a synth that was done has a seal for each segment of its log, and a
--- dump, a snapshot and a watch have none.
+-- dump, a snapshot, a watch and a run over captures of any length have none.
 abbrev pub IsByCall : Option Call → Status → List SealValue → Type 0
 IsByCall None status seals = (status ≡ Words) ⊎ (status ≡ Memory) ⊎ (status ≡ WriteFault)
 IsByCall (Some (run call)) status seals = (status ≡ Words → ⊥) × (status ≡ Done → HasSeals call.sizes seals)
@@ -69,3 +79,4 @@ IsByCall (Some (dump call)) status seals = (status ≡ Words → ⊥) × ((line 
     × (status ≡ Nodes → ⊥) × (seals ≡ [])
 IsByCall (Some (snapshot call)) status seals = (status ≡ Words → ⊥) × (seals ≡ [])
 IsByCall (Some (watch call)) status seals = (status ≡ Words → ⊥) × (seals ≡ [])
+IsByCall (Some (long call)) status seals = (status ≡ Words → ⊥) × (seals ≡ [])

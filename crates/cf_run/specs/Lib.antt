@@ -1,4 +1,5 @@
 pub mod Hosts
+pub mod Lengths
 pub mod Refusals
 pub mod Watched
 pub mod Due

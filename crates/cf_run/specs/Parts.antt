@@ -2,8 +2,8 @@
 use Rattle.std.specs.Prelude.{◌≡◌, ◌⊎◌, ℕ, List, [], map, Some, None, Option, Result, Ok, Err}
 use Rattle.std.specs.Io.KnownBytes.{Appends, Keeps}
 use Rattle.cf_outside.specs.Files.{File}
-use Rattle.cf_command.specs.Call.{Call, WatchCall}
-use Rattle.cf_command.specs.Call.Call.{watch}
+use Rattle.cf_command.specs.Call.{Call, LongCall, WatchCall}
+use Rattle.cf_command.specs.Call.Call.{long, watch}
 use Rattle.cf_follow.specs.Followed.{IsReady}
 use Rattle.cf_follow.specs.declared.watch.Watch.{Watch}
 use Rattle.cf_intake.specs.Files.{HasFile, HasLeft, IsFileAs, setups}
@@ -16,6 +16,9 @@ use Rattle.cf_setup.specs.declared.source.Source.TheVariants.{Packets, Records}
 use Rattle.cf_table.specs.Moves.{SealValue}
 use Rattle.cf_run.specs.Due.{IsDue, StopsAt}
 use Rattle.cf_run.specs.Watched.{IsOpened, begun_for}
+use Rattle.cf_long.specs.Longs.{IsLongFor}
+use Rattle.cf_intake.specs.Parts.{IsSetupRead}
+use Rattle.cf_run.specs.declared.long_run.LongWork.{LongWork}
 use Rattle.cf_intake.specs.Refusals.{line_of}
 use Rattle.cf_intake.specs.declared.refusal.Refusal.{Refusal}
 use Rattle.cf_intake.specs.declared.refusal.Refusal.TheVariants as refusals
@@ -92,3 +95,29 @@ abbrev pub Refuses : Refusal → (held now : Option (List ℕ)) → Status → T
 Refuses why held now status =
     ((status ≡ status_of why) × Appends held now (line_of why)) ⊎ ((status ≡ WriteFault) × WritesFront held now (line_of why))
     ⊎ ((status ≡ Memory) × Keeps held now)
+
+-- The setup over packets of a run over captures of any length was read, and there is a log for it with no row. No file is open.
+pub record IsLongBegun (told : Option (List File)) (call : LongCall) (now : Option (List ℕ)) (work : LongWork) : Type 0 where
+  pub set : IsFileAs setups told call.setup work.setup
+  pub kind : (work.setup).source ≡ Packets work.schema
+  pub read : IsSetupRead work.setup
+  pub left : HasLeft told now (Some [])
+  pub is : IsLongFor work.setup call.sizes.capacity call.sizes.writers call.sizes.nodes work.long []
+
+-- a run over captures of any length has begun, or the line of its refusal is due, or it was stopped
+abbrev pub LongBegins : Option (List File) → LongCall → Option (List ℕ) → Option (List ℕ) → Result LongWork Halt → Type 0
+LongBegins told call before now (Ok work) = IsLongBegun told call now work
+LongBegins told call before now (Err (Refused why)) = IsDue told (Some (long call)) before now (status_of why) (line_of why) []
+LongBegins told call before now (Err (Stopped stop)) = StopsAt told (Some (long call)) stop before now
+
+-- a reply is the work's text, with no seal
+pub record IsTold (reply : WorkReply) (text : List ℕ) : Type 0 where
+  pub status : reply_status reply ≡ Done
+  pub text_is : reply_text reply ≡ text
+  pub none : reply_seals reply ≡ []
+
+-- a reply is a refusal, by that line
+pub record IsRefusedBy (why : Refusal) (line : List ℕ) (reply : WorkReply) : Type 0 where
+  pub status : reply_status reply ≡ status_of why
+  pub text_is : reply_text reply ≡ line
+  pub none : reply_seals reply ≡ []

@@ -1,7 +1,7 @@
 -- What is written of a capture that is watched.
 use Rattle.std.specs.Prelude.{◌≡◌, ℕ, ◌-◌, ◌^◌, List, Some, None, Option}
 use Rattle.cf_command.specs.Call.{Call, WatchCall}
-use Rattle.cf_command.specs.Call.Call.{run, synth, dump, snapshot, watch}
+use Rattle.cf_command.specs.Call.Call.{run, synth, dump, snapshot, watch, long}
 use Rattle.cf_follow.specs.Followed.{IsFollowed, begun_with}
 use Rattle.cf_follow.specs.declared.ending.Ending.{Ending}
 use Rattle.cf_intake.specs.Files.{HasFile, HasLeft, IsFileAs, setups}
@@ -46,3 +46,14 @@ IsNoWatch (Some (synth call)) = Unit {0}
 IsNoWatch (Some (dump call)) = Unit {0}
 IsNoWatch (Some (snapshot call)) = Unit {0}
 IsNoWatch (Some (watch call)) = ⊥
+IsNoWatch (Some (long call)) = Unit {0}
+
+-- the call is neither a watch nor a run over captures of any length
+abbrev pub HasProduct : Option Call → Type 0
+HasProduct None = Unit {0}
+HasProduct (Some (run call)) = Unit {0}
+HasProduct (Some (synth call)) = Unit {0}
+HasProduct (Some (dump call)) = Unit {0}
+HasProduct (Some (snapshot call)) = Unit {0}
+HasProduct (Some (watch call)) = ⊥
+HasProduct (Some (long call)) = ⊥

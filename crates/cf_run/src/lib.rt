@@ -6,6 +6,7 @@
 #![tactic(auto)]
 
 mod listed;
+mod long_run;
 mod prepare;
 mod program;
 mod reply;

@@ -4,10 +4,11 @@ ghost use Rattle.cf_command.specs.Call.{AreSizes, IsInRange, IsSnapshotInRange, 
 ghost use Rattle.cf_command.specs.Call.Call.{run, synth, dump, snapshot};
 ghost use Rattle.cf_intake.specs.Causes.{HasHaltCause, HasStopCause};
 ghost use Rattle.cf_run.specs.Parts.{EndsWith, IsPrepared};
-ghost use Rattle.cf_run.specs.Watched.{IsNoWatch};
+ghost use Rattle.cf_run.specs.Watched.{HasProduct, IsNoWatch};
 ghost use Rattle.cf_fill.specs.Work.{draws as draws_from};
 
 use crate::listed::list_rows;
+use crate::long_run::prepare_long;
 use crate::reply::{WorkReply, refused};
 use crate::snapshot::{is_some_full, snapshot_text};
 use crate::truncated::with_truncated;
@@ -149,14 +150,14 @@ fn snapshot_answers<F: Shelf>(
     }
 }
 
-// The product of a command, which is no watch. No command means that the words are none.
+// The product of a command that has one: it is no watch and no run over captures of any length. No command means that the words are none.
 fn product_of<R: Threads + Sync, F: Shelf, G: Gate>(
     context: &Context<'_, R, G>,
     command: Option<Command>,
     shelf: &mut F,
 ) -> Result<Product, Halt>
     requires range { IfSome command IsInRange }
-    requires whole { IsNoWatch (option_map call_by command) }
+    requires whole { HasProduct (option_map call_by command) }
     ensures files { F.files shelf.new ≡ F.files shelf.old }
     ensures ends { EndsWith (F.files shelf.old) (option_map call_by command.entry) (F.rest shelf.old) (F.rest shelf.new) result }
     ensures cause { HasHaltCause (F.faults shelf.old) (F.faults shelf.new) result }
@@ -167,9 +168,30 @@ fn product_of<R: Threads + Sync, F: Shelf, G: Gate>(
         Some(Command::Synth(command)) => synth_answers(context, &command, shelf),
         Some(Command::Dump(command)) => dump_listing(context.alloc, &command, shelf),
         Some(Command::Snapshot(command)) => snapshot_answers(context.alloc, &command, shelf),
-        // A watch is no report.
+        // These two have no product.
         Some(Command::Watch(_)) => unreachable!(),
+        Some(Command::Long(_)) => unreachable!(),
         None => Err(Halt::Refused(Refusal::Words)),
+    }
+}
+
+// The reply to a command that has a product, or why nothing is written.
+fn prepare_product<R: Threads + Sync, F: Shelf, G: Gate>(
+    context: &Context<'_, R, G>,
+    command: Option<Command>,
+    shelf: &mut F,
+) -> Result<WorkReply, Stop>
+    requires range { IfSome command IsInRange }
+    requires whole { HasProduct (option_map call_by command) }
+    ensures files { F.files shelf.new ≡ F.files shelf.old }
+    ensures prepared { IsPrepared (F.files shelf.old) (option_map call_by command.entry) (F.rest shelf.old) (F.rest shelf.new) result }
+    ensures cause { HasStopCause (F.faults shelf.old) (F.faults shelf.new) result }
+    ensures no_words { option_map call_by command.entry ≡ None → shelf.new ≡ shelf.old }
+{
+    match product_of(context, command, shelf) {
+        Ok(Product { text, seals }) => Ok(WorkReply::Done { text, seals }),
+        Err(Halt::Refused(refusal)) => refused(context.alloc, refusal),
+        Err(Halt::Stopped(stop)) => Err(stop),
     }
 }
 
@@ -186,9 +208,8 @@ pub(crate) fn prepare<R: Threads + Sync, F: Shelf, G: Gate>(
     ensures cause { HasStopCause (F.faults shelf.old) (F.faults shelf.new) result }
     ensures no_words { option_map call_by command.entry ≡ None → shelf.new ≡ shelf.old }
 {
-    match product_of(context, command, shelf) {
-        Ok(Product { text, seals }) => Ok(WorkReply::Done { text, seals }),
-        Err(Halt::Refused(refusal)) => refused(context.alloc, refusal),
-        Err(Halt::Stopped(stop)) => Err(stop),
+    match command {
+        Some(Command::Long(command)) => prepare_long(context, &command, shelf),
+        _ => prepare_product(context, command, shelf),
     }
 }

@@ -74,8 +74,8 @@ fn report<R: Threads + Sync, F: Shelf, K: Sink, G: Gate>(
 }
 
 /// Does the work that the words ask for: reads the setup and the captures from the shelf, or draws packets, and writes the
-/// report, the final part of it, a dump, or the answers of several hosts at a cut, or what the rounds of a watched capture say, or the
-/// line of a refusal, to the sink.
+/// report, the final part of it, also over captures of any length end to end, a dump, or the answers of several hosts at a cut, or what
+/// the rounds of a watched capture say, or the line of a refusal, to the sink.
 ///
 /// Of several causes of refusal the first of these decides: words that are no command, the file and then the text of the setup, the
 /// file and then the bytes of each capture in its order, more records than there is room for, and a lack of nodes.

@@ -21,8 +21,8 @@ use cf_setup::{Setup, Source};
 use std::alloc::Global;
 use std::thread::Threads;
 
-// The schema of the packets that a setup is over.
-fn packets_of(setup: &Setup) -> Result<PacketSchema, Halt>
+/// The schema of the packets that a setup is over.
+pub(crate) fn packets_of(setup: &Setup) -> Result<PacketSchema, Halt>
     ensures { result ≡ packets_from setup.now.source setup.now.schema_line }
 {
     match setup.source() {

@@ -9,6 +9,8 @@ mod files;
 #[cfg(test)]
 mod frames;
 #[cfg(test)]
+mod long;
+#[cfg(test)]
 mod packet6;
 #[cfg(test)]
 mod pieces;

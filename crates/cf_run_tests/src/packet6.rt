@@ -63,13 +63,14 @@ fn packet6_reads_ipv6_and_more_links(rt: HostRuntime) -> Result<(), Fail> {
 }
 
 #[test]
-fn packet6_is_dumped_in_24_attributes(rt: HostRuntime) -> Result<(), Fail> {
+fn packet6_is_dumped_in_32_attributes(rt: HostRuntime) -> Result<(), Fail> {
     let alloc = rt.alloc();
     let capture = raw(alloc)?;
     let text = b"records 1\n\
             0 ts=1000000000 caplen=48 len=48 dmac=0x000000000000 smac=0x000000000000 etype=34525 kind=3 tos=0 iplen=48 ttl=64 proto=17 \
                 src=0.0.0.0 dst=0.0.0.0 sport=40000 dport=53 seq=0 ack=0 flags=0 win=0 vlan=0 src6=0x20010db800000000 src6_low=0x0000000000000001 \
-                dst6=0x20010db800000001 dst6_low=0x0000000000000002\n"
+                dst6=0x20010db800000001 dst6_low=0x0000000000000002 payload=0 icmp_type=0 icmp_code=0 is_fin=0 is_syn=0 is_rst=0 is_ack=0 \
+                flow=7540538455228062231\n"
         .as_slice();
     let fault = b"capture: record 0 code 3\n".as_slice();
     let table: [(&[&str], u8, &[u8]); 4] = [

@@ -213,7 +213,7 @@ fn faults_of_captures_are_told_with_their_records(rt: HostRuntime) -> Result<(),
 }
 
 // The two frames in the other byte order, with nanoseconds.
-fn big_frames(alloc: Global) -> Result<Vec<u8>, Memory> {
+pub(crate) fn big_frames(alloc: Global) -> Result<Vec<u8>, Memory> {
     let mut capture = [0xa1, 0xb2, 0x3c, 0x4d, 0, 2, 0, 4].to_vec(alloc)?;
     capture.extend_from_slice(&[0, 0, 0, 0, 0, 0, 0, 0, 0, 0, 0xff, 0xff, 0, 0, 0, 1])?;
     capture.extend_from_slice(&[0, 0, 0, 1, 0, 7, 0xa1, 0x20])?;

@@ -1,7 +1,7 @@
 use Rattle.std.proofs.Common.{◌≡◌, Option, Some, None, Err, subst, rules}
 use Rattle.cf_command.specs.Call.{Call, call_by, run_by, synth_by, dump_by, snapshot_by}
 use Rattle.std.specs.Option.{option_map}
-use Rattle.cf_run.specs.Watched.{IsNoWatch}
+use Rattle.cf_run.specs.Watched.{HasProduct}
 use Rattle.cf_command.specs.Call.Call.{run, synth, dump, snapshot}
 use Rattle.cf_command.specs.declared.words.Command.{Command}
 use Rattle.cf_run.specs.Parts.{EndsWith}
@@ -42,5 +42,10 @@ returns-in-None-clause-ends g c =
 
 pub unreachable-requires : goal.unreachable-requires
 unreachable-requires g c =
-    subst (λ (command : Command). IsNoWatch (Some (call_by command))) c.in-Some-Watch.field-0-is
-    (subst (λ (command : Option Command). IsNoWatch (option_map call_by command)) c.in-Some-Watch.is c.requires.whole)
+    subst (λ (command : Command). HasProduct (Some (call_by command))) c.in-Some-Watch.field-0-is
+    (subst (λ (command : Option Command). HasProduct (option_map call_by command)) c.in-Some-Watch.is c.requires.whole)
+
+pub unreachable-requires-in-Some-Long : goal.unreachable-requires-in-Some-Long
+unreachable-requires-in-Some-Long g c =
+    subst (λ (command : Command). HasProduct (Some (call_by command))) c.in-Some-Long.field-0-is
+    (subst (λ (command : Option Command). HasProduct (option_map call_by command)) c.in-Some-Long.is c.requires.whole)

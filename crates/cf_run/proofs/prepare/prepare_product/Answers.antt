@@ -4,7 +4,7 @@ use Rattle.cf_intake.specs.declared.refusal.Halt.{Halt}
 use Rattle.cf_command.specs.Call.{call_by}
 use Rattle.std.specs.Option.{option_map}
 use Rattle.cf_run.proofs.Coming.{refused_prepared}
-use Rattle.cf_run.proofs.prepare.prepare.Goals as goal
+use Rattle.cf_run.proofs.prepare.prepare_product.Goals as goal
 
 pub returns-in-Err-Refused-clause-prepared : goal.returns-in-Err-Refused-clause-prepared
 returns-in-Err-Refused-clause-prepared g c =
