@@ -100,7 +100,7 @@
 
 /* The version of this text, counted in the same way: that of the release it comes with. A later one may ask for changes in the source of a
 ** program, and CHANGELOG.md names them; what was built with an earlier one goes on while the soname is the same. */
-#define CONFLUO_HEADER_VERSION 18000
+#define CONFLUO_HEADER_VERSION 19000
 
 /* A log, a writer and a reader. */
 typedef struct confluo_log confluo_log;
@@ -256,7 +256,7 @@ static inline const char *confluo_fault_rule(uint32_t code) {
                                         "at most 16 indexes, filters, aggregates and tallies, 16 triggers, 32 questions, 65536 bytes",
                                         "the expression can be read: comparisons joined by && and ||, no parentheses",
                                         "the names in an expression are attributes",
-                                        "the operators suit: == != < <= > >= in; of bytes only == and !=",
+                                        "the operators suit: == != < <= > >= in, not in; of bytes only == and !=",
                                         "the values in an expression are in their attribute's range",
                                         "an expression has at most 32 comparisons"};
     return code < sizeof rules / sizeof *rules ? rules[code] : "no fault of confluo";
@@ -436,7 +436,7 @@ confluo_merge(const uint64_t *one, size_t one_len, const uint64_t *other, size_t
               size_t *count) CONFLUO_CALL(merge);
 
 /* Reads back the record at an offset that the reader has seen: the number that it was appended with, and its values, of which as many are
-** copied to `values` as there is room for. `count` is how many values a record has, at most 24. The thread that has `reader`.
+** copied to `values` as there is room for. `count` is how many values a record has, at most 32. The thread that has `reader`.
 **
 **   CONFLUO_NOTHING    `reader` leads to nothing
 **   CONFLUO_NO_ROW     the offset is not below the tail that the reader saw last; confluo_tail looks again

@@ -188,6 +188,8 @@ static void addresses(void) {
     uint8_t packet[40] = {[0] = 0x60, [8] = 0x20, [9] = 0x01, [10] = 0x0d, [11] = 0xb8};
     uint64_t words[4] = {7, 7, 7, 7};
     uint32_t out = 7;
+    confluo_value values[32];
+    size_t count = 7;
     is(opened(&log, setup, 4, 1, 0), CONFLUO_OK, "open");
     is(confluo_take_writer(log, &writer, &out), CONFLUO_OK, "writer");
     is(confluo_take_reader(log, &reader), CONFLUO_OK, "reader");
@@ -198,6 +200,10 @@ static void addresses(void) {
     is(confluo_ask(reader, 0, &head), CONFLUO_OK, "its address");
     is(confluo_words(reader, 0, words, 4), 1, "one has it");
     is(words[0], 0, "the first");
+    is(confluo_row(reader, 0, &out, values, 32, &count), CONFLUO_OK, "its row");
+    is(count, 32, "values of packet6");
+    is(values[20].number, UINT64_C(0x20010db800000000), "its source");
+    is(values[31].number, UINT64_C(17967390573685572453), "its flow");
     confluo_free_reader(reader);
     confluo_free_writer(writer);
     confluo_free_log(log);

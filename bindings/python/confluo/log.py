@@ -298,8 +298,8 @@ class Reader(Part):
 
     def row(self, offset: int) -> Row:
         """The record at an offset that the reader has seen."""
-        number, count, values = WORD(), SIZE(), (calls.ValueOf * 24)()
-        self._call("row", checked(offset, 32, "offset"), number, values, 24, count)
+        number, count, values = WORD(), SIZE(), (calls.ValueOf * 32)()
+        self._call("row", checked(offset, 32, "offset"), number, values, 32, count)
         found = [bytes(it.bytes[: it.length]) if it.kind else it.number for it in values[: count.value]]
         return Row(number.value, dict(zip((it.name for it in self.names.attributes), found)))
 

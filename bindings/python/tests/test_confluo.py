@@ -182,6 +182,14 @@ class Calls(unittest.TestCase):
             log = confluo.Log(setup)
             self.assertEqual([log.reads_link(link) for link in (1, 113, 276)], reads)
 
+    def test_a_row_of_packet6(self):
+        log = confluo.Log("schema packet6\n", capacity=8)
+        writer, reader = log.writer(), log.reader()
+        writer.append(0, 1, FRAME)
+        self.assertEqual(reader.tail(), 1)
+        row = reader.row(0)[1]
+        self.assertEqual((len(row), row["kind"], row["flow"]), (32, 1, 2746426381701520720))
+
     def test_questions_at_one_tail(self):
         log = confluo.Log(LANES, capacity=8)
         writer, reader = log.writer(), log.reader()

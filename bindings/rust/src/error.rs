@@ -16,7 +16,7 @@ const RULES: [&str; 14] = [
     "at most 16 indexes, filters, aggregates and tallies, 16 triggers, 32 questions, 65536 bytes",
     "the expression can be read: comparisons joined by && and ||, no parentheses",
     "the names in an expression are attributes",
-    "the operators suit: == != < <= > >= in; of bytes only == and !=",
+    "the operators suit: == != < <= > >= in, not in; of bytes only == and !=",
     "the values in an expression are in their attribute's range",
     "an expression has at most 32 comparisons",
 ];

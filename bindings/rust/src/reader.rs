@@ -303,4 +303,4 @@ impl Iterator for Rows<'_> {
 }
 
 /// How many attributes a schema has at most.
-const MOST_ATTRIBUTES: usize = 24;
+const MOST_ATTRIBUTES: usize = 32;
