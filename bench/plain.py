@@ -22,6 +22,9 @@ Read = namedtuple("Read", "frames code is_cut")
 LINKS = {"packet": {1, 113}, "packet6": {1, 113, 276, 101, 228, 229, 0, 108}}
 NAMES = "ts caplen len dmac smac etype kind tos iplen ttl proto src dst sport dport seq ack flags win vlan".split()
 HALVES = ["src6", "src6_low", "dst6", "dst6_low"]
+MORE = "payload icmp_type icmp_code is_fin is_syn is_rst is_ack flow".split()
+# RFC 9293, section 3.1
+FLAGS = {"is_fin": 1, "is_syn": 2, "is_rst": 4, "is_ack": 16}
 MOST = 262144
 
 
@@ -161,28 +164,35 @@ def carried(frame, is_wide):
     return vlan, etype, q
 
 
-def transport(f, protocol, o, end, it):
-    """Reads a TCP or UDP header that begins at o, if it is there up to `end`."""
+def behind(f, protocol, o, end, stop, icmp, it):
+    """Reads a TCP, UDP or ICMP header at o, if it is there up to `end`. By its own length the packet ends at `stop`."""
     if protocol == 6 and o + 20 <= end:
         it.update(kind=2, sport=number(f, o, 2), dport=number(f, o + 2, 2), seq=number(f, o + 4, 4))
         it.update(ack=number(f, o + 8, 4), flags=f[o + 13], win=number(f, o + 14, 2))
+        it["payload"] = max(0, stop - o - f[o + 12] // 16 * 4)
+        it.update({name: int(it["flags"] & bit > 0) for name, bit in FLAGS.items()})
     if protocol == 17 and o + 8 <= end:
-        it.update(kind=3, sport=number(f, o, 2), dport=number(f, o + 2, 2))
+        it.update(kind=3, sport=number(f, o, 2), dport=number(f, o + 2, 2), payload=max(0, number(f, o + 4, 2) - 8))
+    if protocol == icmp and o + 2 <= end:
+        it.update(icmp_type=f[o], icmp_code=f[o + 1])
 
 
-def four(f, q, it):
+def four(f, q, length, it):
     """Reads an IPv4 header (RFC 791) at q, and what is behind it."""
     c = len(f)
     if c < q + 20 or f[q] // 16 != 4 or f[q] % 16 < 5 or c < q + 4 * (f[q] % 16):
         return
     it.update(kind=1, tos=f[q + 1], iplen=number(f, q + 2, 2), ttl=f[q + 8], proto=f[q + 9])
     it.update(src=number(f, q + 12, 4), dst=number(f, q + 16, 4))
-    end = c if it["iplen"] == 0 else min(c, q + it["iplen"])
+    stop = q + it["iplen"] if it["iplen"] else length
+    end = min(c, stop) if it["iplen"] else c
     if number(f, q + 6, 2) % 8192 == 0:
-        transport(f, it["proto"], q + 4 * (f[q] % 16), end, it)
+        behind(f, it["proto"], q + 4 * (f[q] % 16), end, stop, 1, it)
+    mapped = bytes(10) + b"\xff\xff"
+    it["flow"] = flow(mapped + f[q + 12 : q + 16], mapped + f[q + 16 : q + 20], it)
 
 
-def six(f, q, it):
+def six(f, q, length, it):
     """Reads an IPv6 header (RFC 8200) at q, the headers that are passed over, and what is behind them."""
     c = len(f)
     if c < q + 40 or f[q] // 16 != 6:
@@ -190,32 +200,43 @@ def six(f, q, it):
     payload = number(f, q + 4, 2)
     it.update(kind=1, tos=f[q] % 16 * 16 + f[q + 1] // 16, iplen=min(payload + 40, 65535), ttl=f[q + 7])
     it.update({name: number(f, q + 8 + 8 * k, 8) for k, name in enumerate(HALVES)})
-    end = c if payload == 0 else min(c, q + 40 + payload)
+    stop = q + 40 + payload if payload else length
+    end = min(c, stop) if payload else c
     n, o, passed, first = f[q + 6], q + 40, 0, True
     while first and passed < 8 and n in (0, 43, 44, 51, 60) and o + 8 <= end:
-        length = 8 if n == 44 else 4 * (f[o + 1] + 2) if n == 51 else 8 * (f[o + 1] + 1)
-        if o + length > end:
+        size = 8 if n == 44 else 4 * (f[o + 1] + 2) if n == 51 else 8 * (f[o + 1] + 1)
+        if o + size > end:
             break
         first = n != 44 or number(f, o + 2, 2) // 8 == 0
-        n, o, passed = f[o], o + length, passed + 1
+        n, o, passed = f[o], o + size, passed + 1
     it["proto"] = n
     if first:
-        transport(f, n, o, end, it)
+        behind(f, n, o, end, stop, 58, it)
+    it["flow"] = flow(f[q + 8 : q + 24], f[q + 24 : q + 40], it)
+
+
+def flow(source, target, it):
+    """FNV-1a of 64 bits over both endpoints, the lesser one first, and the protocol."""
+    ends = sorted([source + struct.pack(">H", it["sport"]), target + struct.pack(">H", it["dport"])])
+    found = 0xCBF29CE484222325
+    for byte in b"".join(ends) + bytes([it["proto"]]):
+        found = (found ^ byte) * 0x100000001B3 % 2**64
+    return found
 
 
 def row(frame, schema):
     """The values of a frame by their names."""
     f = frame.data
-    it = dict.fromkeys(NAMES + (HALVES if schema == "packet6" else []), 0)
+    it = dict.fromkeys(NAMES + HALVES + MORE, 0)
     has_macs = frame.link == 1 and len(f) >= 14
     it.update(ts=frame.ts, caplen=len(f), len=frame.length)
     it.update(dmac=f[:6] if has_macs else bytes(6), smac=f[6:12] if has_macs else bytes(6))
     it["vlan"], it["etype"], q = carried(frame, schema == "packet6")
     if it["etype"] == 0x0800:
-        four(f, q, it)
+        four(f, q, frame.length, it)
     if it["etype"] == 0x86DD and schema == "packet6":
-        six(f, q, it)
-    return it
+        six(f, q, frame.length, it)
+    return it if schema == "packet6" else {name: it[name] for name in NAMES}
 
 
 def text_of(name, value):

@@ -5,8 +5,8 @@
 
 For each capture and for the schemas packet and packet6 the values are those of plain.py. Unless --plain is given, what the
 program ($CONFLUO, or the built one) dumps must be plain.py's text and status to the byte, for packet6 only if it takes
-`--schema packet6`. Then the values are compared with the fields of `tshark -T fields`. Each that differs has one of the
-reasons below, or is listed. With --together the packets of all captures go to tshark in one file for each link type: that takes
+`--schema packet6`. Then the values are compared with the fields of `tshark -T fields`; flows must part the packets as
+`tcp.stream` and `udp.stream` do. Each that differs has one of the reasons below, or is listed. With --together the packets of all captures go to tshark in one file for each link type: that takes
 seconds and not minutes, and leaves out times. N differences are shown for each reason (default 0). It ends with
 counts, and with status 1 if there is a difference without a reason. A capture that is refused is counted by its code; one that
 is cut off is read up to there. It is not part of the gate. Captures by the hundred come with the sources of tcpdump and
@@ -39,7 +39,8 @@ FIELDS = """frame.time_epoch frame.cap_len frame.len frame.protocols _ws.malform
 sll.ltype null.family null.type vlan.id vlan.etype vlan.len ieee8021ad.id ieee8021ad.svid ip.version ip.hdr_len ip.dsfield
 ip.len ip.ttl ip.proto ip.src ip.dst ip.frag_offset ipv6.version ipv6.tclass ipv6.plen ipv6.nxt ipv6.hlim ipv6.src ipv6.dst
 ipv6.hopopts.nxt ipv6.routing.nxt ipv6.fraghdr.nxt ipv6.dstopts.nxt ipv6.fraghdr.offset ah.next_header tcp.srcport tcp.dstport
-tcp.seq_raw tcp.ack_raw tcp.flags tcp.window_size_value udp.srcport udp.dstport""".split()
+tcp.seq_raw tcp.ack_raw tcp.flags tcp.window_size_value udp.srcport udp.dstport tcp.len tcp.stream udp.length udp.stream
+tcp.flags.fin tcp.flags.syn tcp.flags.reset tcp.flags.ack icmp.type icmp.code icmpv6.type icmpv6.code""".split()
 EXTENSIONS = {"ipv6.hopopts", "ipv6.routing", "ipv6.fraghdr", "ipv6.dstopts", "ah"}
 LINKED = {1: "eth", 113: "sll", 276: "sll", 0: "null", 108: "null"}
 RAW = {228: 0x0800, 229: 0x86DD}
@@ -54,6 +55,7 @@ class Layers:
     network: str = ""
     extensions: list = field(default_factory=list)
     transport: str = ""
+    message: str = ""
 
     @staticmethod
     def of(protocols):
@@ -69,6 +71,8 @@ class Layers:
             found.extensions.append(names.pop(0))
         if found.network and names and names[0] in ("tcp", "udp"):
             found.transport = names.pop(0)
+        if found.network and names and names[0] == {"ip": "icmp", "ipv6": "icmpv6"}[found.network]:
+            found.message = names.pop(0)
         return found
 
 
@@ -148,6 +152,11 @@ def transport(fields, layers):
         flags = first(fields, "tcp.flags")
         found |= {"seq": first(fields, "tcp.seq_raw"), "ack": first(fields, "tcp.ack_raw")}
         found |= {"flags": None if flags is None else flags % 256, "win": first(fields, "tcp.window_size_value")}
+        found |= {it: first(fields, f"tcp.flags.{it[3:]}") for it in ("is_fin", "is_syn", "is_ack")}
+        found |= {"is_rst": first(fields, "tcp.flags.reset"), "payload": first(fields, "tcp.len")}
+    else:
+        length = first(fields, "udp.length")
+        found["payload"] = None if length is None else max(0, length - 8)
     return found
 
 
@@ -164,7 +173,27 @@ def theirs(fields, schema):
         found |= four(fields) if layers.network == "ip" else six(fields, layers)
         found |= {"kind": {"tcp": 2, "udp": 3}.get(layers.transport, 1)}
         found |= transport(fields, layers) if layers.transport else {}
+        if layers.message:
+            found |= {f"icmp_{it}": first(fields, f"{layers.message}.{it}") for it in ("type", "code")}
     return found, layers
+
+
+class Streams:
+    """Which flow, which endpoints and which stream of tshark's were met together first."""
+
+    def __init__(self):
+        self.flows, self.streams = {}, {}
+
+    def flow(self, row, fields, layers):
+        """The flow of tshark's stream, or the row's if there is no stream; "again" if the flow's endpoints were met in another."""
+        stream = first(fields, f"{layers.transport}.stream") if layers.transport else None
+        if row["kind"] not in (2, 3) or stream is None:
+            return row["flow"]
+        name = layers.transport, stream
+        ends = {tuple(row[f"{it}{part}"] for part in ("", "6", "6_low")) + (row[f"{it[0]}port"],) for it in ("src", "dst")}
+        found = self.flows.setdefault(name, row["flow"])
+        other, others = self.streams.setdefault(found, (name, ends))
+        return found if other == name else "again" if others == ends else "shared"
 
 
 # The reasons for which a value may differ, each with a test of the attribute, the values, the frame and the layers.
@@ -228,8 +257,40 @@ def is_cut_transport(it):
     return end < q + 4 * (f[q] % 16) + {"tcp": 20, "udp": 8}.get(it.layers.transport, 0)
 
 
+def is_same_again(it):
+    """A client took its port again for another connection, which is another stream of tshark's."""
+    return it.attribute == "flow" and it.theirs == "again" and it.row["kind"] == 2
+
+
+def is_beyond_the_frame(it):
+    """The packet states more bytes than there were on the wire; tshark counts what was there."""
+    if it.attribute != "payload" or it.row["kind"] != 2:
+        return False
+    return it.network()[1] + it.row["iplen"] > it.frame.length
+
+
+def is_bad_header_length(it):
+    """TCP states a header of less than 20 bytes or of more than the packet has; tshark reads no data then."""
+    return it.attribute == "payload" and it.row["kind"] == 2 and it.theirs is None
+
+
+def is_cut_message(it):
+    """The ICMP message is cut off, or the packet's length ends within it; tshark shows what it can."""
+    if it.attribute not in ("icmp_type", "icmp_code") or it.layers.message != "icmp":
+        return False
+    f, q = it.network()
+    end = min(len(f), q + it.row["iplen"]) if it.row["iplen"] else len(f)
+    return end < q + 4 * (f[q] % 16) + 2
+
+
+def is_bad_message(it):
+    """tshark takes the ICMP message for malformed, and shows nothing of it."""
+    return it.attribute in ("icmp_type", "icmp_code") and it.theirs is None and it.layers.message != ""
+
+
 REASONS = (is_fraction, is_late, is_length, is_behind_service_tag, is_other_link, is_bad_four, is_length_of_four, is_bad_six)
-REASONS += (is_bad_extension, is_cut_transport)
+REASONS += (is_bad_extension, is_cut_transport, is_same_again, is_beyond_the_frame, is_bad_header_length)
+REASONS += (is_cut_message, is_bad_message)
 
 
 @dataclass
@@ -266,10 +327,12 @@ class Difference:
         return f"{self.place} {self.schema} {self.attribute}: {self.ours}, tshark {self.theirs} ({self.protocols})"
 
 
-def differences(place, frame, fields, schema, without):
+def differences(place, frame, fields, schema, without, streams):
     """The attributes of a frame in which the two readings differ."""
     row = plain.row(frame, schema)
     found, layers = theirs(fields, schema)
+    if schema == "packet6":
+        found["flow"] = streams.flow(row, fields, layers)
     for name, value in row.items():
         ours = ":".join(f"{it:02x}" for it in value) if isinstance(value, bytes) else value
         nothing = "00:00:00:00:00:00" if isinstance(value, bytes) else 0
@@ -302,12 +365,13 @@ def compare(counts, places, frames, lines, without=()):
     if len(frames) != len(lines):
         counts.take("", f"{places[0]} and on: {len(frames)} packets, tshark has {len(lines)}")
         return
+    streams = Streams()
     for place, frame, fields in zip(places, frames, lines):
         schemas = [it for it in plain.LINKS if frame.link in plain.LINKS[it]]
         counts.packets += 1
         for schema in schemas:
             counts.values += len(plain.row(frame, schema)) - len(without)
-            for it in differences(place, frame, fields, schema, without):
+            for it in differences(place, frame, fields, schema, without, streams):
                 counts.take(it.reason(), it.text())
 
 

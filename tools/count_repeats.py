@@ -19,7 +19,7 @@ sys.dont_write_bytecode = True
 import crate_table  # noqa: E402
 
 ROOT = pathlib.Path(__file__).resolve().parent.parent
-MOST_REPEATS = 1487
+MOST_REPEATS = 1444
 LONGEST_CHAIN = 14
 CLAUSE = re.compile(r"\s*(requires|ensures)\b")
 
@@ -48,7 +48,8 @@ def is_open(clause):
 def all_clauses(root):
     count = collections.Counter()
     for file in sorted(root.glob("crates/*/src/**/*.rt")):
-        if not file.name.startswith("tests") and "tests" not in file.relative_to(root).parts:
+        names = file.relative_to(root).with_suffix("").parts
+        if not any(name.endswith("tests") for name in names):
             count.update(clauses_of(file.read_text()))
     return count
 

@@ -29,7 +29,7 @@ EXAMPLES = [
     "*.pcap",
     "*.setup",
     "*.report",
-    "incidents/*.pcap",
+    "incidents/*.pcap*",
     "incidents/*.setup",
     "incidents/*.report",
 ]

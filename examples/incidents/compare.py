@@ -19,6 +19,8 @@ import make_captures
 
 HERE = pathlib.Path(__file__).resolve().parent
 SNAPSHOTS = {"lost": ("240", ["lost_before", "lost_behind"])}
+# what is asked of several captures by `run --long`
+LONG = {"idle": list(make_captures.RING)}
 # what a run needs beside its setup
 OPTIONS = {"cut_off": ["--truncated"], "many_addresses": ["--nodes", "2048"]}
 SHARED = {it for _, captures in SNAPSHOTS.values() for it in captures}
@@ -39,7 +41,8 @@ def printed(words):
 def report_of(program, name, writers):
     """The report of a capture."""
     words = ["run", "--setup", str(HERE / f"{name}.setup"), "--writers", str(writers), *OPTIONS.get(name, [])]
-    return printed([program, *words, str(HERE / f"{CAPTURE_OF[name]}.pcap")])
+    captures = [f"{CAPTURE_OF[name]}.pcap"] if name in CAPTURE_OF else LONG[name]
+    return printed([program, *words, *["--long"] * (name in LONG), *(str(HERE / it) for it in captures)])
 
 
 def snapshot_of(program, name):
@@ -51,8 +54,8 @@ def snapshot_of(program, name):
 def main():
     if len(sys.argv) != 2:
         sys.exit(__doc__)
-    wrong = [f"{name}.pcap" for name, made in make_captures.CAPTURES.items() if (HERE / f"{name}.pcap").read_bytes() != made()]
-    for name in CAPTURE_OF:
+    wrong = [name for name, made in make_captures.FILES.items() if (HERE / name).read_bytes() != made()]
+    for name in (*CAPTURE_OF, *LONG):
         wanted = (HERE / f"{name}.report").read_text()
         wrong += [f"{name} by {writers} writers" for writers in (1, 4, 15) if final_part(report_of(sys.argv[1], name, writers)) != wanted]
     for name in SNAPSHOTS:
@@ -60,7 +63,7 @@ def main():
         wrong += [name] if snapshot_of(sys.argv[1], name) != wanted else []
     for it in wrong:
         print(f"differs: {it}")
-    print(f"{len(CAPTURE_OF) + len(SNAPSHOTS)} reports, {len(wrong)} differences")
+    print(f"{len(CAPTURE_OF) + len(LONG) + len(SNAPSHOTS)} reports, {len(wrong)} differences")
     sys.exit(1 if wrong else 0)
 
 

@@ -1,5 +1,5 @@
 #!/usr/bin/env python3
-"""Writes the captures of the incidents: classic pcap files, the same bytes at each run.
+"""Writes the captures of the incidents: classic pcap files and one of pcapng, the same bytes at each run.
 
     examples/incidents/make_captures.py [FOLDER]
 
@@ -33,18 +33,27 @@ def checksum(data):
     return ~total & 0xFFFF
 
 
+def block(kind, body):
+    """A block of a pcapng file."""
+    body += bytes(-len(body) % 4)
+    size = struct.pack("<I", len(body) + 12)
+    return struct.pack("<I", kind) + size + body + size
+
+
 class Capture:
     """Frames with their times in microseconds from a start in seconds, sorted by time when they are written."""
 
     def __init__(self, start, link=ETHERNET):
         self.start, self.link = start, link
         self.frames = []
+        # what is left of the time to live of who is not near
+        self.ttls = {}
 
     def packet(self, at, sender, receiver, protocol, header, data, sum_at, tag=None):
         """An IPv4 packet in an Ethernet frame, `at` microseconds after the start. `sum_at` is where its header has its checksum."""
         pseudo = number_of(sender) + number_of(receiver) + struct.pack(">BBH", 0, protocol, len(header) + len(data))
         header = header[:sum_at] + struct.pack(">H", checksum(pseudo + header + data)) + header[sum_at + 2 :]
-        ip = struct.pack(">BBHHHBBH", 0x45, 0, 20 + len(header) + len(data), 0, 0x4000, 64, protocol, 0) + number_of(sender) + number_of(receiver)
+        ip = struct.pack(">BBHHHBBH", 0x45, 0, 20 + len(header) + len(data), 0, 0x4000, self.ttls.get(sender, 64), protocol, 0) + number_of(sender) + number_of(receiver)
         ip = ip[:10] + struct.pack(">H", checksum(ip)) + ip[12:]
         # who is no neighbour comes by the router
         macs = [b"\x02\0\0\0\0" + number_of(it)[3:] if it.startswith("192.0.2.") else b"\x02\0\0\0\0\xfe" for it in (receiver, sender)]
@@ -84,6 +93,27 @@ class Capture:
         self.segment(at + 4600, *there, FIN | ACK, seq=1311, ack=5001 + answer)
         self.segment(at + 4900, *back, FIN | ACK, seq=5001 + answer, ack=1312)
         self.segment(at + 5500, *there, ACK, seq=1312, ack=5002 + answer)
+
+    def opening(self, at, client, port, server, service):
+        """A client opens a connection."""
+        self.segment(at, client, port, server, service, SYN, seq=1000)
+        self.segment(at + 900, server, service, client, port, SYN | ACK, seq=5000, ack=1001)
+        self.segment(at + 1200, client, port, server, service, ACK, seq=1001, ack=5001)
+
+    def exchange(self, at, count, client, port, server, service):
+        """It asks with 120 bytes for the time of that count, from 0, and is answered with 400."""
+        there, back = 1001 + 120 * count, 5001 + 400 * count
+        self.segment(at, client, port, server, service, PSH | ACK, 120, seq=there, ack=back)
+        self.segment(at + 2100, server, service, client, port, PSH | ACK, 400, seq=back, ack=there + 120)
+        self.segment(at + 2400, client, port, server, service, ACK, seq=there + 120, ack=back + 400)
+
+    def blocks(self):
+        """The file as pcapng."""
+        out = block(0x0A0D0D0A, struct.pack("<IHHq", 0x1A2B3C4D, 1, 0, -1)) + block(1, struct.pack("<HHI", self.link, 0, KEPT))
+        for at, frame in sorted(self.frames, key=lambda it: it[0]):
+            kept, ticks = frame[:KEPT], self.start * 10**6 + at
+            out += block(6, struct.pack("<IIIII", 0, ticks >> 32, ticks & 0xFFFFFFFF, len(kept), len(frame)) + kept)
+        return out
 
     def bytes(self):
         """The file."""
@@ -290,6 +320,30 @@ def many_addresses():
     return capture.bytes()
 
 
+def idle(part):
+    """A file of a ring at an office's router. For ninety minutes applications ask a database, and one is silent for over an hour."""
+    server, each = "198.51.100.80", 35
+    capture = Capture(1701003600)
+    capture.ttls[server] = 56
+    asked = {30: (20, 50, 80), 31: range(60, 5400, 1140), 32: (90, 3050), 33: range(120, 5400, 300)}
+    for host, times in asked.items():
+        words = (f"192.0.2.{host}", 50000 + host, server, 5432)
+        capture.opening(host * 200_000, *words)
+        for count, at in enumerate(times):
+            capture.exchange(at * 10**6 + host * 1000, count, *words)
+    # the firewall before the database no longer knows the connection, and resets it in the database's name
+    again = 4340 * 10**6
+    capture.segment(again, "192.0.2.30", 50030, server, 5432, PSH | ACK, 120, seq=1361, ack=6201)
+    capture.ttls[server] = 63
+    capture.segment(again + 400, server, 5432, "192.0.2.30", 50030, RST, seq=6201, window=0)
+    capture.ttls[server] = 56
+    words = ("192.0.2.30", 50100, server, 5432)
+    capture.opening(again + 2_000_000, *words)
+    capture.exchange(again + 2_100_000, 0, *words)
+    capture.frames = sorted(capture.frames, key=lambda it: it[0])[part * each : (part + 1) * each]
+    return capture.blocks() if part == 1 else capture.bytes()
+
+
 CAPTURES = {
     "syn_flood": syn_flood,
     "port_scan": port_scan,
@@ -303,12 +357,15 @@ CAPTURES = {
     "cut_off": cut_off,
     "many_addresses": many_addresses,
 }
+# The files of a ring by their names.
+RING = {"idle0.pcap": lambda: idle(0), "idle1.pcapng": lambda: idle(1), "idle2.pcap": lambda: idle(2)}
+FILES = {f"{name}.pcap": made for name, made in CAPTURES.items()} | RING
 
 
 def main():
     folder = pathlib.Path(sys.argv[1]) if len(sys.argv) > 1 else pathlib.Path(__file__).parent
-    for name, made in CAPTURES.items():
-        (folder / f"{name}.pcap").write_bytes(made())
+    for name, made in FILES.items():
+        (folder / name).write_bytes(made())
 
 
 if __name__ == "__main__":

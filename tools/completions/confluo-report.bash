@@ -8,7 +8,7 @@ _confluo_report() {
         return
     fi
     case ${COMP_WORDS[1]} in
-        run) options="--setup --writers --capacity --segments --nodes --live --truncated" ;;
+        run) options="--long --setup --writers --capacity --segments --nodes --live --truncated" ;;
         show) options="--setup --capture --most" ;;
         explain) options="--setup --capture --command --status" ;;
         json) options="--setup --capture --indent" ;;
@@ -16,7 +16,7 @@ _confluo_report() {
         prometheus) options="--setup --label --lists --textfile" ;;
         stream) options="--setup --json --quiet --most --prometheus --label --exec --exec-limit --exec-seconds --again --silence --beats --tcpdump" ;;
         merge) options="--setup --tagged" ;;
-        plot) options="--setup --tagged --out --width --dotted --most" ;;
+        plot) options="--setup --capture --tagged --out --width --dotted --most" ;;
         packets) options="--ask --out --into" ;;
         ask) options="--setup-only --report --json --csv --most --schema --truncated --as-one --out" ;;
         over) options="--setup --jobs --scheduler --format --keep-going --truncated --split --most" ;;

@@ -8,7 +8,7 @@ _confluo() {
         return
     fi
     case ${COMP_WORDS[1]} in
-        run) options="--setup --writers --capacity --segments --nodes --live --truncated" ;;
+        run) options="--setup --long --writers --capacity --segments --nodes --live --truncated" ;;
         synth) options="--setup --seed --count --writers --capacity --segments --nodes" ;;
         snapshot) options="--setup --after --turn --capacity --nodes --truncated" ;;
         dump) options="--schema --truncated" ;;

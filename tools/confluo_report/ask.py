@@ -17,14 +17,20 @@ from .details import details_of, details_of_all, dumped_values, split_rows
 from .errors import Complaint
 from .explain import Case, explain
 from .expressions import Attribute
+from .flows import NAME as FLOW
+from .flows import Conversation, Run, conversations
 from .merge import Joined, Merged, Named, joined_top, merge, merged_lines
-from .nodes import FIRST_NODES, MOST_CAPACITY, MOST_RECORDS, Sizes, with_more_nodes
+from .nodes import FIRST_NODES, MOST_CAPACITY, MOST_RECORDS, Sizes, long_options, with_more_nodes
+from .over_part import TOO_FEW_NODES
 from .packets import copy_packets
+from .paired import Paired, count_of, paired, paired_lines, without_type
 from .questions import (
     MOST_TOP,
+    PAIRS,
     SPAN,
     UNPARSED,
     Query,
+    answers_of,
     by_width,
     is_question,
     name_of,
@@ -39,8 +45,6 @@ from .tables import Style
 from .unparsed import Unparsed, unparsed_line
 from .values import grouped
 
-# A segment of `run --long` is not made smaller below this.
-LEAST_CAPACITY = 64
 # What several captures are called that are asked as one.
 ALL = "all captures"
 FINDING = ("list", "find", "between")
@@ -141,13 +145,12 @@ def _raised(sizes: Sizes, kind: str) -> Sizes | None:
     return with_more_nodes(sizes) if kind == "nodes" else None
 
 
-def run_raising(setup_path: str, capture: str, may_be_cut: bool = False) -> str:
-    """The report; segments and nodes are raised as long as a refusal asks for it."""
+def run_raising(setup_path: str, capture: str) -> str:
+    """The report on a CSV file; segments and nodes are raised as long as a refusal asks for it."""
     sizes: Sizes | None = Sizes(MOST_CAPACITY, 1, FIRST_NODES)
     ran = program.Ran(0, "")
     while sizes:
-        words = ["run", "--setup", setup_path, *sizes.options().split()]
-        ran = program.run_over(words + ["--truncated"] * may_be_cut, capture)
+        ran = program.run_over(["run", "--setup", setup_path, *sizes.options().split()], capture)
         if ran.status == 0:
             return ran.text
         refusal = refusal_of(ran.text)
@@ -156,49 +159,43 @@ def run_raising(setup_path: str, capture: str, may_be_cut: bool = False) -> str:
 
 
 def run_long(setup_path: str, captures: Sequence[str], may_be_cut: bool) -> str:
-    """The report on all captures as one; segments are made smaller as long as their nodes are too few."""
-    capacity = MOST_CAPACITY
-    while True:
-        words = ["run", "--long", "--setup", setup_path, "--writers", "1", "--capacity", str(capacity)]
-        ran = program.run_over_all(words + ["--truncated"] * may_be_cut, captures)
+    """The report on the captures of packets end to end."""
+    ran, words = program.Ran(0, ""), list[str]()
+    for options in long_options(may_be_cut):
+        words = ["run", *options, "--setup", setup_path]
+        ran = program.run_over_all(words, captures)
         if ran.status == 0:
             return ran.text
-        refusal = refusal_of(ran.text)
-        if refusal and refusal.kind == "words":
-            raise Complaint("--as-one needs a confluo that knows `run --long`, and this one does not")
-        if not refusal or refusal.kind != "nodes" or capacity < LEAST_CAPACITY:
-            raise Complaint(_refused(ran, setup_path, captures))
-        capacity //= 4
+        if ran.status != TOO_FEW_NODES:
+            break
+    refusal = refusal_of(ran.text)
+    if refusal and refusal.kind == "words":
+        raise Complaint("this needs a confluo that knows `run --long`, and this one does not")
+    raise Complaint(_refused(ran, setup_path, captures, [*words, *captures]))
 
 
-def _named(setup_path: str, name: str, capture: str, may_be_cut: bool) -> Named:
+def _reported(job: Job, setup_path: str, name: str, paths: Sequence[str]) -> Named:
+    """The report of that name on the captures with these paths."""
     try:
-        return Named(name, parse_report(run_raising(setup_path, capture, may_be_cut), name))
+        is_packet = not job.schema.startswith("records")
+        text = run_long(setup_path, paths, job.may_be_cut) if is_packet else run_raising(setup_path, *paths)
+        return Named(name, parse_report(text, name))
     except Complaint as complaint:
-        if name != "-":
+        copies = [it for it in paths if it not in job.captures]
+        if not copies:
             raise
-        raise Complaint(_without_copy(str(complaint), capture)) from complaint
+        # (standard input, which was copied)
+        text = str(complaint).replace(copies[0], "standard input", 1).replace(copies[0], "CAPTURE")
+        raise Complaint(text) from complaint
 
 
-def _without_copy(text: str, copy: str) -> str:
-    """The text with standard input in place of its copy."""
-    return text.replace(copy, "standard input", 1).replace(copy, "CAPTURE")
-
-
-def _all_as_one(job: Job, setup_path: str, captures: Sequence[str]) -> Named:
-    try:
-        return Named(ALL, parse_report(run_long(setup_path, captures, job.may_be_cut), ALL))
-    except Complaint as complaint:
-        if "-" not in job.captures:
-            raise
-        raise Complaint(_without_copy(str(complaint), captures[job.captures.index("-")])) from complaint
-
-
-def _refused(ran: program.Ran, setup_path: str, captures: Sequence[str]) -> str:
+def _refused(
+    ran: program.Ran, setup_path: str, captures: Sequence[str], words: list[str] | None = None
+) -> str:
     refusal = refusal_of(ran.text)
     if refusal is None and ran.status not in (4, 5, 8):
         return f"{', '.join(captures)}: confluo ended with status {ran.status} and no refusal"
-    case = Case(setup_path, list(captures), is_ask=True)
+    case = Case(setup_path, list(captures), words, is_ask=True)
     return "\n".join(explain(refusal, None if refusal else ran.status, case))
 
 
@@ -234,8 +231,8 @@ def _reports(job: Job, text: str, folder: pathlib.Path, captures: Sequence[str])
     path = folder / "questions.setup"
     path.write_text(text, encoding="ascii")
     if job.as_one:
-        return [_all_as_one(job, str(path), captures)]
-    return [_named(str(path), name, it, job.may_be_cut) for name, it in zip(job.captures, captures)]
+        return [_reported(job, str(path), ALL, captures)]
+    return [_reported(job, str(path), name, [it]) for name, it in zip(job.captures, captures)]
 
 
 @dataclass(frozen=True)
@@ -247,7 +244,9 @@ class Answered:
     viewers: list[Viewer]
     named: list[Named]
     # The addresses for which the program was asked again, by the places of the questions that rank them.
-    ranked: dict[int, Ranked]
+    ranked: dict[int, Ranked] = field(default_factory=dict)
+    # By the places of their questions, what is said of two kinds of packets.
+    paired: dict[int, Paired] = field(default_factory=dict)
 
     def joined(self, name: str) -> Joined | None:
         return next((it for it in self.merged.asks if it.name == name), None)
@@ -328,12 +327,67 @@ def _answer(job: Job, queries: list[Query], files: Files, style: Style, most: in
         )
         for it, paths in zip(named, [captures] if job.as_one else [[it] for it in captures])
     ]
-    answered = Answered(merged, queries, viewers, named, {})
+    answered = Answered(merged, queries, viewers, named)
     for at, it in enumerate(queries):
         ranked = _ranked_again(job, it, merged.asks[at], setup, files)
         if ranked:
             answered.ranked[at] = ranked
-    return answered
+        if it.is_paired:
+            answered.paired[at] = _paired(job, it, (merged.asks[at], answered.joined(answers_of(at))), files)
+    return _with_flows(job, answered, files)
+
+
+def end_to_end(job: Job, files: Files) -> Run:
+    """Runs a setup over all captures end to end."""
+    folder, captures = files
+    path = folder / "again.setup"
+
+    def run(text: str) -> str:
+        path.write_text(text, encoding="ascii")
+        return run_long(str(path), captures, job.may_be_cut)
+
+    return run
+
+
+def _with_flows(job: Job, answered: Answered, files: Files) -> Answered:
+    """With the endpoints of the conversations that are ranked."""
+    numbers: set[int] = set()
+    for query, joined in zip(answered.queries, answered.merged.asks):
+        if query.is_ranked and query.key == FLOW and isinstance(joined.body, Top):
+            numbers |= {it.key for it in joined.body.keys}
+    if not numbers or job.schema != "packet6":
+        return answered
+    found = conversations(files[1], numbers, job.may_be_cut, end_to_end(job, files))
+    flows = {number: it.text for number, it in found.items()}
+    return replace(answered, viewers=[replace(it, flows=flows) for it in answered.viewers])
+
+
+def _paired(job: Job, query: Query, joined: Sequence[Joined | None], files: Files) -> Paired:
+    """How many packets of two kinds each conversation has, and of those that are shown the endpoints."""
+
+    def ask(expressions: Sequence[str]) -> list[list[Top]]:
+        lines = [f"schema {job.schema}"]
+        for at, it in enumerate(expressions):
+            lines += [f"tally t{at} {FLOW} len {it}", f"ask q{at} top t{at} count {MOST_TOP}"]
+        text = "\n".join(lines) + "\n"
+        valid(text)
+        named = _reports(job, text, *files)
+        return [tops_in(it.report.asks[at].body for it in named) for at in range(len(expressions))]
+
+    first, second = (tops_in(body for _, body in it.parts) if it else [] for it in joined)
+    run = end_to_end(job, files)
+    less = without_type(files[1], job.may_be_cut, run) if query.verb == "pings" else {}
+    answer = paired(query, first, second, ask, less)
+    shown = {it.number for it in answer.rows[: query.count]}
+    found: dict[int, Conversation] = {}
+    for kind in PAIRS[query.verb]:
+        found |= conversations(files[1], shown - set(found), job.may_be_cut, run, kind)
+    return replace(answer, conversations=found)
+
+
+def tops_in(bodies: Iterable[Body]) -> list[Top]:
+    """Those that are tops."""
+    return [it for it in bodies if isinstance(it, Top)]
 
 
 def _ranked_again(job: Job, query: Query, joined: Joined, setup: Setup, files: Files) -> Ranked | None:
@@ -342,7 +396,7 @@ def _ranked_again(job: Job, query: Query, joined: Joined, setup: Setup, files: F
     if question is None or not (query.is_whole or query.is_of_both):
         return None
     # All keys that are listed, and not only as many as the question wants.
-    tops = [body for _, body in joined.parts if isinstance(body, Top)]
+    tops = tops_in(body for _, body in joined.parts)
     first = Answer(*joined_top(question, tops, MOST_TOP))
     rank = whole_addresses if query.is_whole else both_families
     return rank(query, first, asker_of(job, query, files))
@@ -422,6 +476,9 @@ def _one_shown(answered: Answered, query: Query, joined: Joined) -> list[str]:
     """A question with its answer, after an empty line."""
     viewer = answered.viewers[0]
     lines = ["", _title(viewer, query, joined)]
+    if query.is_paired:
+        answer = answered.paired[answered.queries.index(query)]
+        return [*lines[:1], lines[1] + count_of(query, answer), *paired_lines(viewer, query, answer)]
     if query.is_of_buckets:
         lines += _buckets(answered, query, joined)
     elif isinstance(joined.body, Top):

@@ -10,6 +10,7 @@ from typing import Any, Iterator, Sequence
 from .ask import Answered, Job, fired_in, in_order, joined_marks, meant_buckets, ranking
 from .exports import FORMAT, body_object
 from .merge import Joined
+from .paired import paired_object
 from .questions import Query
 from .reports import Fired, Found, Pair, Top
 from .values import key_text
@@ -23,11 +24,13 @@ def _keys(answered: Answered, query: Query, joined: Joined, body: Top) -> dict[s
     setup = answered.viewers[0].setup
     question = setup.question(joined.name) if setup else None
     assert setup and question and question.lane
-    texts = ranked.texts or [key_text(setup, question.lane, it.key) for it in ranked.top.keys]
+    flows = answered.viewers[0].flows
+    texts = ranked.texts or [key_text(setup, question.lane, it.key, flows) for it in ranked.top.keys]
     keys: list[dict[str, Any]] = [
         {"text": text, "value": it.value} for text, it in zip(texts, ranked.top.keys)
     ]
-    found: dict[str, Any] = {"kind": query.verb, "keys": keys, "all": ranked.is_all}
+    kind = "share" if whole is not None else "top"
+    found: dict[str, Any] = {"kind": kind, "keys": keys, "all": ranked.is_all}
     if whole is not None:
         for it in keys:
             it["percent"] = round(100 * it["value"] / whole, 4) if whole else 0.0
@@ -43,6 +46,8 @@ def _marks(answered: Answered, query: Query, joined: Joined) -> dict[str, Any]:
 
 def _answer(answered: Answered, query: Query, joined: Joined) -> dict[str, Any]:
     front = {"question": query.text}
+    if query.is_paired:
+        return front | paired_object(query, answered.paired[answered.queries.index(query)])
     if query.is_of_buckets:
         return front | _marks(answered, query, joined)
     if isinstance(joined.body, Top):
@@ -72,6 +77,8 @@ def _rows(answer: dict[str, Any]) -> Iterator[tuple[object, ...]]:
     """The rows of an answer, without its question: capture, place, key, value and percent."""
     for place, it in enumerate(answer.get("keys", ()), 1):
         yield "", place, it["text"], it["value"], it.get("percent", "")
+        if "answers" in it:
+            yield "", place, f"answers of {it['text']}", it["answers"], ""
     for place, it in enumerate(answer.get("marks", ()), 1):
         yield "", place, it["time"], it["value"], ""
     for part in answer.get("parts", ()):

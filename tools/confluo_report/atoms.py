@@ -48,15 +48,24 @@ def literal_of(schema: Sequence[Attribute], expression: Expression) -> Literal:
         ">": [(low + 1, most)],
         ">=": [(low, most)],
         "in": [(low, high)],
+        "not in": [(0, low - 1), (high + 1, most)],
     }[atom.operator]
     return Literal(attribute, tuple(it for it in spans if it[0] <= it[1]), expression.text)
+
+
+def _turned(text: str) -> str:
+    """The opposite of a range as it was written; of another comparison nothing."""
+    name, _, rest = text.partition(" ")
+    if rest.startswith("in "):
+        return f"{name} not {rest}"
+    return f"{name} {rest.removeprefix('not ')}" if rest.startswith("not in ") else ""
 
 
 def opposite_of(literal: Literal) -> Literal:
     """All other values."""
     ends = [-1, *itertools.chain.from_iterable(literal.spans), _most(literal.attribute) + 1]
     spans = [(ends[at] + 1, ends[at + 1] - 1) for at in range(0, len(ends), 2)]
-    return Literal(literal.attribute, tuple(it for it in spans if it[0] <= it[1]))
+    return Literal(literal.attribute, tuple(it for it in spans if it[0] <= it[1]), _turned(literal.text))
 
 
 def _both(a: Literal, b: Literal) -> Literal:
@@ -102,6 +111,13 @@ def _value_text(attribute: Attribute, value: int) -> str:
     return f"{value:#018x}" if attribute.name in HALVES else str(value)
 
 
+def _gap_text(literal: Literal, before: Span, behind: Span) -> str:
+    """That the value is not between these spans."""
+    name = literal.attribute.name
+    low, high = (_value_text(literal.attribute, it) for it in (before[1] + 1, behind[0] - 1))
+    return f"{name}!={low}" if low == high else f"{name} not in {low}..{high}"
+
+
 def _pieces(literal: Literal) -> list[list[str]]:
     """Groups of comparisons, one of which must hold as a whole."""
     if literal.text:
@@ -109,8 +125,11 @@ def _pieces(literal: Literal) -> list[list[str]]:
     name, most = literal.attribute.name, _most(literal.attribute)
     if literal.attribute.kind not in NUMBER_BITS:
         return _pieces_of_bytes(literal)
+    spans = literal.spans
+    if spans and spans[0][0] == 0 and spans[-1][1] == most:
+        return [[_gap_text(literal, *it) for it in zip(spans, spans[1:])]]
     runs: list[list[Span]] = []
-    for span in literal.spans:
+    for span in spans:
         # A gap of one value is written with !=.
         if runs and runs[-1][-1][1] + 2 == span[0]:
             runs[-1].append(span)
@@ -122,14 +141,14 @@ def _pieces(literal: Literal) -> list[list[str]]:
         if run[0][0] == run[-1][1]:
             piece = [f"{name}=={low}"]
         elif run[0][0] == 0:
-            piece = [] if run[-1][1] == most else [f"{name}<={high}"]
+            piece = [f"{name}<={high}"]
         else:
             piece = [f"{name}>={low}" if run[-1][1] == most else f"{name} in {low}..{high}"]
-        gaps = [_value_text(literal.attribute, it[1] + 1) for it in run[:-1]]
+        gaps = [_gap_text(literal, *it) for it in zip(run, run[1:])]
         if run[0][0] == 1 and run[-1][1] == most:
             # All but 0.
-            piece, gaps = [], [_value_text(literal.attribute, 0), *gaps]
-        pieces.append([*piece, *(f"{name}!={it}" for it in gaps)])
+            piece = [f"{name}!={_value_text(literal.attribute, 0)}"]
+        pieces.append([*piece, *gaps])
     return pieces
 
 

@@ -61,13 +61,15 @@ class Frame:
 class Reading:
     """How a capture is read: whether a file that is cut off may be, and by which schema of packets.
 
-    Where it is `long`, as by watch, a pcapng section has at most 65,536 interfaces.
+    Where it is `long`, as by watch, a pcapng section has at most 65,536 interfaces; where it is `bounded`, as by a run
+    without --long, the file is below 4 GiB.
     `cut` is, once all is read, the number of whole records of a file that is cut off.
     """
 
     may_be_cut: bool = False
     schema: str = "packet"
     long: bool = False
+    bounded: bool = False
     cut: int | None = None
 
 
@@ -94,21 +96,20 @@ class CaptureFault(Exception):
 class _Source:
     """Bytes one after another, with the number of those that were read."""
 
-    def __init__(self, file: BinaryIO, front: bytes) -> None:
-        self.file, self.front, self.at = file, front, 0
+    def __init__(self, file: BinaryIO, is_bounded: bool) -> None:
+        self.file, self.is_bounded, self.at = file, is_bounded, 0
         self.is_blocks = False
 
     def read(self, count: int) -> bytes:
         """The next bytes, fewer only at the end."""
-        front, self.front = self.front[:count], self.front[count:]
-        data = front
+        data = b""
         while len(data) < count:
             more = self.file.read(count - len(data))
             if not more:
                 break
             data += more
         self.at += len(data)
-        if self.at >= MOST_BYTES:
+        if self.is_bounded and self.at >= MOST_BYTES:
             code = 26 if self.is_blocks else 6
             raise CaptureFault(code, 0, MOST_BYTES, "fewer than 4294967296 bytes", "more")
         return data
@@ -328,7 +329,7 @@ class _Blocks:
 def pieces(file: BinaryIO, reading: Reading | None = None) -> Iterator[Piece]:
     """All bytes of a capture piece by piece; a CaptureFault where it breaks a rule."""
     reading = reading or Reading()
-    source = _Source(file, b"")
+    source = _Source(file, reading.bounded)
     head = source.read(4)
     if head == b"\n\r\r\n":
         return _up_to_a_cut(_Blocks(source, head, reading).pieces(), reading)
@@ -368,13 +369,23 @@ def packer_of(path: str) -> str | None:
 @contextlib.contextmanager
 def unpacking(path: str, packer: str) -> Iterator[BinaryIO]:
     """The bytes of a packed file by a pipe from its program."""
-    try:
-        child = subprocess.Popen([packer, "-dc", path], stdout=subprocess.PIPE)
-    except FileNotFoundError as error:
-        raise Complaint(f"{path}: {packer} is needed to unpack it: apt-get install {packer}") from error
+    child = start_packer(path, packer, subprocess.PIPE)
     assert child.stdout
     with child.stdout as pipe:
         yield pipe
+    end_packer(child, path, packer)
+
+
+def start_packer(path: str, packer: str, out: int | BinaryIO) -> subprocess.Popen[bytes]:
+    """The program that unpacks the file."""
+    try:
+        return subprocess.Popen([packer, "-dc", path], stdout=out)
+    except FileNotFoundError as error:
+        raise Complaint(f"{path}: {packer} is needed to unpack it: apt-get install {packer}") from error
+
+
+def end_packer(child: subprocess.Popen[bytes], path: str, packer: str) -> None:
+    """Waits for it; that nobody read to the end is no fault."""
     if child.wait() not in (0, -13):
         raise Complaint(f"{path}: {packer} could not unpack it (status {child.returncode})")
 

@@ -33,7 +33,7 @@ from .over_shown import FORMS
 from .packets import copy_packets
 from .plot import drawing_of, plot
 from .questions import write_setup
-from .report_addresses import addresses_of
+from .report_addresses import addresses_of, flows_of
 from .reports import Report, Snapshot, is_told, parse, parse_report, refusal_of
 from .setups import Setup, SetupFault, parse_setup
 from .run import HELP, run
@@ -114,7 +114,8 @@ def _show(words: Words) -> int:
     if words.capture and isinstance(read, Report):
         cut = read.truncated
         details = details_of(asks_of(read), read.records, setup, words.capture, words.most, cut)
-    viewer = Viewer(setup, details.lines, style, words.most, addresses)
+    flows = flows_of(read, setup, words.capture) if words.capture and isinstance(read, Report) else {}
+    viewer = Viewer(setup, details.lines, style, words.most, addresses, flows)
     if isinstance(read, Merged):
         lines = merged_shown(viewer, read)
     elif isinstance(read, Snapshot):
@@ -196,7 +197,10 @@ def _plot(words: Words) -> int:
     setup, named = _setup_of(words.setup), _named(words)
     if len(named) > 1 or setup:
         merge(named, setup)
-    plot(drawing_of(named, setup, words.width, words.dotted, words.most), pathlib.Path(words.out))
+    if words.capture and len(named) > 1:
+        raise Complaint("--capture is for one report")
+    flows = flows_of(named[0].report, setup, words.capture) if words.capture else {}
+    plot(drawing_of(named, setup, words.width, words.dotted, words.most, flows), pathlib.Path(words.out))
     return 0
 
 
@@ -344,7 +348,7 @@ def _add_show(commands: argparse._SubParsersAction) -> Callable[[Words], int]:
     parser.add_argument(
         "--capture",
         metavar="FILE",
-        help="the capture: then found packets are shown, one a line, and whole addresses of IPv6",
+        help="the capture: then found packets are shown, one a line, whole addresses of IPv6, and conversations",
     )
     parser.add_argument(
         "--most", type=_count, default=20, metavar="N", help="records shown of each answer; 0: all (20)"
@@ -502,6 +506,9 @@ def _add_plot(commands: argparse._SubParsersAction) -> Callable[[Words], int]:
     )
     parser.add_argument("--dotted", action="store_true", help="keys are addresses, without --setup")
     parser.add_argument(
+        "--capture", metavar="FILE", help="the capture of the one report: conversations have their endpoints"
+    )
+    parser.add_argument(
         "--most", type=_count, default=40, metavar="N", help="keys drawn of each top; 0: all (40)"
     )
     _add_several(parser)
@@ -553,7 +560,7 @@ def _add_ask(commands: argparse._SubParsersAction) -> Callable[[Words], int]:
     parser.add_argument(
         "--as-one",
         action="store_true",
-        help="ask the captures end to end as one, of any length: needs a confluo with `run --long`",
+        help="ask the captures end to end as one",
     )
     parser.add_argument(
         "--out", metavar="FILE", help="a new capture for the packets of the one list, find or between"

@@ -95,11 +95,13 @@ def _packet(line: str, schema: str) -> Packet:
     return Packet(int(number), values, schema)
 
 
-def _dumped(capture: str, wanted: set[int], reading: Reading) -> tuple[dict[int, Packet], Unparsed]:
-    """The packets of these numbers by `confluo dump`, which reads no others, and what is known of all."""
+def _dumped(
+    capture: str, wanted: set[int], reading: Reading, to_end: bool = True
+) -> tuple[dict[int, Packet], Unparsed]:
+    """The packets of these numbers by `confluo dump`, which reads no others, and what is known of all that were read."""
     with tempfile.NamedTemporaryFile(prefix="confluo-report-") as file:
         try:
-            found = copy_found(capture, wanted, file, reading).all  # type: ignore[arg-type]
+            found = copy_found(capture, wanted, file, reading, to_end).all  # type: ignore[arg-type]
         except CaptureFault as fault:
             raise Complaint(
                 f"{capture}: it is refused with code {fault.code} at record {fault.record}\n"
@@ -229,6 +231,18 @@ def details_of_all(
     _must_be_as_many(", ".join(captures), first, records)
     _must_be_found(setup, asks, {at: it.row() for at, it in packets.items()}, ", ".join(captures))
     return Details({at: it.text() for at, it in packets.items()})
+
+
+def packets_at(captures: Sequence[str], wanted: set[int], may_be_cut: bool) -> Iterator[Packet]:
+    """The packets of these numbers of captures end to end, in their order, by `schema packet6`."""
+    first = 0
+    for capture in captures:
+        left = {it - first for it in wanted if it >= first}
+        if not left:
+            return
+        packets, read = _dumped(capture, left, Reading(may_be_cut, "packet6"), to_end=False)
+        yield from (packets[it] for it in sorted(packets))
+        first += read.packets
 
 
 def split_rows(captures: Sequence[str], rows: Sequence[int], may_be_cut: bool) -> Iterator[set[int]]:

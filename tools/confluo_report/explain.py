@@ -286,17 +286,25 @@ def explain_full(refusal: Refusal, case: Case) -> list[str]:
         raise Complaint(f"the capture is not the one that was refused: it has {need.records} records")
     lines.append(f"It has {need.records} records.")
     if need.records > MOST_RECORDS:
-        return lines + [
-            f"More than {MOST_RECORDS} fit in no log. Cut the capture, and ask the parts together:",
-            "",
-            f"    editcap -F pcap -c {MOST_RECORDS} {shlex.quote(case.captures[0])} part.pcap",
-            "    confluo-report ask part_*.pcap 'top src by bytes'",
-        ]
+        if _may_be_long(case):
+            return lines + [
+                f"More than {MOST_RECORDS} fit in no log; this needs none:",
+                *_again(case, "--long"),
+            ]
+        return lines + [f"More than {MOST_RECORDS} fit in no log: cut the file."]
     return lines + _sized(case, need)
+
+
+def _may_be_long(case: Case) -> bool:
+    """Whether `run --long` can ask the same."""
+    setup, command = case.parsed(), case.command()
+    return bool(setup and setup.is_packet and (command is None or command.name == "run"))
 
 
 def _sized(case: Case, need: Need) -> list[str]:
     sizes = sizes_for(need)
+    if sizes is None and _may_be_long(case):
+        return ["This asks each segment when it is full:", *_again(case, "--long --capacity 256")]
     if sizes is None:
         least = min(need.nodes.values())
         return [

@@ -33,7 +33,7 @@ REASONS = {
     26: "the file has 4 GiB or more",
     27: "the length of a pcapng block is invalid, or a packet does not fit in its block; the file is damaged there",
     28: "a packet names an interface that the file does not describe; the file is damaged there",
-    29: "a pcapng section describes more than 65536 interfaces, which watch keeps in memory",
+    29: "a pcapng section describes more than 65536 interfaces, which are kept in memory",
 }
 IN_CSV = (11, 12, 13, 14, 15)
 WIDER = "`schema packet6` reads Linux cooked v2, raw IP and BSD loopback too. If that is none of these: "
@@ -104,9 +104,9 @@ def mending(
     if code == 29:
         return "This writes it as pcap, without interfaces:", [f"editcap -F pcap {path} mended.pcap"]
     if code in (6, 26):
-        return "Cut it, and merge the reports:", [
-            f"editcap -F pcap -c 1000000 {path} part.pcap",
-            "confluo-report ask part_*.pcap 'top src by bytes'",
+        return "`run --long` and `confluo-report ask` read captures of any length:", [
+            f"confluo run --long --setup questions.setup {path}",
+            f"confluo-report ask {path} 'top src by bytes'",
         ]
     return "", []
 
@@ -204,7 +204,7 @@ def _place_lines(
     if refusal.code in IN_CSV and not setup:
         raise Complaint("the refusal is of a CSV file: give its setup too, with --setup FILE")
     reading = reading or Reading()
-    reading.long = refusal.code == 29
+    reading.long, reading.bounded = refusal.code == 29, refusal.code in (6, 26)
     fault = find_fault(path, setup, refusal.code == 1, reading)
     if fault is None:
         raise Complaint(f"{path} is not the capture that was refused: nothing is wrong with it")

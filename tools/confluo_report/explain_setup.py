@@ -20,7 +20,7 @@ RULES = {
     9: "at most 16 indexes, filters, aggregates and tallies, 16 triggers, 32 questions, 65536 bytes",
     10: "the expression can be read: comparisons joined by && and ||, no parentheses",
     11: "the names in an expression are attributes",
-    12: "the operators suit: == != < <= > >= in; of bytes only == and !=",
+    12: "the operators suit: == != < <= > >= in, not in; of bytes only == and !=",
     13: "the values in an expression are in their attribute's range",
     14: "an expression has at most 32 comparisons",
 }

@@ -10,6 +10,7 @@ from typing import Callable, Sequence, Union
 Value = Union[int, bytes]
 NUMBER_BITS = {"u8": 8, "u16": 16, "u32": 32, "u64": 64}
 OPERATORS = ("==", "!=", "<", "<=", ">", ">=")
+RANGES = ("in", "not in")
 SYNTAX, UNKNOWN_NAME, BAD_OPERATOR, VALUE_RANGE, TOO_LONG = 10, 11, 12, 13, 14
 MOST_ATOMS = 32
 
@@ -43,7 +44,7 @@ class Attribute:
 
 @dataclass(frozen=True)
 class Atom:
-    """One comparison; `in` has both ends, the others their value as `low`."""
+    """One comparison; `in` and `not in` have both ends, the others their value as `low`."""
 
     attribute: int
     operator: str
@@ -52,8 +53,8 @@ class Atom:
 
     def holds(self, row: Sequence[Value]) -> bool:
         value = row[self.attribute]
-        if self.operator == "in":
-            return self.low <= value <= self.high  # type: ignore[operator]
+        if self.operator in RANGES:
+            return (self.low <= value <= self.high) == (self.operator == "in")  # type: ignore[operator]
         return COMPARE[self.operator](value, self.low)
 
 
@@ -175,7 +176,7 @@ class _Reader:
         place = self.attribute()
         attribute = self.schema[place]
         operator = self.operator(attribute)
-        low, high = self.range(attribute) if operator == "in" else self.value(attribute)
+        low, high = self.range(attribute) if operator in RANGES else self.value(attribute)
         return Atom(place, operator, low, high)
 
     def attribute(self) -> int:
@@ -186,7 +187,8 @@ class _Reader:
                 SYNTAX, f"{why}; there are no parentheses and no `not`" if self.here()[1:2] in "(!" else why
             )
         if name == "not":
-            self.fail(UNKNOWN_NAME, "there is no `not`: write the opposite comparison, as `!=` for `==`")
+            why = "there is no `not` before a comparison: write the opposite one, as `!=` for `==`"
+            self.fail(UNKNOWN_NAME, why)
         if name not in names:
             self.fail(UNKNOWN_NAME, unknown_attribute(self.schema, name))
         self.pass_over(name)
@@ -196,14 +198,23 @@ class _Reader:
         operator = self.token(SIGNS) or self.token(WORD)
         if not operator:
             self.fail(SYNTAX, f"`==` or another operator is wanted here, and not {self.here()}")
-        if operator not in (*OPERATORS, "in"):
+        if operator not in (*OPERATORS, "in", "not"):
             why = f"`{operator}` is not one of == != < <= > >= in"
             self.fail(BAD_OPERATOR, why)
         if not attribute.is_number and operator not in ("==", "!="):
             why = f"`{attribute.name}` is bytes, which compare only by == and !="
             self.fail(BAD_OPERATOR, why)
         self.pass_over(operator)
-        return operator
+        return self.outside() if operator == "not" else operator
+
+    def outside(self) -> str:
+        """`not in`, of which `not` was read."""
+        operator = self.token(SIGNS) or self.token(WORD)
+        if operator != "in":
+            code = BAD_OPERATOR if operator else SYNTAX
+            self.fail(code, f"`in` is wanted behind `not`, and not {self.here()}")
+        self.pass_over(operator)
+        return "not in"
 
     def value(self, attribute: Attribute) -> tuple[Value, Value]:
         token = self.token(VALUE)

@@ -3,7 +3,7 @@
 from __future__ import annotations
 
 from dataclasses import dataclass
-from typing import Iterable
+from typing import Iterable, Iterator
 
 from .expressions import NUMBER_BITS
 from .rows import Row, bucket_of
@@ -14,6 +14,8 @@ MOST_RECORDS = 2**20
 MOST_CAPACITY = MOST_NODES = 65536
 MOST_SEGMENTS = 256
 FIRST_NODES = 8192
+# Of segments of `run --long`. 256 records have fewer than 65,536 nodes in 16 lanes of 16 levels.
+LONG_CAPACITIES = (65536, 16384, 4096, 1024, 256)
 Keys = list[set[int]]
 
 
@@ -47,6 +49,12 @@ def with_more_nodes(sizes: Sizes) -> Sizes | None:
         capacity = sizes.capacity // 2
         return Sizes(capacity, MOST_RECORDS // capacity, sizes.nodes)
     return None
+
+
+def long_options(may_be_cut: bool) -> Iterator[tuple[str, ...]]:
+    """The options of `run --long` to try one after another: in the last segments no record's keys lack nodes."""
+    for capacity in LONG_CAPACITIES:
+        yield ("--long", "--writers", "1", "--capacity", str(capacity), *["--truncated"] * may_be_cut)
 
 
 def levels_of(setup: Setup, lane: Lane) -> int:

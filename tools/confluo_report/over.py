@@ -13,7 +13,7 @@ from typing import Generator, Iterator, Sequence
 
 from .errors import Complaint
 from .explain_capture import REASONS
-from .nodes import FIRST_NODES, MOST_CAPACITY, MOST_RECORDS, Sizes, with_more_nodes
+from .nodes import FIRST_NODES, MOST_CAPACITY, MOST_RECORDS, Sizes, long_options, with_more_nodes
 from .over_dask import by_scheduler
 from .over_part import Ended, Piece, Work
 from .over_pool import by_processes, processors
@@ -84,8 +84,12 @@ class Way:
     is_split: bool = False
 
 
-def _tries(may_be_cut: bool) -> Iterator[tuple[str, ...]]:
-    """The options of a part, with ever more room for nodes; segments are opened as they are needed."""
+def _tries(plan: Plan, may_be_cut: bool) -> Iterator[tuple[str, ...]]:
+    """The options of a part, with ever more room for nodes."""
+    if plan.setup.is_packet:
+        yield from long_options(may_be_cut)
+        return
+    # (`run --long` reads no CSV files)
     sizes: Sizes | None = Sizes(MOST_CAPACITY, MOST_RECORDS // MOST_CAPACITY, FIRST_NODES)
     while sizes:
         yield ("--writers", "1", *sizes.options().split(), *["--truncated"] * may_be_cut)
@@ -108,7 +112,7 @@ class Pieces:
 
 
 def _runs(plan: Plan, pieces: Pieces, way: Way) -> Generator[tuple[int, Ended], None, None]:
-    tries = tuple(_tries(way.may_be_cut))
+    tries = tuple(_tries(plan, way.may_be_cut))
     if way.scheduler is not None:
         # (the workers have their own program if not this one)
         return by_scheduler(Work(plan.text, tries, find_program()), pieces, way.scheduler)
@@ -210,7 +214,7 @@ def _refused(status: int | None, refusal: Refusal | None, first: int) -> str:
         return NO_REFUSAL.get(status or 0, "confluo ended without a refusal")
     return {
         "capture": f"{REASONS.get(refusal.code, f'code {refusal.code}')}, at record {first + refusal.place}",
-        "full": f"it has more than {refusal.place} records: --split cuts it, once it is unpacked if it is packed",
+        "full": f"it has more than {refusal.place} records",
         "nodes": f"its keys need more than {refusal.place} tree nodes even in small segments: ask about fewer attributes",
         "setup": f"this confluo refuses the setup of a part at line {refusal.place} with code {refusal.code}",
         "words": "this confluo does not know the options of `run`: it is another version",

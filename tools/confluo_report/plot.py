@@ -5,7 +5,7 @@ from __future__ import annotations
 import pathlib
 import sys
 from dataclasses import dataclass, field
-from typing import Any, Callable, Sequence
+from typing import Any, Callable, Mapping, Sequence
 
 from .errors import Complaint
 from .merge import Named, joined_top
@@ -55,11 +55,11 @@ class Drawing:
         return marked + [it.key for pairs in self.alerts.values() for it in pairs]
 
 
-def _key_text(setup: Setup | None, name: str, as_addresses: bool) -> Text:
+def _key_text(setup: Setup | None, name: str, as_addresses: bool, flows: Mapping[int, str]) -> Text:
     question = setup.question(name) if setup else None
     if setup and question and question.lane and question.lane.key is not None:
         lane, known = question.lane, setup
-        return lambda key: key_text(known, lane, key)
+        return lambda key: key_text(known, lane, key, flows)
     return dotted if as_addresses else str
 
 
@@ -81,7 +81,12 @@ def _unit(setup: Setup | None, name: str) -> str:
 
 
 def drawing_of(
-    named: Sequence[Named], setup: Setup | None, width: int, as_addresses: bool, most: int = MOST_KEYS
+    named: Sequence[Named],
+    setup: Setup | None,
+    width: int,
+    as_addresses: bool,
+    most: int = MOST_KEYS,
+    flows: Mapping[int, str] | None = None,
 ) -> Drawing:
     """What the reports have to draw; several reports have their tops put together. 0 is as many keys as there are."""
     drawing = Drawing(setup.nanoseconds if setup else width)
@@ -94,7 +99,8 @@ def drawing_of(
         keys = _keys(ask.name, tops, setup) if tops else []
         if keys:
             shown = keys[: most or None]
-            drawing.tops[ask.name] = Bars(shown, len(keys), _key_text(setup, ask.name, as_addresses))
+            text = _key_text(setup, ask.name, as_addresses, flows or {})
+            drawing.tops[ask.name] = Bars(shown, len(keys), text)
         drawing.units[ask.name] = _unit(setup, ask.name)
     for it in named:
         for alert in it.report.alerts:

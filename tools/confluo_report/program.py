@@ -2,11 +2,12 @@
 
 from __future__ import annotations
 
-import contextlib
 import os
 import pathlib
 import shutil
 import subprocess
+import tempfile
+import threading
 from dataclasses import dataclass
 from typing import BinaryIO, Iterator, Sequence
 
@@ -50,14 +51,11 @@ def run(
     words: Sequence[str],
     stdin: BinaryIO | None = None,
     watched: Sequence[str] = (),
-    fds: Sequence[int] = (),
 ) -> Ran:
-    """Runs the program with these words. On a terminal it is said how much of the `watched` files was read; it also has `fds`."""
+    """Runs the program with these words. On a terminal it is said how much of the `watched` files was read."""
     named = program()
     try:
-        process = subprocess.Popen(
-            [named, *words], stdin=stdin or subprocess.DEVNULL, stdout=subprocess.PIPE, pass_fds=fds
-        )
+        process = subprocess.Popen([named, *words], stdin=stdin or subprocess.DEVNULL, stdout=subprocess.PIPE)
     except OSError as error:
         raise Complaint(f"{named} cannot be run: {error.strerror}") from error
     with process:
@@ -100,13 +98,56 @@ def run_over(words: Sequence[str], path: str) -> Ran:
 
 
 def run_over_all(words: Sequence[str], paths: Sequence[str]) -> Ran:
-    """Runs the program over these captures, of which those that `run_over` pipes come by pipes too."""
-    with contextlib.ExitStack() as stack:
-        names, fds = list[str](), list[int]()
-        for path in paths:
-            if captures.packer_of(path) is None and is_utf8(path):
-                names.append(f"./{path}" if path.startswith("-") else path)
-                continue
-            fds.append(stack.enter_context(captures.opened(path)).fileno())
-            names.append(f"/dev/fd/{fds[-1]}")
-        return run([*words, *names], watched=paths, fds=fds)
+    """Runs the program over these captures end to end, which it opens one after another."""
+    with Named(paths) as named:
+        return run([*words, *named.names], watched=paths)
+
+
+class Named:
+    """The names by which the program opens captures: of packed ones those of pipes, and each is unpacked once its pipe is opened."""
+
+    def __init__(self, paths: Sequence[str]) -> None:
+        self.place = tempfile.TemporaryDirectory(prefix="confluo-report-")
+        self.packed: list[tuple[str, str, str]] = []
+        self.names = [self._name_of(at, path) for at, path in enumerate(paths)]
+        self.at, self.is_over = 0, False
+        self.trouble: Complaint | None = None
+        self.thread = threading.Thread(target=self._unpack, daemon=True)
+
+    def _name_of(self, at: int, path: str) -> str:
+        packer, name = captures.packer_of(path), os.path.join(self.place.name, str(at))
+        if packer is not None:
+            os.mkfifo(name)
+            self.packed.append((name, path, packer))
+        elif is_utf8(path):
+            return f"./{path}" if path.startswith("-") else path
+        else:
+            os.symlink(os.path.abspath(path), name)
+        return name
+
+    def _unpack(self) -> None:
+        try:
+            for self.at, (name, path, packer) in enumerate(self.packed):
+                # (this waits for the program)
+                with open(name, "wb") as pipe:
+                    if self.is_over:
+                        return
+                    child = captures.start_packer(path, packer, pipe)
+                captures.end_packer(child, path, packer)
+        except Complaint as complaint:
+            self.trouble = complaint
+
+    def __enter__(self) -> Named:
+        self.thread.start()
+        return self
+
+    def __exit__(self, kind: object, *_: object) -> None:
+        self.is_over = True
+        while self.thread.is_alive():
+            # A pipe that waits for a reader has one for a moment.
+            reader = os.open(self.packed[self.at][0], os.O_RDONLY | os.O_NONBLOCK)
+            self.thread.join(0.05)
+            os.close(reader)
+        self.place.cleanup()
+        if self.trouble and kind is None:
+            raise self.trouble

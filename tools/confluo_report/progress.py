@@ -2,7 +2,9 @@
 
 from __future__ import annotations
 
+import contextlib
 import os
+import pathlib
 import subprocess
 import sys
 import time
@@ -54,15 +56,24 @@ def printed(process: subprocess.Popen[bytes], paths: Sequence[str], out: TextIO 
 
 
 def part_read(pid: int, paths: Sequence[str]) -> str:
-    """How much of the files, which are read one after another, the process has read."""
+    """How much of the files, which are read one after another, the process has read, or a packer for it."""
     known = [os.path.realpath(it) for it in paths]
     sizes = [os.path.getsize(it) if os.path.isfile(it) else 0 for it in known]
-    for file, place in _open_files(pid):
-        if file in known and all(sizes):
-            at = known.index(file)
-            read = sum(sizes[:at]) + place
-            return f"confluo has read {100 * read // sum(sizes)}% of {sum(sizes) / 1e6:,.0f} MB"
-    return "confluo runs"
+    opened = [it for its in map(_open_files, (pid, *_children())) for it in its]
+    places = [(known.index(file), place) for file, place in opened if file in known]
+    if not places or not all(sizes):
+        return "confluo runs"
+    # (the packers of later files have begun already)
+    at, place = min(places)
+    read = sum(sizes[:at]) + place
+    return f"confluo has read {100 * read // sum(sizes)}% of {sum(sizes) / 1e6:,.0f} MB"
+
+
+def _children() -> Iterator[int]:
+    """The processes that this one has started, packers among them."""
+    for path in pathlib.Path("/proc/self/task").glob("*/children"):
+        with contextlib.suppress(OSError):
+            yield from map(int, path.read_text(encoding="ascii").split())
 
 
 def _open_files(pid: int) -> Iterator[tuple[str, int]]:

@@ -3,6 +3,9 @@
     top [N] ATTRIBUTE by MEASURE      the values with the most
     top [N] UNIT by MEASURE           the seconds, minutes, .. with the most
     share [N] ATTRIBUTE [by MEASURE]  each value's part of the whole in percent
+    flows [N] [by MEASURE]            the conversations with the most
+    unanswered [N]                    connections with SYNs and no SYN-ACK
+    pings [N]                         echo requests, with how many answers
     list CONDITION                    the packets
     find ATTRIBUTE VALUE|LOW..HIGH    the packets
     between TIME and TIME             the packets of these seconds
@@ -38,7 +41,19 @@ from .expressions import MOST_ATOMS, Attribute, is_form
 from .setups import PACKETS, SECOND
 from .values import UNITS
 
-VERBS = ("top", "share", "list", "find", "count", "total", "between", "per", "over", "under")
+VERBS = (
+    *("top", "share", "flows", "unanswered", "pings"),
+    *("list", "find", "count", "total", "between", "per", "over", "under"),
+)
+# Of each conversation two kinds of packets are counted; a condition is on the first.
+ANSWERS4 = "icmp_type==0 && proto==1 && kind==1 && etype==0x0800"
+PAIRS = {
+    "unanswered": ("is_syn==1 && is_ack==0", "is_syn==1 && is_ack==1"),
+    "pings": (
+        "icmp_type==8 && proto==1 || icmp_type==128 && proto==58",
+        f"{ANSWERS4} || icmp_type==129 && proto==58",
+    ),
+}
 MOST_TOP = 1000
 # The tool's own questions: the buckets with a packet, and by `schema packet` what is not parsed.
 SPAN = "span"
@@ -57,6 +72,21 @@ FORMS = {
         re.compile(rf"share {KEY}(?: by {MEASURE})?{WHERE}"),
         "share [N] ATTRIBUTE [by MEASURE] [where CONDITION]",
         "share proto by packets",
+    ),
+    "flows": (
+        re.compile(rf"flows(?: (?P<count>[0-9]+))?(?: by {MEASURE})?{WHERE}"),
+        "flows [N] [by MEASURE] [where CONDITION]",
+        "flows 5 by packets where dport==443",
+    ),
+    "unanswered": (
+        re.compile(rf"unanswered(?: (?P<count>[0-9]+))?{WHERE}"),
+        "unanswered [N] [where CONDITION]",
+        "unanswered where dport==443",
+    ),
+    "pings": (
+        re.compile(rf"pings(?: (?P<count>[0-9]+))?{WHERE}"),
+        "pings [N] [where CONDITION]",
+        "pings where src in 10.0.0.0/8",
     ),
     "list": (re.compile(r"list (?:where )?(?P<where>.+)"), "list CONDITION", "list kind==2 and flags==20"),
     "find": (
@@ -133,7 +163,12 @@ class Query:
     @property
     def is_ranked(self) -> bool:
         """Whether it ranks values of an attribute."""
-        return self.verb in ("top", "share") and not self.is_peak
+        return self.verb in ("top", "share", "flows") and not self.is_peak
+
+    @property
+    def is_paired(self) -> bool:
+        """Whether it counts two kinds of packets of each conversation."""
+        return self.verb in PAIRS
 
     @property
     def lists_all(self) -> bool:
@@ -212,6 +247,8 @@ def parse_question(text: str, schema: Sequence[Attribute] = PACKETS["packet6"]) 
     query = Query(text, verb, condition, key=words.get("key") or "")
     if condition != "*":
         query = replace(query, expression=_form(schema, query, condition, found.start("where")))
+    if verb in ("flows", *PAIRS):
+        query = _of_conversations(query, schema)
     return _filled(_keyed(query, words.get("bits"), schema), words)
 
 
@@ -228,6 +265,19 @@ def _form(schema: Sequence[Attribute], query: Query, condition: str, begin: int)
             f"{MOST_ATOMS}: ask for parts of it"
         )
     raise Complaint(f"`{query.text}` cannot be asked: {why}")
+
+
+def narrowed(query: Query, narrower: str) -> str:
+    """The question's condition and a narrower one, in the program's form."""
+    condition = narrower if query.expression == "*" else f"({query.expression}) and ({narrower})"
+    return _form(PACKETS["packet6"], query, condition, 0)
+
+
+def _of_conversations(query: Query, schema: Sequence[Attribute]) -> Query:
+    if tuple(schema) != PACKETS["packet6"]:
+        raise Complaint(f"`{query.text}`: conversations are known under `schema packet6` alone")
+    narrower = PAIRS[query.verb][0] if query.is_paired else "kind>=1"
+    return replace(query, key="flow", expression=narrowed(query, narrower))
 
 
 def _finding(text: str, key: str, value: str, schema: Sequence[Attribute]) -> Query:
@@ -255,6 +305,8 @@ def _keyed(query: Query, bits: str | None, schema: Sequence[Attribute]) -> Query
 
 def _filled(query: Query, words: dict[str, str | None]) -> Query:
     part, measure = _measure(words.get("part"), words.get("measure"))
+    if query.is_paired:
+        part = "count"
     count = int(words.get("count") or 10)
     if not 1 <= count <= MOST_TOP:
         raise Complaint(f"`{query.text}`: {query.verb} lists from 1 to {MOST_TOP} keys, and not {count}")
@@ -317,6 +369,8 @@ def _ask(writer: _Writer, query: Query, width: int, every: bool) -> str:
     if query.is_ranked:
         tally = writer.thing("tally", f"{query.key} {query.measure} {query.expression}")
         return f"top {tally} {query.bound} {MOST_TOP if every else query.count}"
+    if query.is_paired:
+        return f"top {writer.thing('tally', f'flow len {query.expression}')} count {MOST_TOP}"
     if query.verb == "list":
         return f"list {query.expression}"
     if query.verb == "find":
@@ -351,6 +405,11 @@ def whole_of(number: int) -> str:
     return f"{name_of(number)}_whole"
 
 
+def answers_of(number: int) -> str:
+    """The name of the question for the packets that answer those of that question."""
+    return f"{name_of(number)}_answers"
+
+
 def write_setup(
     queries: Sequence[Query], schema: str = "packet6", every: bool = False, extras: bool = False
 ) -> str:
@@ -367,6 +426,9 @@ def write_setup(
         statement = _ask(writer, query, width, every)
         writer.lines.append(f"ask {name_of(number)} {statement}")
     for number, query in enumerate(queries):
+        if query.is_paired:
+            tally = writer.thing("tally", f"flow len {PAIRS[query.verb][1]}")
+            writer.lines.append(f"ask {answers_of(number)} top {tally} count {MOST_TOP}")
         if query.verb == "share":
             writer.lines.append(f"ask {whole_of(number)} total {query.measure} {query.expression}")
     if extras:

@@ -9,7 +9,7 @@ from .conditions import ConditionFault, TooLong, nothing, program_form
 from .expressions import MOST_ATOMS, Attribute, ExpressionFault, parse_expression
 
 SAME = {"=": "==", "=>": ">=", "=<": "<="}
-IS_OF_ASK = re.compile(r"[()!](?!=)|\b(?:and|or|not|AND|OR|NOT)\b")
+IS_OF_ASK = re.compile(r"[()!](?!=)|\b(?:and|or|not(?! +in\b)|AND|OR|NOT)\b")
 
 
 def rephrased(schema: Sequence[Attribute], text: str) -> str:

@@ -1,12 +1,13 @@
-"""The whole addresses of IPv6 behind the answers of a report that rank networks, asked of its capture."""
+"""What the capture of a report says of its answers: whole addresses of IPv6 behind networks, and endpoints of conversations."""
 
 from __future__ import annotations
 
 from typing import Mapping
 
 from .addresses import Ranked, whole_addresses
-from .ask import Files, Job, asker_of, files_of
+from .ask import Files, Job, asker_of, end_to_end, files_of
 from .errors import Complaint
+from .flows import conversations, numbers_in
 from .questions import Query
 from .reports import Report, Top
 from .setups import PACKETS, Question, Setup
@@ -55,3 +56,16 @@ def addresses_of(report: Report, setup: Setup | None, capture: str) -> Mapping[s
     job = Job([capture], [], may_be_cut=report.truncated is not None)
     with files_of(job) as files:
         return {name: _addresses(job, query, body, files) for name, query, body in wanted}
+
+
+def flows_of(report: Report, setup: Setup | None, capture: str) -> Mapping[int, str]:
+    """The conversations that the report ranks, by their endpoints."""
+    numbers = numbers_in(setup, report.asks)
+    if not numbers:
+        return {}
+    job = Job([capture], [], may_be_cut=report.truncated is not None)
+    with files_of(job) as files:
+        found = conversations(files[1], numbers, job.may_be_cut, end_to_end(job, files))
+    if numbers - set(found):
+        raise Complaint(f"{capture} is not the capture of the report: it has other conversations")
+    return {number: it.text for number, it in found.items()}

@@ -2,7 +2,6 @@
 
 from __future__ import annotations
 
-import contextlib
 import errno
 import os
 import shutil
@@ -11,11 +10,11 @@ import sys
 import tempfile
 from typing import BinaryIO, Sequence
 
-from .captures import opened, packer_of
+from .captures import packer_of
 from .commands import WordsFault, parse_words
 from .errors import Complaint
 from .explain import Case, explain
-from .program import is_utf8, program
+from .program import Named, is_utf8, program
 from .reports import refusal_of
 
 CANNOT_WRITE = 5
@@ -30,15 +29,13 @@ says why in words, and the status is confluo's. The capture may be packed by gzi
 """
 
 
-def _run(words: Sequence[str], out: BinaryIO, fds: Sequence[int]) -> int:
+def _run(words: Sequence[str], out: BinaryIO) -> int:
     """The status; what is printed goes to the file."""
     named = program()
     stdin = sys.stdin.fileno() if sys.stdin else subprocess.DEVNULL
     words = ["run", *words]
     try:
-        return subprocess.run(
-            [named, *map(os.fsencode, words)], stdin=stdin, stdout=out, pass_fds=fds
-        ).returncode
+        return subprocess.run([named, *map(os.fsencode, words)], stdin=stdin, stdout=out).returncode
     except OSError as error:
         raise Complaint(f"{named} cannot be run: {error.strerror}") from error
 
@@ -57,13 +54,14 @@ def _piped(words: Sequence[str]) -> list[str]:
 
 
 def _run_over(words: Sequence[str], out: BinaryIO) -> int:
-    with contextlib.ExitStack() as stack:
-        names, fds = dict[str, str](), list[int]()
-        for path in _piped(words):
-            if path != "-":
-                fds.append(stack.enter_context(opened(path)).fileno())
-            names[path] = "/dev/stdin" if path == "-" else f"/dev/fd/{fds[-1]}"
-        return _run([names.get(it, it) for it in words], out, fds)
+    piped = _piped(words)
+    paths = [it for it in piped if it != "-"]
+    with Named(paths) as named:
+        # (a capture may be named twice)
+        names = {"-": ["/dev/stdin"] * piped.count("-")}
+        for path, name in zip(paths, named.names):
+            names.setdefault(path, []).append(name)
+        return _run([names[it].pop(0) if names.get(it) else it for it in words], out)
 
 
 def run(words: Sequence[str]) -> int:

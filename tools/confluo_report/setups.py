@@ -39,7 +39,11 @@ PACKET = tuple(
         "proto:u8 src:u32 dst:u32 sport:u16 dport:u16 seq:u32 ack:u32 flags:u8 win:u16 vlan:u16"
     ).split()
 )
-PACKETS = {"packet": PACKET, "packet6": PACKET + tuple(Attribute(it, "u64") for it in HALVES)}
+MORE = tuple(
+    Attribute(*it.split(":"))
+    for it in "payload:u32 icmp_type:u8 icmp_code:u8 is_fin:u8 is_syn:u8 is_rst:u8 is_ack:u8 flow:u64".split()
+)
+PACKETS = {"packet": PACKET, "packet6": PACKET + tuple(Attribute(it, "u64") for it in HALVES) + MORE}
 
 
 @dataclass(frozen=True)

@@ -43,6 +43,8 @@ class Viewer:
     most: int = 20
     # The whole addresses behind networks of IPv6, by the names of questions.
     addresses: Mapping[str, Ranked] = field(default_factory=dict)
+    # Conversations by their endpoints.
+    flows: Mapping[int, str] = field(default_factory=dict)
 
     @property
     def things(self) -> str:
@@ -255,8 +257,10 @@ def top_lines(
         lane, attribute = question.lane, setup.schema[question.lane.key]
         head = ["", attribute.name, part_text(setup, question.part, lane)]
         if texts is None:
-            keys = [key_text(setup, lane, it.key) for it in body.keys]
-            notes = _zero_note(setup, attribute.name) if any(not it.key for it in body.keys) else []
+            keys = [key_text(setup, lane, it.key, viewer.flows) for it in body.keys]
+            notes = (
+                [] if all(it.key for it in body.keys) or viewer.flows else _zero_note(setup, attribute.name)
+            )
     rows = [[f"{place}.", key, grouped(it.value)] for place, (key, it) in enumerate(zip(keys, body.keys), 1)]
     if whole is not None:
         head.append("percent")
@@ -283,6 +287,8 @@ def percent(value: int, whole: int) -> str:
 
 def _zero_note(setup: Setup, name: str) -> list[str]:
     """What the address 0 stands for."""
+    if setup.source == "packet6" and name == "flow":
+        return ["  0 stands for all packets that are not IP"]
     if not setup.is_packet or name not in ("src", "dst", "src6", "dst6"):
         return []
     if name.endswith("6"):

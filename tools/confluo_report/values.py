@@ -4,6 +4,7 @@ from __future__ import annotations
 
 import datetime
 import ipaddress
+from typing import Mapping
 
 from .expressions import Attribute
 from .setups import HALVES, SECOND, Lane, Setup
@@ -117,10 +118,15 @@ def value_text(setup: Setup, attribute: Attribute, value: int) -> str:
     return str(value)
 
 
-def key_text(setup: Setup, lane: Lane, value: int) -> str:
-    """A key of a tally; an address of IPv6 is whole if the tally is over one value of its other half."""
+def key_text(setup: Setup, lane: Lane, value: int, flows: Mapping[int, str] | None = None) -> str:
+    """A key of a tally; an address of IPv6 is whole if the tally is over one value of its other half.
+
+    `flows` are conversations whose endpoints are known.
+    """
     assert lane.key is not None
     attribute = setup.schema[lane.key]
+    if setup.source == "packet6" and attribute.name == "flow":
+        return (flows or {}).get(value, str(value))
     other = _other_half(setup, lane, attribute.name) if setup.source == "packet6" else None
     if other is None:
         return value_text(setup, attribute, value)

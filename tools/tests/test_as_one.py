@@ -15,28 +15,15 @@ from support import frame, needs_program, pcap, tool
 from confluo_report import program
 from confluo_report.progress import part_read, printed
 
-# A stand-in for a program with `run --long`: it writes the captures, classic ones of one byte order, end to end, and asks `run`.
-STAND_IN = """\
-#!{python}
-import subprocess, sys
-real, words = {real!r}, sys.argv[1:]
-if words[:2] != ["run", "--long"]:
-    sys.exit(subprocess.run([real, *words]).returncode)
-setup, captures = words[words.index("--setup") + 1], words[8:]
-cut = captures[:1] == ["--truncated"]
-parts = [open(it, "rb").read() for it in captures[cut:]]
-for at, it in enumerate(parts, 1):
-    if it.endswith(b"cut") and not cut:
-        print(f"capture {{at}}: record 1 code 5")
-        sys.exit(3)
-whole = parts[0][:24] + b"".join(it[24:].removesuffix(b"cut") for it in parts)
-open({folder!r} + "/words", "a").write(" ".join(words) + "\\n")
-open({folder!r} + "/whole", "wb").write(whole)
-text = subprocess.run([real, "run", "--setup", setup, "--writers", "1", {folder!r} + "/whole"], capture_output=True, text=True).stdout
-print("".join(it + "\\n" for it in text.splitlines() if not it.startswith("order")), end="")
-for at, it in enumerate(parts, 1):
-    if it.endswith(b"cut"):
-        print(f"truncated: capture {{at}} record {{(len(it) - 27) // 70}}")
+# The program, that notes its words and refuses segments above a capacity.
+NOTING = """\
+#!/bin/sh
+echo "$*" >> {folder}/words
+for it; do
+    if [ "$last" = --capacity ] && [ "$it" -gt {most} ]; then echo 'nodes: more than 65536 nodes'; exit 7; fi
+    last=$it
+done
+exec {real} "$@"
 """
 
 
@@ -46,15 +33,19 @@ class AsOne(unittest.TestCase):
         place = tempfile.TemporaryDirectory()
         self.addCleanup(place.cleanup)
         self.folder = pathlib.Path(place.name)
-        stand_in = self.folder / "confluo"
-        text = STAND_IN.format(python=sys.executable, real=program.program(), folder=place.name)
-        stand_in.write_text(text)
-        stand_in.chmod(0o755)
-        patch = mock.patch.dict(os.environ, {"CONFLUO": str(stand_in)})
-        patch.start()
-        self.addCleanup(patch.stop)
         self.one = self.capture("one", [(1, frame(1)), (2, frame(2, 443))])
         self.two = self.capture("two", [(2, frame(3)), (2, frame(1, 443)), (4, frame(1, 443))])
+
+    def noting(self, most: int = 65536) -> "mock._patch_dict":
+        """The environment with a program that notes its words."""
+        script = self.folder / "confluo"
+        script.write_text(NOTING.format(folder=self.folder, real=program.program(), most=most))
+        script.chmod(0o755)
+        return mock.patch.dict(os.environ, {"CONFLUO": str(script)})
+
+    def noted(self) -> list[str]:
+        """The words of each run."""
+        return (self.folder / "words").read_text().splitlines()
 
     def capture(self, name: str, frames: list[tuple[int, bytes]], end: bytes = b"") -> str:
         path = self.folder / f"{name}.pcap"
@@ -75,8 +66,52 @@ class AsOne(unittest.TestCase):
             "1970-01-01 00:00:02 162",
         ):
             self.assertIn(line, lines)
-        for words in (self.folder / "words").read_text().splitlines():
-            self.assertTrue(words.endswith(f"--capacity 65536 {self.one} {self.two}"))
+
+    def test_a_run_of_any_length(self) -> None:
+        for front, captures in (((), [[self.one], [self.two]]), (("--as-one",), [[self.one, self.two]])):
+            with self.noting():
+                ended = tool("ask", *front, self.one, self.two, "count dport==443", "per minute packets")
+            self.assertEqual((ended.status, ended.err), (0, ""))
+            self.assertIn("5 packets of 2 captures", ended.out)
+            noted = [it.split() for it in self.noted()]
+            self.assertEqual([it[:2] for it in noted], [["run", "--long"]] * len(captures))
+            self.assertEqual([[word for word in it if word.endswith(".pcap")] for it in noted], captures)
+            (self.folder / "words").unlink()
+
+    def test_more_packets_than_a_log_holds(self) -> None:
+        setup, path = self.folder / "s.setup", self.folder / "many.pcap"
+        setup.write_text("schema packet\nask a total len *\n")
+        data = pcap([(1, frame())])
+        path.write_bytes(data[:24] + data[24:] * 1048577)
+        answer = "count 1048577 sum 56623158 least 54 greatest 54"
+        for words, said in (
+            (("ask", "--report", path, "count"), f"records 1048577\nask q1 total {answer}\n"),
+            (
+                ("over", "--setup", setup, "--format", "report", path),
+                f"records 1048577\nask a total {answer}\n",
+            ),
+        ):
+            ended = tool(*words)
+            self.assertEqual((ended.status, ended.out, ended.err), (0, said, ""))
+
+    def test_segments_are_made_smaller_if_nodes_are_too_few(self) -> None:
+        for most, tries in ((4096, 3), (256, 5), (16, 5)):
+            with self.noting(most):
+                ended = tool("ask", "--report", self.one, "count dport==443")
+            self.assertEqual(
+                ended.out,
+                "" if most == 16 else "records 2\nask q1 total count 1 sum 54 least 54 greatest 54\n",
+            )
+            self.assertEqual(len(self.noted()), tries)
+            (self.folder / "words").unlink()
+
+    def test_csv_files_are_asked_by_a_run(self) -> None:
+        path = self.folder / "x.csv"
+        path.write_text("ts,src\n1,10.0.0.1\n")
+        with self.noting():
+            ended = tool("ask", "--schema", "records ts:u64,src:u32", path, "list src==10.0.0.1")
+        self.assertEqual((ended.status, ended.err), (0, ""))
+        self.assertNotIn("--long", self.noted()[0])
 
     def test_for_programs(self) -> None:
         ended = tool("ask", "--as-one", "--json", self.one, self.two, "list dport==443")
@@ -92,6 +127,24 @@ class AsOne(unittest.TestCase):
         ended = tool("ask", "--as-one", strange, f"{self.two}.gz", "count dport==443")
         self.assertEqual((ended.status, ended.err), (0, ""))
         self.assertIn("\n        3 ", ended.out)
+
+    def test_many_packed_captures(self) -> None:
+        subprocess.run(["gzip", self.one, self.two], check=True)
+        one, two = f"{self.one}.gz", f"{self.two}.gz"
+        ended = tool("ask", "--as-one", "--report", *[one, two] * 60, "count dport==443")
+        said = "records 300\nask q1 total count 180 sum 9720 least 54 greatest 54\n"
+        self.assertEqual((ended.status, ended.out, ended.err), (0, said, ""))
+        broken, text = self.folder / "broken.gz", self.capture("text", [])
+        broken.write_bytes(pathlib.Path(one).read_bytes()[:-12])
+        pathlib.Path(text).write_text("hello, world")
+        for captures, why in (
+            ([one, str(broken), two, two], "broken.gz: gzip could not unpack it"),
+            ([text, one, two], "text.pcap: the file is not a capture"),
+            ([one, text, two], "text.pcap: the file is not a capture"),
+        ):
+            ended = tool("ask", "--as-one", *captures, "count")
+            self.assertEqual((ended.status, ended.out), (2, ""))
+            self.assertIn(why, ended.err)
 
     def test_captures_that_are_cut_off(self) -> None:
         cut = self.capture("cut", [(5, frame(1))], b"cut")
@@ -135,6 +188,10 @@ class Progress(unittest.TestCase):
                 "import sys, time; a = open(sys.argv[1], 'rb'); a.seek(500000); time.sleep(1.2); print(7)"
             )
             words = [sys.executable, "-c", program, paths[1]]
+            with open(paths[0], "rb") as file, subprocess.Popen(["sleep", "9"], stdin=file) as packer:
+                os.lseek(file.fileno(), 250000, os.SEEK_SET)
+                self.assertEqual(part_read(2**22, paths), "confluo has read 12% of 2 MB")
+                packer.kill()
             out = Terminal()
             with subprocess.Popen(words, stdout=subprocess.PIPE) as process:
                 self.assertEqual(printed(process, paths, out), b"7\n")

@@ -101,7 +101,7 @@ BAD = (
     ("share src by least ttl", "not of what is least"),
     ("per fortnight len", "not a unit of time"),
     ("between yesterday and 1700000001", "not a time"),
-    ("which src", "Questions begin with top, share, list"),
+    ("which src", "Questions begin with top, share, flows"),
     ("over 18446744073709551616 in a second", "above 2^64"),
 )
 

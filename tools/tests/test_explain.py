@@ -7,6 +7,7 @@ import shutil
 import subprocess
 import tempfile
 import unittest
+from unittest import mock
 
 from cases import CAPTURES, CSVS, RECORDS, SETUPS, WHOLE
 from support import SMALL, confluo, frame, needs_program, pcap, tool
@@ -285,6 +286,14 @@ class OfRuns(Folder):
         said = self.explained("--setup", self.setup, "--capture", many, stdin=ran.out)
         self.assertIn("It has 5000 records.", said)
         self.runs(said)
+        for name, value, options in (
+            ("MOST_RECORDS", 4999, " --long "),
+            ("sizes_for", lambda _: None, " --long --capacity 256 "),
+        ):
+            with mock.patch(f"confluo_report.explain.{name}", value):
+                said = self.explained("--setup", self.setup, "--capture", many, stdin=ran.out)
+            self.assertIn(options, said)
+            self.runs(said)
 
     @needs_program
     def test_memory(self) -> None:

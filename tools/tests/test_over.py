@@ -260,12 +260,6 @@ def drawn_frames(draw: random.Random, count: int) -> list[tuple[int, bytes]]:
     return [(draw.randrange(12), draw.choice(kinds)() + bytes(draw.randrange(50))) for _ in range(count)]
 
 
-def final_part(text: str) -> str:
-    return "".join(
-        it for it in text.splitlines(keepends=True) if it.startswith(("records ", "ask ", "alert "))
-    )
-
-
 class Drawn:
     """A setup and captures in a folder, and what one run over all of these says."""
 
@@ -282,9 +276,9 @@ class Drawn:
         self.sizes = [len(its) for its in parts]
 
     def expected(self) -> str:
-        ran = confluo("run", "--setup", self.setup, "--writers", "1", "--nodes", "65536", self.whole)
+        ran = confluo("run", "--long", "--setup", self.setup, "--writers", "1", *self.captures)
         assert ran.status == 0, ran
-        return final_part(ran.out)
+        return ran.out
 
     def numbered(self, read: dict) -> dict[str, list[int]]:
         """The records that each question found, numbered through all captures, of the JSON."""
@@ -449,8 +443,8 @@ class Runs(Case):
         good = self.captures()[0]
         for script, why in (
             (
-                "echo 'full: more than 1048576 records'; exit 6",
-                "it has more than 1048576 records.* (status 6)",
+                "echo 'full: more than 4294967295 records'; exit 6",
+                "it has more than 4294967295 records (status 6)",
             ),
             ("echo 'nodes: more than 65536 nodes'; exit 7", "even in small segments.* (status 7)"),
             ("echo 'words: not a command'; exit 1", "it is another version (status 1)"),

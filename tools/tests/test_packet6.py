@@ -44,7 +44,7 @@ class Packet6(unittest.TestCase):
         return str(path)
 
     def test_setups(self) -> None:
-        for name, count in (("packet", 20), ("packet6", 24)):
+        for name, count in (("packet", 20), ("packet6", 32)):
             setup = parse_setup(f"schema {name}\nask q list *\n".encode())
             self.assertEqual((setup.source, len(setup.schema), setup.is_packet), (name, count, True))
         self.assertIn("packets with IPv6", tool("check", self.file("s", SETUP)).out)
@@ -57,7 +57,8 @@ class Packet6(unittest.TestCase):
     def test_rows(self) -> None:
         rows = list(rows_of(parse_setup(SETUP.encode()), self.file("c", RAW)))
         self.assertEqual([it[11] for it in rows], [0x0A000001, 0])
-        self.assertEqual([it[20:] for it in rows], [(0, 0, 0, 0), (NETWORK, 1, 0x20010DB800000000, 2)])
+        self.assertEqual([it[20:24] for it in rows], [(0, 0, 0, 0), (NETWORK, 1, 0x20010DB800000000, 2)])
+        self.assertEqual([it[24:31] for it in rows], [(0, 0, 0, 0, 0, 0, 1), (0, 0, 0, 0, 1, 0, 0)])
 
     def test_a_line_of_a_packet(self) -> None:
         values = dict.fromkeys((it.name for it in PACKETS["packet6"]), "0")

@@ -3,13 +3,16 @@
 import io
 import os
 import pathlib
+import random
 import tempfile
 import unittest
+from unittest import mock
 
-from cases import BLOCKS
-from support import EXAMPLES, INCIDENTS, enhanced, frame, tool
+from cases import BLOCKS, CAPTURES
+from support import EXAMPLES, INCIDENTS, enhanced, frame, pcap, tool
 
-from confluo_report.captures import frames
+from confluo_report.captures import CaptureFault, Reading, frames
+from confluo_report.packets import copy_found
 
 REPORT = INCIDENTS / "port_scan_stranger.report"
 CAPTURE = INCIDENTS / "port_scan.pcap"
@@ -38,6 +41,34 @@ class Packets(unittest.TestCase):
         text = "records 4\nask a find 2: 1 3\n"
         self.assertEqual(tool("packets", "--ask", "a", "--out", self.out, "-", capture, stdin=text).status, 0)
         self.assertEqual(self.out.read_bytes(), BLOCKS + enhanced(frame(1)) + enhanced(frame(3)))
+
+    def test_a_classic_file_is_copied_by_its_lengths(self) -> None:
+        path, draw = pathlib.Path(self.place.name, "c"), random.Random(2)
+        faulty = [data for data, *_ in CAPTURES if data[:2] != b"\x1f\x8b"]
+        whole = pcap([(it, frame(it) + bytes(draw.randrange(90))) for it in range(60)])
+        big = whole.replace(b"\xd4\xc3\xb2\xa1", b"\xa1\xb2\xc3\xd4")
+        long = pcap([(1, frame()), (2, bytes(2**18 + 1)), (3, frame())])
+        for data in (whole, long, whole[:24], whole[:-1], whole[:30], whole[:3], big, *faulty):
+            path.write_bytes(data)
+            for wanted, to_end in (
+                ({0, 5, 17}, True),
+                (set(range(99)), True),
+                ({0, 5, 17}, False),
+                (set(), True),
+            ):
+                with mock.patch("confluo_report.packets.CHUNK", draw.choice((1, 50, 1000, 10**6))):
+                    found = self.copied(path, wanted, to_end)
+                with mock.patch("confluo_report.packets._copy_quickly", lambda *_: None):
+                    self.assertEqual(found, self.copied(path, wanted, to_end), (data[:40], wanted))
+
+    def copied(self, path: pathlib.Path, wanted: "set[int]", to_end: bool) -> object:
+        """What is written, and how many of how many packets; or the fault."""
+        out, reading = io.BytesIO(), Reading(True, "packet6")
+        try:
+            copied = copy_found(str(path), wanted, out, reading, to_end)
+        except CaptureFault as fault:
+            return fault.code, fault.record
+        return out.getvalue(), copied.packets, copied.records, reading.cut
 
     def test_several(self) -> None:
         words = ["packets", "--ask", "open", "--into", self.place.name, REPORT, CAPTURE]

@@ -77,7 +77,8 @@ class Plain(unittest.TestCase):
             kinds.add((narrow["kind"], wide["kind"]))
             self.assertEqual(tuple(narrow.values()), packet_row(Frame(0, 5, 99, data, link)))
             if narrow["kind"]:
-                self.assertEqual(wide, narrow | dict.fromkeys(plain.HALVES, 0))
+                more = {it: wide[it] for it in plain.MORE}
+                self.assertEqual(wide, narrow | dict.fromkeys(plain.HALVES, 0) | more)
         self.assertEqual(kinds, {(it, it) for it in range(4)} | {(0, it) for it in range(4)})
 
     def test_damaged_captures(self) -> None:

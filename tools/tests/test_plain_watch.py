@@ -57,7 +57,15 @@ ROWS = (
         ["alert t 1 60 @1", "alert t 2 100 @2 / at 2 2 / total a count 2 sum 160"],
         END,
     ),
-    (S, C2[:-1], [58], {"every": 0, "beat": 5}, 3, ["alert t 1 60 @1"], "at 1 1 / total a count 1 sum 60 / capture: record 1 code 5"),
+    (
+        S,
+        C2[:-1],
+        [58],
+        {"every": 0, "beat": 5},
+        3,
+        ["alert t 1 60 @1"],
+        "at 1 1 / total a count 1 sum 60 / capture: record 1 code 5",
+    ),
     (S, C2[:-1], [58], {"every": 0}, 3, ["alert t 1 60 @1"], "capture: record 1 code 5"),
     (
         S,
@@ -113,7 +121,9 @@ class Rows(unittest.TestCase):
         size = (len(capture) - 24) // len(seconds)
         status, texts, end = plain_watch.watch(FEW, capture, [24] + [size] * 5, every=0)
         self.assertEqual(status, 0)
-        self.assertEqual(texts, ["", "", "", "alert t 1 1 @3\n", "alert t 4000000000 1 @4\n", "alert t 2 1 @5\n"])
+        self.assertEqual(
+            texts, ["", "", "", "alert t 1 1 @3\n", "alert t 4000000000 1 @4\n", "alert t 2 1 @5\n"]
+        )
         fired = "".join(f" {it}=1" for it in sorted(seconds))
         alerts = "".join(f"alert t {it} 1\n" for it in sorted(seconds))
         self.assertEqual(end, f"records 5\nwindow 0\nask g fired 5:{fired}\n{alerts}")
@@ -232,7 +242,11 @@ class Long(unittest.TestCase):
         status, _, end = plain_watch.watch(setup, data, [2**22], capacity=4096, segments=3)
         rows = [tuple(plain.row(it, "packet").values()) for it in plain.read(data, {1}).frames]
         answers = list(plain_answers.Answers(plain_watch.parse_setup(setup), rows[188_416:]).lines())
-        alerts = [it for it in plain_answers.Answers(plain_watch.parse_setup(setup), rows).lines() if it.startswith("alert")]
+        alerts = [
+            it
+            for it in plain_answers.Answers(plain_watch.parse_setup(setup), rows).lines()
+            if it.startswith("alert")
+        ]
         numbers = " ".join(str(188_416 + k) for k in range(11_584))
         self.assertEqual(answers[0], "records 11584")
         self.assertEqual(

@@ -46,6 +46,9 @@ class Runs(unittest.TestCase):
         for path in (packed, strange):
             self.assertEqual(ran("run", "--setup", SETUP, *ROOM, path).stdout, wanted)
         self.assertEqual(ran("run", "--setup", SETUP, *ROOM, "-", input=CAPTURE.read_bytes()).stdout, wanted)
+        several = confluo("run", "--long", "--setup", SETUP, *[CAPTURE] * 4).out.encode()
+        ended = ran("run", packed, "--long", strange, "--setup", SETUP, packed, CAPTURE)
+        self.assertEqual((ended.returncode, ended.stdout, ended.stderr), (0, several, b""))
 
     def test_a_refusal_is_explained_and_nothing_is_printed(self) -> None:
         bad = self.file("s", b"schema packet\nask a list dport==http\n")
