@@ -1,15 +1,15 @@
 -- A log was opened, and all its books are dealt.
-use Rattle.std.proofs.Common.{◌≡◌, ◌∙◌, get_or, ℕ, List, [], ◌∷◌, zero, suc, length, map, Some, slice_get, All, Result, Ok, Err, IfOk, IfErr, ap, refl, sym, subst}
-use Rattle.std.proofs.lemmas.Option.{slice_get-get_or}
+use Rattle.std.proofs.Common.{◌≡◌, ◌<◌, ◌∙◌, get_or, ℕ, List, [], ◌∷◌, zero, suc, length, map, Some, slice_get, All, Result, Ok, Err, IfOk, IfErr, ap, refl, sym, subst, arith}
+use Rattle.std.proofs.lemmas.Option.{slice_get-get_or, slice_get_within}
 use Rattle.std.proofs.lemmas.List.{length-map}
 use Rattle.cf_law.specs.Passes.{Book, Pass}
 use Rattle.cf_law.specs.Steps.{new_pass}
-use Rattle.cf_law.specs.Events.{no_book}
+use Rattle.cf_law.specs.Events.{tabulated, no_book}
+use Rattle.cf_law.proofs.Fronts.{table_length, table_at}
 use Rattle.cf_table.specs.Values.{PassValue, LogValue, book_of}
 use Rattle.cf_table.specs.Rule.{root_pass}
 use Rattle.cf_table.specs.Moves.{AreDealt, HoldsAllBooks}
 use Rattle.cf_home.specs.Homes.{PlaceValue, at_home}
-use Rattle.cf_table.proofs.Played.{dealt_new}
 use Rattle.cf_setup.specs.Setups.{SetupValue}
 use Rattle.cf_setup.specs.SetupText.{SetupText}
 use Rattle.cf_setup.specs.Reading.{Answers}
@@ -47,7 +47,13 @@ root_new log m n hs is dealt = ap (λ (h : PassValue). h.view) dealt.root ∙ ap
 pub all_new : (log : LogValue) (m n : PassValue) (hs : List PassValue) → m.view ≡ root_pass log.shape → AreDealt log m hs n → (k : ℕ) (h : PassValue)
     → slice_get hs k ≡ Some h
     → h.view ≡ new_pass (no_book k ∷ []) []
-all_new log m n hs is dealt k h at = (dealt_new log m n hs is dealt k h at).view
+all_new log m n hs is dealt k h at =
+    let d = dealt.each k h at in
+    let w = (log.shape).writers in
+    let there : slice_get (tabulated no_book w) k ≡ Some d.book = ap (λ (p : Pass). slice_get p.books k) (sym is) ∙ d.at in
+    let lt : k < w = omega (arith, slice_get_within (tabulated no_book w) k d.book there, table_length no_book w) in
+    let e : no_book k ≡ d.book = (let f : Some (no_book k) ≡ Some d.book = sym (table_at no_book w k lt) ∙ there in cc f) in
+    d.view ∙ (ap (λ (b : Book). new_pass (b ∷ []) (m.view).seen) (sym e) ∙ ap (λ (p : Pass). new_pass (no_book k ∷ []) p.seen) is)
 
 pub at_home_new : (hs : List PassValue) (k : ℕ) (place : PlaceValue) → slice_get (map at_home hs) k ≡ Some place
     → (h : PassValue) × (place ≡ at_home h) × (slice_get hs k ≡ Some h)
