@@ -67,6 +67,7 @@ ask_about (asks.Between lane low high) = record nothing { kind = 2; of = lane; l
 ask_about (asks.Measure lane low high) = record nothing { kind = 3; of = lane; low = low; high = high }
 ask_about (asks.Fired trigger) = trigger_about 4 trigger
 ask_about (asks.Top lane part count) = record nothing { kind = 5; of = lane; part = part_number part; size = count }
+ask_about (asks.Groups lane) = record nothing { kind = 7; of = lane }
 ask_about (asks.Total attr expr) = record nothing { kind = 6; of = attr }
 
 -- of what the setup has of that sort at that number: 0 attributes, 1 lanes, 2 triggers, 3 questions

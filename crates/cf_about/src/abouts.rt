@@ -142,6 +142,7 @@ fn ask_about(ask: &Ask) -> About
             size: *count,
             ..NOTHING
         },
+        Ask::Groups(lane) => range_about(7, *lane, 0, 0),
         Ask::Total(attr, _) => range_about(6, *attr, 0, 0),
     }
 }

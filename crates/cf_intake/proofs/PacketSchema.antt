@@ -6,7 +6,7 @@ use Rattle.cf_packet6.specs.Schema6.{attrs_by}
 use Rattle.cf_setup.specs.declared.source.Source.TheVariants.{Packets, Records}
 use Rattle.cf_setup.specs.Drafts.{DraftValue, nothing_stated}
 use Rattle.cf_setup.specs.Forms.{StatementFormValue}
-use Rattle.cf_setup.specs.Forms.StatementFormValue.{packet_schema, record_schema, bucket_width, new_index, new_filter, new_aggregate, new_tally, new_trigger, ask_list, ask_find, ask_buckets, ask_fired, ask_top, ask_total, ask_live}
+use Rattle.cf_setup.specs.Forms.StatementFormValue.{packet_schema, record_schema, bucket_width, new_index, new_filter, new_aggregate, new_tally, new_trigger, ask_list, ask_find, ask_buckets, ask_fired, ask_top, ask_groups, ask_total, ask_live}
 use Rattle.cf_setup.specs.Adds.{Adds}
 use Rattle.cf_setup.specs.Setups.{SetupValue, settled}
 use Rattle.cf_setup.specs.SetupText.{SetupText, LineSaid, AllSaid}
@@ -39,6 +39,7 @@ adds_keep line before new (ask_find name index low high) adds kept = subst Keeps
 adds_keep line before new (ask_buckets what name lane low high) adds kept = subst KeepsPackets (sym adds.5) kept
 adds_keep line before new (ask_fired name trigger) adds kept = subst KeepsPackets (sym adds.2) kept
 adds_keep line before new (ask_top name tally part count) adds kept = subst KeepsPackets (sym adds.6) kept
+adds_keep line before new (ask_groups name lane) adds kept = subst KeepsPackets (sym adds.2) kept
 adds_keep line before new (ask_total name attr expr) adds kept = subst KeepsPackets (sym adds.4) kept
 adds_keep line before new (ask_live ask) adds kept = subst KeepsPackets (sym adds.2) kept
 

@@ -347,6 +347,7 @@ fn marks_in(alloc: Global, answers: Vec<Answer>) -> Result<Vec<Marks>, Memory>
             Body::Places(_) => unreachable!(),
             Body::Total(_) => unreachable!(),
             Body::Tops(_) => unreachable!(),
+            Body::Groups(_) => unreachable!(),
         }
     }
     Ok(all)

@@ -396,6 +396,7 @@ fn questions(alloc: Global) -> Result<Vec<Ask>, Memory> {
     questions.push(Ask::Between(0, 1, 2))?;
     questions.push(Ask::Measure(0, 0, 1))?;
     questions.push(Ask::Top(2, Part::Sum, 3))?;
+    questions.push(Ask::Groups(2))?;
     questions.push(Ask::Total(2, expr_of(alloc, &[&[atom(1, Op::Lt, 3)]])?))?;
     Ok(questions)
 }

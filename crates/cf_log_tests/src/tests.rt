@@ -130,6 +130,14 @@ pub(crate) fn numbers_of(alloc: Global, body: &Body) -> Result<Vec<u64>, Memory>
                 numbers.push(mark.value)?;
             }
         }
+        Body::Groups(groups) => {
+            for group in groups.as_slice() {
+                let quad = group.quad;
+                numbers.push(group.key)?;
+                let four = [quad.count(), quad.sum(), quad.least(), quad.greatest()];
+                numbers.extend_from_slice(&four)?;
+            }
+        }
     }
     Ok(numbers)
 }

@@ -112,6 +112,7 @@ module _ (shape : ShapeValue) (first : ℕ) (entries : List Entry) (rows : List 
       ap (λ q. findings.Total q) (same_total shape (rows_in entries) rows same lane (counts_for shape (asks.Measure lane low high)))
   found_by_row (asks.Fired trigger) = ap (λ gs. findings.Groups gs) (same_groups shape (rows_in entries) rows same trigger.agg)
   found_by_row (asks.Top lane part count) = ap (λ gs. findings.Groups gs) (same_groups shape (rows_in entries) rows same lane)
+  found_by_row (asks.Groups lane) = ap (λ gs. findings.Groups gs) (same_groups shape (rows_in entries) rows same lane)
   found_by_row (asks.Total attr expr) =
       ap (λ q. findings.Total q)
       (quad_is_one (amounts attr expr (rows_in entries)) (amounts attr expr rows) (often (λ row. number_at row attr) (holds_of expr) (rows_in entries) rows same))
@@ -135,6 +136,7 @@ found_within shape rows (asks.Between lane low high) = places_within (counts_for
 found_within shape rows (asks.Measure lane low high) = tt
 found_within shape rows (asks.Fired trigger) = tt
 found_within shape rows (asks.Top lane part count) = tt
+found_within shape rows (asks.Groups lane) = tt
 found_within shape rows (asks.Total attr expr) = tt
 
 -- so are those of each question

@@ -44,6 +44,7 @@ module _ (shape : ShapeValue) (rows : List RowValue) (numbered : AreNumbered 0 r
   same_shown (asks.Measure lane low high) = refl
   same_shown (asks.Fired trigger) = refl
   same_shown (asks.Top lane part count) = refl
+  same_shown (asks.Groups lane) = refl
   same_shown (asks.Total attr expr) = refl
 
   module _ (setup : SetupValue) (finals : List Body) (are : finals ≡ map (λ ask. eval_rows shape ask rows) setup.asks) where

@@ -212,6 +212,7 @@ findings_join shape (asks.Between lane low high) xs ys = ap Places (sym (places_
 findings_join shape (asks.Measure lane low high) xs ys = ap Total (sym (total_over_append shape lane (counts_for shape (asks.Measure lane low high)) xs ys))
 findings_join shape (asks.Fired trigger) xs ys = ap Groups (groups_append shape trigger.agg xs ys)
 findings_join shape (asks.Top lane part n) xs ys = ap Groups (groups_append shape lane xs ys)
+findings_join shape (asks.Groups lane) xs ys = ap Groups (groups_append shape lane xs ys)
 findings_join shape (asks.Total attr expr) xs ys = ap Total (sym (total_append attr expr xs ys))
 
 pub findings_tell : (shape : ShapeValue) (ask : Ask) (rows : List RowValue) → body_of ask (finding_in shape ask rows) ≡ eval_rows shape ask rows
@@ -221,6 +222,7 @@ findings_tell shape (asks.Between lane low high) rows = refl
 findings_tell shape (asks.Measure lane low high) rows = refl
 findings_tell shape (asks.Fired trigger) rows = refl
 findings_tell shape (asks.Top lane part n) rows = refl
+findings_tell shape (asks.Groups lane) rows = refl
 findings_tell shape (asks.Total attr expr) rows = refl
 
 module _ (shape : ShapeValue) (lane : ℕ) where
@@ -335,4 +337,5 @@ findings_can_join shape (asks.Between lane low high) xs ys few = places_can (cou
 findings_can_join shape (asks.Measure lane low high) xs ys few = totals_can (measure_of shape lane) (counts_for shape (asks.Measure lane low high)) xs ys few
 findings_can_join shape (asks.Fired trigger) xs ys few = groups_can shape trigger.agg xs ys few
 findings_can_join shape (asks.Top lane part n) xs ys few = groups_can shape lane xs ys few
+findings_can_join shape (asks.Groups lane) xs ys few = groups_can shape lane xs ys few
 findings_can_join shape (asks.Total attr expr) xs ys few = totals_can (λ row. number_at row attr) (holds_of expr) xs ys few

@@ -51,6 +51,7 @@ counts_for shape (asks.Between lane low high) row = is_keyed_between shape lane 
 counts_for shape (asks.Measure lane low high) row = is_keyed_between shape lane low high row
 counts_for shape (asks.Fired trigger) row = selected_by shape trigger.agg row
 counts_for shape (asks.Top lane part n) row = selected_by shape lane row
+counts_for shape (asks.Groups lane) row = selected_by shape lane row
 counts_for shape (asks.Total attr expr) row = holds_of expr row
 
 -- the quad of what the lane measures of the rows that pass
@@ -77,6 +78,7 @@ eval_rows shape (asks.Between lane low high) rows = bodies.Places (places (count
 eval_rows shape (asks.Measure lane low high) rows = bodies.Total (total_over shape lane (counts_for shape (asks.Measure lane low high)) rows)
 eval_rows shape (asks.Fired trigger) rows = bodies.Marks (marks_over shape trigger rows)
 eval_rows shape (asks.Top lane part n) rows = bodies.Tops (top_over shape lane part n rows)
+eval_rows shape (asks.Groups lane) rows = bodies.Groups (groups shape lane rows)
 eval_rows shape (asks.Total attr expr) rows = bodies.Total (total attr expr rows)
 
 -- the same on the entries of a log
@@ -108,6 +110,10 @@ is_aggregate shape lane = is_bucketed shape lane && is_some (lane_at shape lane)
 abbrev pub is_tally : ShapeValue → ℕ → Bool
 is_tally shape lane = is_indexed shape lane && is_some (lane_at shape lane).measure
 
+-- a lane that measures something, whatever its key is: one of the two
+abbrev pub is_measuring : ShapeValue → ℕ → Bool
+is_measuring shape lane = exists shape lane && is_some (lane_at shape lane).measure
+
 -- the trigger's lane is an aggregate, and its operator compares with one number
 abbrev pub suits_trigger : ShapeValue → Trigger → Bool
 suits_trigger shape trigger = is_aggregate shape trigger.agg && not (is_range trigger.op)
@@ -124,6 +130,7 @@ suits_of shape (asks.Between lane low high) = is_bucketed shape lane
 suits_of shape (asks.Measure lane low high) = is_aggregate shape lane
 suits_of shape (asks.Fired trigger) = suits_trigger shape trigger
 suits_of shape (asks.Top lane part n) = (is_tally shape lane && nat_le 1 n) && nat_le n 1000
+suits_of shape (asks.Groups lane) = is_measuring shape lane
 suits_of shape (asks.Total attr expr) = is_of_schema shape.schema expr && option_passes is_narrow (slice_get shape.schema attr)
 
 -- the same as a fact

@@ -39,6 +39,7 @@ finding_in shape (asks.Between lane low high) rows = findings.Places (places (co
 finding_in shape (asks.Measure lane low high) rows = findings.Total (total_over shape lane (counts_for shape (asks.Measure lane low high)) rows)
 finding_in shape (asks.Fired trigger) rows = findings.Groups (groups shape trigger.agg rows)
 finding_in shape (asks.Top lane part n) rows = findings.Groups (groups shape lane rows)
+finding_in shape (asks.Groups lane) rows = findings.Groups (groups shape lane rows)
 finding_in shape (asks.Total attr expr) rows = findings.Total (total attr expr rows)
 
 -- What is found in n rows, and what is found in those behind them: places go on behind the n rows, quads and groups are merged.
@@ -57,10 +58,11 @@ CanJoin n (findings.Total p) (findings.Total q) = p.count + q.count < 2 ^ 32
 CanJoin n (findings.Groups gs) (findings.Groups hs) = numbers_in (gs ++ hs) < 2 ^ 32
 CanJoin n finding other = Unit {0}
 
--- the marks or the heaviest of some groups, as the question wants
+-- the marks or the heaviest of some groups, or all, as the question wants
 abbrev pub body_of_groups : Ask → List (ℕ × QuadValue) → Body
 body_of_groups (asks.Top lane part n) gs = bodies.Tops (top part n gs)
 body_of_groups (asks.Fired trigger) gs = bodies.Marks (marks_in trigger gs)
+body_of_groups (asks.Groups lane) gs = bodies.Groups gs
 body_of_groups ask gs = bodies.Marks []
 
 -- the answer to a question that found that

@@ -153,6 +153,8 @@ pub enum Body {
     Marks(Marks),
     /// The keys of the heaviest groups, the heaviest first.
     Tops(Marks),
+    /// All groups of a lane, ascending by key.
+    Groups(Groups),
 }
 
 /// What a question found in the log's first `tail` entries.

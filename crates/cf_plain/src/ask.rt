@@ -1,7 +1,8 @@
 // Questions.
 ghost use Rattle.std.specs.Prelude.{◌≡◌, ◌↔◌, IsTrue, IfOk};
 ghost use Rattle.cf_plain.specs.Asks.{Suits, is_attr as is_attr_of, is_indexed as is_indexed_of, is_bucketed as is_bucketed_of};
-ghost use Rattle.cf_plain.specs.Asks.{is_aggregate as is_aggregate_of, is_tally as is_tally_of, suits_trigger as suits_trigger_of};
+ghost use Rattle.cf_plain.specs.Asks.{is_aggregate as is_aggregate_of, is_tally as is_tally_of, is_measuring as is_measuring_of};
+ghost use Rattle.cf_plain.specs.Asks.{suits_trigger as suits_trigger_of};
 
 use cf_fold::{Part, Trigger};
 use cf_row::{Expr, Memory, is_of_schema};
@@ -24,6 +25,8 @@ pub enum Ask {
     /// The lane's heaviest keys by that part of what it measures of their rows, and at most so many of them. The greater part
     /// goes first, and of equal ones the lower key.
     Top(u8, Part, u32),
+    /// All groups of the lane's rows, ascending by key: for each the quad of what the lane measures of its rows.
+    Groups(u8),
     /// The quad of the attribute over the rows of which the expression holds.
     Total(u8, Expr),
 }
@@ -40,6 +43,7 @@ impl Ask {
             Ask::Measure(lane, low, high) => Ok(Ask::Measure(*lane, *low, *high)),
             Ask::Fired(trigger) => Ok(Ask::Fired(*trigger)),
             Ask::Top(lane, part, count) => Ok(Ask::Top(*lane, *part, *count)),
+            Ask::Groups(lane) => Ok(Ask::Groups(*lane)),
             Ask::Total(attr, expr) => Ok(Ask::Total(*attr, expr.copy(alloc)?)),
         }
     }
@@ -105,6 +109,16 @@ fn is_tally(shape: &Shape, lane: u8) -> bool
     }
 }
 
+// Whether the lane exists and measures something.
+fn is_measuring(shape: &Shape, lane: u8) -> bool
+    ensures { result ≡ is_measuring_of shape.now lane }
+{
+    match shape.lanes().get(lane as usize) {
+        Some(lane) => lane.measure.is_some(),
+        None => false,
+    }
+}
+
 fn suits_trigger(shape: &Shape, trigger: &Trigger) -> bool
     ensures { result ≡ suits_trigger_of shape.now trigger.now }
 {
@@ -114,7 +128,8 @@ fn suits_trigger(shape: &Shape, trigger: &Trigger) -> bool
 /// Whether the question can be asked of a log of that shape. `List` wants an expression of the schema, `Find` a lane
 /// whose key is an attribute, `Between` one whose key is the bucket, `Measure` and `Fired` one that also measures
 /// something, and `Fired` an operator that is not of a range. `Top` wants a lane whose key is an attribute and that measures
-/// something, and a count from 1 to 1000; `Total` an attribute of numbers below 2^32 and an expression of the schema.
+/// something, and a count from 1 to 1000; `Groups` a lane that measures something, whatever its key is; `Total` an attribute of
+/// numbers below 2^32 and an expression of the schema.
 pub fn suits(shape: &Shape, ask: &Ask) -> bool
     ensures { IsTrue result ↔ Suits shape.now ask.now }
 {
@@ -125,6 +140,7 @@ pub fn suits(shape: &Shape, ask: &Ask) -> bool
         Ask::Measure(lane, _, _) => is_aggregate(shape, *lane),
         Ask::Fired(trigger) => suits_trigger(shape, trigger),
         Ask::Top(lane, _, count) => is_tally(shape, *lane) && 1 <= *count && *count <= 1000,
+        Ask::Groups(lane) => is_measuring(shape, *lane),
         Ask::Total(attr, expr) => {
             let schema = shape.schema();
             is_of_schema(schema, expr) && is_lawful_measure(schema.attrs(), Some(*attr))

@@ -1,11 +1,10 @@
 // What a question finds in rows that stand in several logs, end to end.
 ghost use Rattle.std.specs.Prelude.{◌≡◌, ◌+◌, ◌<◌, ◌≤◌, ◌^◌, ◌++◌, [], All, map, IfOk};
 ghost use Rattle.cf_shape.specs.Lanes.{ShapeValue};
-ghost use Rattle.cf_plain.specs.Groups.{pair_of};
 ghost use Rattle.cf_plain.specs.Segments.{body_of, body_of_groups as body_of_groups_as, finding_in, joined, merged, numbers_in, CanJoin};
 
 use crate::segments::{ascends, marks_of_groups, merge_ascending, merge_groups, push_places};
-use crate::{Ask, Body, Group, Groups, Marks, Places, top};
+use crate::{Ask, Body, Groups, Marks, Places, top};
 use cf_fold::Quad;
 use cf_row::Memory;
 use std::alloc::Global;
@@ -32,7 +31,9 @@ impl Finding {
                 Finding::Places(Places::new(Vec::new(alloc)))
             }
             Ask::Measure(..) | Ask::Total(..) => Finding::Total(Quad::EMPTY),
-            Ask::Fired(_) | Ask::Top(..) => Finding::Groups(Groups::new(Vec::new(alloc))),
+            Ask::Fired(_) | Ask::Top(..) | Ask::Groups(_) => {
+                Finding::Groups(Groups::new(Vec::new(alloc)))
+            }
         }
     }
 
@@ -77,14 +78,14 @@ impl Finding {
     }
 
     /// The answer to the question that found this: places and a quad as they are, and of groups the marks of the question's
-    /// trigger or the heaviest.
+    /// trigger, the heaviest or all.
     pub fn body(self, alloc: Global, ask: &Ask) -> Result<Body, Memory>
         ensures { IfOk result (λ body. body ≡ body_of ask.now self) }
     {
         match self {
             Finding::Places(places) => Ok(Body::Places(places)),
             Finding::Total(quad) => Ok(Body::Total(quad)),
-            Finding::Groups(groups) => body_of_groups(alloc, ask, groups.as_slice()),
+            Finding::Groups(groups) => body_of_groups(alloc, ask, groups),
         }
     }
 }
@@ -122,19 +123,20 @@ fn merge_both(alloc: Global, groups: Groups, more: Groups) -> Result<Groups, Mem
     Ok(Groups::new(merge_ascending(alloc, left, right)?))
 }
 
-// The marks or the heaviest of the groups, as the question wants.
-fn body_of_groups(alloc: Global, ask: &Ask, groups: &[Group]) -> Result<Body, Memory>
-    ensures { IfOk result (λ body. body ≡ body_of_groups_as ask.now (map pair_of groups.now)) }
+// The marks or the heaviest of the groups, or all, as the question wants.
+fn body_of_groups(alloc: Global, ask: &Ask, groups: Groups) -> Result<Body, Memory>
+    ensures { IfOk result (λ body. body ≡ body_of_groups_as ask.now groups) }
 {
     match ask {
         Ask::Fired(trigger) => {
-            let marks = marks_of_groups(alloc, trigger, groups)?;
+            let marks = marks_of_groups(alloc, trigger, groups.as_slice())?;
             Ok(Body::Marks(Marks::new(marks)))
         }
         Ask::Top(_, part, most) => {
-            let marks = top(alloc, *part, *most, groups)?;
+            let marks = top(alloc, *part, *most, groups.as_slice())?;
             Ok(Body::Tops(Marks::new(marks)))
         }
+        Ask::Groups(_) => Ok(Body::Groups(groups)),
         _ => Ok(Body::Marks(Marks::new(Vec::new(alloc)))),
     }
 }

@@ -5,7 +5,7 @@ ghost use Rattle.cf_shape.specs.Uses.{is_measured};
 ghost use Rattle.cf_plain.specs.Asks.{Suits, eval, rows_in};
 ghost use Rattle.cf_plain.specs.Groups.{as_group, groups as groups_by};
 
-use crate::scan::{grouped_by, listed, marks_of, places_of, tops_of, total_of};
+use crate::scan::{grouped_by, groups_of, listed, marks_of, places_of, tops_of, total_of};
 use crate::{Answer, Ask, Body, Group, total_of_expr};
 use cf_row::{Entry, Memory, Row};
 use cf_shape::Shape;
@@ -110,6 +110,7 @@ impl Plain {
                 let tops = tops_of(alloc, shape, *lane, *part, *count, entries)?;
                 Ok(Body::Tops(tops))
             }
+            Ask::Groups(lane) => Ok(Body::Groups(groups_of(alloc, shape, *lane, entries)?)),
             Ask::Total(attr, expr) => {
                 let total = total_of_expr(shape.schema(), *attr, expr, entries);
                 Ok(Body::Total(total))

@@ -10,7 +10,7 @@ ghost use Rattle.cf_plain.specs.Groups.{groups, quad_at, as_group};
 ghost use Rattle.cf_plain.specs.Tops.{top_over};
 
 use crate::segments::marks_of_groups;
-use crate::{Ask, Group, Marks, Places, top};
+use crate::{Ask, Group, Groups, Marks, Places, top};
 use cf_fold::{Part, Quad, Trigger};
 use cf_row::{Entry, Memory, Row, holds};
 use cf_shape::{Shape, key, measure, selects};
@@ -43,6 +43,7 @@ fn counts(shape: &Shape, ask: &Ask, row: &Row) -> bool
         Ask::Measure(lane, low, high) => is_in(shape, *lane, *low, *high, row),
         Ask::Fired(trigger) => selects(shape, trigger.agg, row),
         Ask::Top(lane, _, _) => selects(shape, *lane, row),
+        Ask::Groups(lane) => selects(shape, *lane, row),
         Ask::Total(_, expr) => holds(shape.schema(), expr, row),
     }
 }
@@ -130,6 +131,22 @@ pub(crate) fn tops_of(
     let grouped = grouped_by(alloc, shape, lane, entries)?;
     let groups = listed(alloc, &grouped)?;
     Ok(Marks::new(top(alloc, part, most, &groups)?))
+}
+
+// All groups of the lane.
+pub(crate) fn groups_of(
+    alloc: Global,
+    shape: &Shape,
+    lane: u8,
+    entries: &[Entry],
+) -> Result<Groups, Memory>
+    requires exists { lane < length shape.now.lanes }
+    requires fit { FitAll shape.now entries.now }
+    requires few { length entries.now ≤ 2 ^ 20 }
+    ensures { IfOk result (λ found. found ≡ groups shape.now lane (rows_in entries.now)) }
+{
+    let grouped = grouped_by(alloc, shape, lane, entries)?;
+    Ok(Groups::new(listed(alloc, &grouped)?))
 }
 
 // The groups of a map, in the order of their keys.

@@ -49,6 +49,18 @@ fn expr_of(alloc: Global, conjunctions: &[&[Atom]]) -> Result<Expr, Memory> {
     Ok(Expr::new(all))
 }
 
+// A group's key and its quad.
+fn numbers_of_group(group: &Group) -> [u64; 5] {
+    let quad = group.quad;
+    [
+        group.key,
+        quad.count(),
+        quad.sum(),
+        quad.least(),
+        quad.greatest(),
+    ]
+}
+
 // The numbers of a body, in order.
 fn numbers_of(alloc: Global, body: &Body) -> Result<Vec<u64>, Memory> {
     let mut numbers = Vec::new(alloc);
@@ -66,6 +78,11 @@ fn numbers_of(alloc: Global, body: &Body) -> Result<Vec<u64>, Memory> {
             for mark in marks.as_slice() {
                 numbers.push(mark.bucket)?;
                 numbers.push(mark.value)?;
+            }
+        }
+        Body::Groups(groups) => {
+            for group in groups.as_slice() {
+                numbers.extend_from_slice(&numbers_of_group(group))?;
             }
         }
     }
@@ -318,15 +335,7 @@ fn group_numbers(alloc: Global, plain: &Plain, number: u8) -> Result<Option<Vec<
     }
     let mut numbers = Vec::new(alloc);
     for group in plain.groups(alloc, number)? {
-        let quad = group.quad;
-        let five = [
-            group.key,
-            quad.count(),
-            quad.sum(),
-            quad.least(),
-            quad.greatest(),
-        ];
-        numbers.extend_from_slice(&five)?;
+        numbers.extend_from_slice(&numbers_of_group(&group))?;
     }
     Ok(Some(numbers))
 }
@@ -344,6 +353,9 @@ fn groups_of_a_measured_lane(rt: HostRuntime) -> Result<(), Fail> {
     assert!(rt; append_all(alloc, &mut plain, &[&[3, 7], &[5, 9], &[4, 1]])?);
     let found = group_numbers(alloc, &plain, 0)?;
     assert_eq!(rt; found.as_deref(), Some([0, 3, 17, 1, 9].as_slice()));
+    let answer: &[u64] = &[3, 0, 3, 17, 1, 9];
+    check(&rt, alloc, &plain, &Ask::Groups(0), Some(answer))?;
+    check(&rt, alloc, &plain, &Ask::Groups(1), None)?;
     assert_eq!(rt; group_numbers(alloc, &plain, 1)?.as_deref(), None);
     let packets = four_packets(alloc)?.expect(&rt, "lawful");
     let found = group_numbers(alloc, &packets, 0)?;
@@ -510,6 +522,11 @@ fn groups_of_two_logs_are_merged(rt: HostRuntime) -> Result<(), Fail> {
     assert_eq!(rt; found.as_slice(), [9, 14].as_slice());
     let found = joined_numbers(alloc, &top, &groups, two_groups(alloc, 2, 9)?)?;
     assert_eq!(rt; found.as_slice(), [9, 14, 2, 3].as_slice());
+    let found = joined_numbers(alloc, &Ask::Groups(0), &groups, two_groups(alloc, 2, 9)?)?;
+    assert_eq!(rt;
+        found.as_slice(),
+        [2, 1, 3, 3, 3, 4, 1, 3, 3, 3, 9, 4, 14, 3, 4].as_slice()
+    );
     Ok(())
 }
 

@@ -8,7 +8,7 @@ use Rattle.cf_shape.specs.Lanes.{ShapeValue, lane_at}
 use Rattle.cf_shape.specs.Uses.{has_measure, is_measured}
 use Rattle.cf_words.specs.Words.{Spot}
 use Rattle.cf_law.specs.Passes.{Cursor, Pass}
-use Rattle.cf_plain.specs.Asks.{is_attr, exists, is_indexed, is_bucketed, is_aggregate, is_tally}
+use Rattle.cf_plain.specs.Asks.{is_attr, exists, is_indexed, is_bucketed, is_aggregate, is_tally, is_measuring}
 use Rattle.cf_table.specs.Values.{PassValue}
 use Rattle.cf_table.specs.Moves.{Begins, OnlyLooked, SeenFirst}
 use Rattle.cf_walk.specs.Walks.{OnlyWalked}
@@ -33,6 +33,12 @@ pub tally_there : (shape : ShapeValue) (lane : ℕ) → is_tally shape lane ≡ 
 tally_there shape lane h =
     let b = both (is_indexed shape lane) (is_some (lane_at shape lane).measure) h in
     (lane_there shape lane (is_attr (lane_at shape lane).key) b.0, is_some_measure (lane_at shape lane).measure b.1)
+
+-- and so is either's
+pub measuring_there : (shape : ShapeValue) (lane : ℕ) → is_measuring shape lane ≡ true → (lane < length shape.lanes) × (is_measured shape lane ≡ true)
+measuring_there shape lane h =
+    let b = both (exists shape lane) (is_some (lane_at shape lane).measure) h in
+    (ltb-true lane (length shape.lanes) b.0, is_some_measure (lane_at shape lane).measure b.1)
 
 -- The read tail was loaded for an ask, and then trees and chains were walked.
 pub asked_walked : (shape : ShapeValue) (m n o : PassValue) → HasAsked shape m n → OnlyWalked n o → HasAsked shape m o

@@ -11,6 +11,7 @@ goes_over_all (asks.Between lane low high) = false
 goes_over_all (asks.Measure lane low high) = false
 goes_over_all (asks.Fired trigger) = false
 goes_over_all (asks.Top lane part n) = false
+goes_over_all (asks.Groups lane) = false
 goes_over_all (asks.Total attr expr) = true
 
 -- the elements from the first place up to the second, without that

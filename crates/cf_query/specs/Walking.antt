@@ -15,6 +15,7 @@ AsksOne (asks.Between lane low high) = low ≡ high
 AsksOne (asks.Measure lane low high) = ⊥
 AsksOne (asks.Fired trigger) = ⊥
 AsksOne (asks.Top lane part n) = ⊥
+AsksOne (asks.Groups lane) = ⊥
 AsksOne (asks.Total attr expr) = ⊥
 
 -- a question for what is measured under one bucket
@@ -25,6 +26,7 @@ AsksBucket (asks.Between lane low high) = ⊥
 AsksBucket (asks.Measure lane low high) = low ≡ high
 AsksBucket (asks.Fired trigger) = ⊥
 AsksBucket (asks.Top lane part n) = ⊥
+AsksBucket (asks.Groups lane) = ⊥
 AsksBucket (asks.Total attr expr) = ⊥
 
 -- the lane that a question walks; those that go over all entries walk none
@@ -35,6 +37,7 @@ lane_of (asks.Between lane low high) = lane
 lane_of (asks.Measure lane low high) = lane
 lane_of (asks.Fired trigger) = trigger.agg
 lane_of (asks.Top lane part n) = lane
+lane_of (asks.Groups lane) = lane
 lane_of (asks.Total attr expr) = 0
 
 -- the places of a body; another kind of body has none
@@ -43,6 +46,7 @@ places_in (bodies.Places places) = places
 places_in (bodies.Total total) = []
 places_in (bodies.Marks marks) = []
 places_in (bodies.Tops marks) = []
+places_in (bodies.Groups groups) = []
 
 -- One step for the read tail, one for each level and writer, one for each place found, and one for each place at or past the tail.
 abbrev pub steps_of_one : ShapeValue → ℕ → Body → ℕ → ℕ

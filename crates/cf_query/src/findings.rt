@@ -82,6 +82,7 @@ pub fn finding_seen<P: Pass, L: Ledger>(
         }
         Ask::Fired(trigger) => groups_of(log, alloc, pass, trigger.agg, steps),
         Ask::Top(lane, _, _) => groups_of(log, alloc, pass, *lane, steps),
+        Ask::Groups(lane) => groups_of(log, alloc, pass, *lane, steps),
     }
 }
 

@@ -39,6 +39,7 @@ body_within shape (asks.Between lane low high) rows = low_places (counts_for sha
 body_within shape (asks.Measure lane low high) rows = tt
 body_within shape (asks.Fired trigger) rows = tt
 body_within shape (asks.Top lane part count) rows = tt
+body_within shape (asks.Groups lane) rows = tt
 body_within shape (asks.Total attr expr) rows = tt
 
 body_kind : (shape : ShapeValue) (ask : Ask) (rows : List RowValue) → is_body_of ask (eval_rows shape ask rows) ≡ true
@@ -48,6 +49,7 @@ body_kind shape (asks.Between lane low high) rows = refl
 body_kind shape (asks.Measure lane low high) rows = refl
 body_kind shape (asks.Fired trigger) rows = refl
 body_kind shape (asks.Top lane part count) rows = refl
+body_kind shape (asks.Groups lane) rows = refl
 body_kind shape (asks.Total attr expr) rows = refl
 
 pub within_more : (m n : ℕ) (body : Body) → m ≤ n → IsWithin m body → IsWithin n body
@@ -55,6 +57,7 @@ within_more m n (bodies.Places places) le within = λ k d lt. let low = within k
 within_more m n (bodies.Total quad) le within = tt
 within_more m n (bodies.Marks marks) le within = tt
 within_more m n (bodies.Tops tops) le within = tt
+within_more m n (bodies.Groups groups) le within = tt
 
 within_log : (shape : ShapeValue) (ask : Ask) (log : List Entry) (n : ℕ) → length log ≤ n → IsWithin n (eval shape ask log)
 within_log shape ask log n le = let same : length (rows_in log) ≡ length log = length-map log (λ (entry : Entry). entry.row) in

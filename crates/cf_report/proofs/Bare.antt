@@ -64,6 +64,7 @@ shown_agree f g same (bodies.Places places) = ap numbers_text (same places)
 shown_agree f g same (bodies.Total quad) = refl
 shown_agree f g same (bodies.Marks marks) = refl
 shown_agree f g same (bodies.Tops tops) = refl
+shown_agree f g same (bodies.Groups groups) = refl
 
 pub bare_long : (es : List Entry) → length (bare es) ≡ length es
 bare_long [] = refl

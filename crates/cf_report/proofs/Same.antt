@@ -21,7 +21,7 @@ use Rattle.cf_plain.specs.Tops.{top}
 use Rattle.cf_plain.specs.Totals.{amounts}
 use Rattle.cf_plain.proofs.Totals.{SameRows, often, map_agree, same_total, same_groups, same_length}
 use Rattle.cf_setup.specs.Setups.{SetupValue}
-use Rattle.cf_report.specs.Bodies.{line, nums_at, word_of, shown, numbers_text, quad_text, marks_text}
+use Rattle.cf_report.specs.Bodies.{line, nums_at, word_of, shown, numbers_text, quad_text, marks_text, groups_text}
 use Rattle.cf_report.specs.Report.{ask_name, ask_line, ask_line_at, alert_lines_at, nothing_told}
 use Rattle.cf_report.specs.Meaning.{told_on, finals_on, alerts_on, final_text}
 
@@ -61,6 +61,7 @@ module _ (shape : ShapeValue) (rows others : List RowValue) (same : SameRows row
   same_body (asks.Measure lane low high) = ap quad_text (same_total shape rows others same lane (counts_for shape (asks.Measure lane low high)))
   same_body (asks.Fired trigger) = ap (λ gs. marks_text (marks_in trigger gs)) (same_groups shape rows others same trigger.agg)
   same_body (asks.Top lane part count) = ap (λ gs. marks_text (top part count gs)) (same_groups shape rows others same lane)
+  same_body (asks.Groups lane) = ap groups_text (same_groups shape rows others same lane)
   same_body (asks.Total attr expr) =
       ap quad_text (quad_is_one (amounts attr expr rows) (amounts attr expr others) (often (λ row. number_at row attr) (holds_of expr) rows others same))
 

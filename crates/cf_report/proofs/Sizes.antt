@@ -49,6 +49,7 @@ module _ (setup : SetupValue) (c w n c' w' n' : ℕ) where
   counts_same (asks.Measure lane low high) row = keyed_same lane low high row
   counts_same (asks.Fired trigger) row = refl
   counts_same (asks.Top lane part count) row = refl
+  counts_same (asks.Groups lane) row = refl
   counts_same (asks.Total attr expr) row = refl
 
   places_same : (ask : Ask) (rows : List RowValue)
@@ -84,6 +85,7 @@ module _ (setup : SetupValue) (c w n c' w' n' : ℕ) where
       (counts_same (asks.Measure lane low high)) rows)
   body_same (asks.Fired trigger) rows = ap bodies.Marks (marks_same trigger rows)
   body_same (asks.Top lane part count) rows = ap (λ gs. bodies.Tops (top part count gs)) (groups_same lane rows)
+  body_same (asks.Groups lane) rows = ap (λ gs. bodies.Groups gs) (groups_same lane rows)
   body_same (asks.Total attr expr) rows = refl
 
   told_same : (rows : List RowValue) (ask : Ask) → told_on one rows ask ≡ told_on other rows ask

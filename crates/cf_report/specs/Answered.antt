@@ -34,6 +34,7 @@ are_places (bodies.Places places) = true
 are_places (bodies.Total quad) = false
 are_places (bodies.Marks marks) = false
 are_places (bodies.Tops tops) = false
+are_places (bodies.Groups groups) = false
 
 -- the body is one quad
 abbrev pub is_total : Body → Bool
@@ -41,6 +42,7 @@ is_total (bodies.Places places) = false
 is_total (bodies.Total quad) = true
 is_total (bodies.Marks marks) = false
 is_total (bodies.Tops tops) = false
+is_total (bodies.Groups groups) = false
 
 -- the body is a trigger's marks
 abbrev pub are_marks : Body → Bool
@@ -48,6 +50,7 @@ are_marks (bodies.Places places) = false
 are_marks (bodies.Total quad) = false
 are_marks (bodies.Marks marks) = true
 are_marks (bodies.Tops tops) = false
+are_marks (bodies.Groups groups) = false
 
 -- the body is the first keys of a tally, with their parts
 abbrev pub are_tops : Body → Bool
@@ -55,6 +58,15 @@ are_tops (bodies.Places places) = false
 are_tops (bodies.Total quad) = false
 are_tops (bodies.Marks marks) = false
 are_tops (bodies.Tops tops) = true
+are_tops (bodies.Groups groups) = false
+
+-- the body is all groups of a lane
+abbrev pub are_groups : Body → Bool
+are_groups (bodies.Places places) = false
+are_groups (bodies.Total quad) = false
+are_groups (bodies.Marks marks) = false
+are_groups (bodies.Tops tops) = false
+are_groups (bodies.Groups groups) = true
 
 -- the body is one of the question's kind
 abbrev pub is_body_of : Ask → Body → Bool
@@ -64,6 +76,7 @@ is_body_of (asks.Between lane low high) body = are_places body
 is_body_of (asks.Measure lane low high) body = is_total body
 is_body_of (asks.Fired trigger) body = are_marks body
 is_body_of (asks.Top lane part count) body = are_tops body
+is_body_of (asks.Groups lane) body = are_groups body
 is_body_of (asks.Total attr expr) body = is_total body
 
 -- the body speaks of the first n places alone
@@ -72,6 +85,7 @@ IsWithin n (bodies.Places places) = All (λ place. place < n) places
 IsWithin n (bodies.Total quad) = Unit {0}
 IsWithin n (bodies.Marks marks) = Unit {0}
 IsWithin n (bodies.Tops tops) = Unit {0}
+IsWithin n (bodies.Groups groups) = Unit {0}
 
 -- An answer to each question, marks to each trigger, and live answers to questions that exist. Each body is of its question's
 -- kind, and its places are those of the n entries.

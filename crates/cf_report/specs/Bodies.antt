@@ -44,6 +44,18 @@ mark_text mark = codes " " ++ decimal mark.bucket ++ codes "=" ++ decimal mark.v
 abbrev pub marks_text : List Fired → List ℕ
 marks_text marks = codes " " ++ decimal (length marks) ++ codes ":" ++ flat_map mark_text marks
 
+-- `COUNT/SUM/LEAST/GREATEST` of some numbers
+abbrev pub parts_text : QuadValue → List ℕ
+parts_text quad = decimal quad.count ++ codes "/" ++ decimal quad.sum ++ codes "/" ++ decimal quad.least ++ codes "/" ++ decimal quad.greatest
+
+-- ` KEY=COUNT/SUM/LEAST/GREATEST`: a key or a bucket, and the quad of its rows
+abbrev pub group_text : ℕ × QuadValue → List ℕ
+group_text group = codes " " ++ decimal group.0 ++ codes "=" ++ parts_text group.1
+
+-- ` K:` and then each of the K groups
+abbrev pub groups_text : List (ℕ × QuadValue) → List ℕ
+groups_text groups = codes " " ++ decimal (length groups) ++ codes ":" ++ flat_map group_text groups
+
 -- the word of a question's kind
 abbrev pub word_of : Ask → List ℕ
 word_of (asks.List expr) = codes "list"
@@ -52,6 +64,7 @@ word_of (asks.Between lane low high) = codes "between"
 word_of (asks.Measure lane low high) = codes "measure"
 word_of (asks.Fired trigger) = codes "fired"
 word_of (asks.Top lane part count) = codes "top"
+word_of (asks.Groups lane) = codes "groups"
 word_of (asks.Total attr expr) = codes "total"
 
 -- the places of rows that the body is; none if it is of another kind
@@ -60,6 +73,7 @@ places_in (bodies.Places places) = places
 places_in (bodies.Total quad) = []
 places_in (bodies.Marks marks) = []
 places_in (bodies.Tops tops) = []
+places_in (bodies.Groups groups) = []
 
 -- what is shown of a body, where places are shown as these numbers
 abbrev pub shown : (List ℕ → List ℕ) → Body → List ℕ
@@ -67,3 +81,4 @@ shown nums (bodies.Places places) = numbers_text (nums places)
 shown nums (bodies.Total quad) = quad_text quad
 shown nums (bodies.Marks marks) = marks_text marks
 shown nums (bodies.Tops tops) = marks_text tops
+shown nums (bodies.Groups groups) = groups_text groups

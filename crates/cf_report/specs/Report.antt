@@ -62,6 +62,7 @@ marks_of (bodies.Places places) = []
 marks_of (bodies.Total quad) = []
 marks_of (bodies.Marks marks) = marks
 marks_of (bodies.Tops tops) = []
+marks_of (bodies.Groups groups) = []
 
 -- the marks of a live answer, or none where there is no such answer
 abbrev pub marks_of_live : Option Live → List Fired
@@ -87,6 +88,7 @@ new_line setup earlier live (bodies.Places places) = []
 new_line setup earlier live (bodies.Total quad) = []
 new_line setup earlier live (bodies.Marks marks) = line (live_head setup (codes "new") live ++ marks_text (newly (marks_before earlier live.ask) marks))
 new_line setup earlier live (bodies.Tops tops) = []
+new_line setup earlier live (bodies.Groups groups) = []
 
 -- the lines of live answers, where these came earlier
 abbrev pub live_lines : SetupValue → List RowValue → List Live → List Live → List ℕ

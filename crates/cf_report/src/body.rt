@@ -1,14 +1,15 @@
 // The text of a question's answer.
-ghost use Rattle.std.specs.Prelude.{◌≡◌, ℕ, List, ◌<◌, ◌++◌, All, length, OnOk, IfOk, string_bytes};
+ghost use Rattle.std.specs.Prelude.{◌≡◌, ℕ, List, ◌<◌, ◌++◌, All, length, map, OnOk, IfOk, string_bytes};
 ghost use Rattle.std.specs.List.{flat_map};
 ghost use Rattle.cf_fold.specs.Sort.{sort};
 ghost use Rattle.cf_plain.specs.Asks.{rows_in, row_at};
+ghost use Rattle.cf_plain.specs.Groups.{pair_of};
 ghost use Rattle.cf_report.specs.Answered.{IsWithin};
-ghost use Rattle.cf_report.specs.Bodies.{numbers_text, number_text, quad_text, bound_text, mark_text, marks_text, word_of, shown, nums_at, places_in};
+ghost use Rattle.cf_report.specs.Bodies.{numbers_text, number_text, quad_text, bound_text, mark_text, marks_text, parts_text, group_text, groups_text, word_of, shown, nums_at, places_in};
 
 use crate::Tags;
 use cf_fold::Quad;
-use cf_plain::{Ask, Body, Fired};
+use cf_plain::{Ask, Body, Fired, Group, Groups};
 use cf_row::Memory;
 use std::alloc::Global;
 use std::fmt::Write;
@@ -74,6 +75,46 @@ fn push_each_mark(text: &mut String, marks: &[Fired]) -> Result<(), Memory>
     Ok(())
 }
 
+// How many groups there are, and each.
+fn push_groups(text: &mut String, groups: &Groups) -> Result<(), Memory>
+    ensures { OnOk result (string_bytes text.new ≡ string_bytes text.old ++ groups_text groups.now) }
+{
+    let groups = groups.as_slice();
+    let count = groups.len();
+    write!(text, " {count}:")?;
+    push_each_group(text, groups)
+}
+
+fn push_each_group(text: &mut String, groups: &[Group]) -> Result<(), Memory>
+    ensures { OnOk result (string_bytes text.new ≡ string_bytes text.old ++ flat_map group_text (map pair_of groups.now)) }
+{
+    for group in groups {
+        push_group(text, group)?;
+    }
+    Ok(())
+}
+
+fn push_group(text: &mut String, group: &Group) -> Result<(), Memory>
+    ensures { OnOk result (string_bytes text.new ≡ string_bytes text.old ++ group_text (pair_of group.now)) }
+{
+    let key = group.key;
+    let quad = group.quad;
+    write!(text, " {key}=")?;
+    push_parts(text, quad)
+}
+
+// The count, sum, least and greatest number of a quad of some numbers.
+fn push_parts(text: &mut String, quad: Quad) -> Result<(), Memory>
+    ensures { OnOk result (string_bytes text.new ≡ string_bytes text.old ++ parts_text quad) }
+{
+    let count = quad.count();
+    let sum = quad.sum();
+    write!(text, "{count}/{sum}/")?;
+    let least = quad.least();
+    let greatest = quad.greatest();
+    write!(text, "{least}/{greatest}")
+}
+
 /// The word of a question's kind.
 pub fn word(ask: &Ask) -> &str
     ensures { result.now ≡ word_of ask.now }
@@ -85,6 +126,7 @@ pub fn word(ask: &Ask) -> &str
         Ask::Measure(_, _, _) => "measure",
         Ask::Fired(_) => "fired",
         Ask::Top(_, _, _) => "top",
+        Ask::Groups(_) => "groups",
         Ask::Total(_, _) => "total",
     }
 }
@@ -129,6 +171,7 @@ pub fn places_of(body: &Body) -> &[u32]
         Body::Total(_) => &[],
         Body::Marks(_) => &[],
         Body::Tops(_) => &[],
+        Body::Groups(_) => &[],
     }
 }
 
@@ -142,6 +185,7 @@ pub fn push_body(text: &mut String, body: &Body, nums: &[u32]) -> Result<(), Mem
         Body::Total(quad) => push_quad(text, *quad),
         Body::Marks(marks) => push_marks(text, marks.as_slice()),
         Body::Tops(tops) => push_marks(text, tops.as_slice()),
+        Body::Groups(groups) => push_groups(text, groups),
     }
 }
 

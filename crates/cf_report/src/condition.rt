@@ -15,6 +15,7 @@ fn is_kind(ask: &Ask, body: &Body) -> bool
         Ask::Measure(_, _, _) => matches!(body, Body::Total(_)),
         Ask::Fired(_) => matches!(body, Body::Marks(_)),
         Ask::Top(_, _, _) => matches!(body, Body::Tops(_)),
+        Ask::Groups(_) => matches!(body, Body::Groups(_)),
         Ask::Total(_, _) => matches!(body, Body::Total(_)),
     }
 }
@@ -30,6 +31,7 @@ fn is_within(count: usize, body: &Body) -> bool
         Body::Total(_) => true,
         Body::Marks(_) => true,
         Body::Tops(_) => true,
+        Body::Groups(_) => true,
     }
 }
 

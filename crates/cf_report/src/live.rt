@@ -87,6 +87,7 @@ fn push_new_line(
         Body::Places(_) => Ok(()),
         Body::Total(_) => Ok(()),
         Body::Tops(_) => Ok(()),
+        Body::Groups(_) => Ok(()),
         Body::Marks(marks) => {
             let new = newly(alloc, marks_before(earlier, live.ask), marks.as_slice())?;
             push_head(text, setup, "new", live)?;

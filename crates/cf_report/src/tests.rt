@@ -1,18 +1,20 @@
 use super::*;
 use cf_fold::Quad;
-use cf_plain::{Answer, Body, Fired, Live, Loaded, Marks, Places};
+use cf_plain::{Answer, Body, Fired, Group, Groups, Live, Loaded, Marks, Places};
 use cf_row::{Entry, Memory, Row};
 use cf_setup::parse_setup;
 use std::alloc::Global;
 use std::test::Fail;
 
-// What a question found: places, numbers that were measured, buckets with their values, or the first keys with theirs.
+// What a question found: places, numbers that were measured, buckets with their values, the first keys with theirs, or all keys
+// with the numbers that were measured under them.
 #[derive(Drop)]
 enum Found<'a> {
     At(&'a [u32]),
     Of(&'a [u32]),
     In(&'a [(u64, u64)]),
     First(&'a [(u64, u64)]),
+    All(&'a [(u64, &'a [u32])]),
 }
 
 fn quad_of(values: &[u32]) -> Quad {
@@ -36,12 +38,24 @@ fn marks_of(alloc: Global, found: &[(u64, u64)]) -> Result<Marks, Memory> {
     Ok(Marks::new(marks))
 }
 
+fn groups_of(alloc: Global, found: &[(u64, &[u32])]) -> Result<Groups, Memory> {
+    let mut groups = Vec::new(alloc);
+    for (key, values) in found {
+        groups.push(Group {
+            key: *key,
+            quad: quad_of(values),
+        })?;
+    }
+    Ok(Groups::new(groups))
+}
+
 fn answer_of(alloc: Global, tail: u32, found: &Found) -> Result<Answer, Memory> {
     let body = match found {
         Found::At(places) => Body::Places(Places::new(places.to_vec(alloc)?)),
         Found::Of(values) => Body::Total(quad_of(values)),
         Found::In(marks) => Body::Marks(marks_of(alloc, marks)?),
         Found::First(keys) => Body::Tops(marks_of(alloc, keys)?),
+        Found::All(groups) => Body::Groups(groups_of(alloc, groups)?),
     };
     Ok(Answer { tail, body })
 }
@@ -131,7 +145,9 @@ const FEW: &str = "schema packet\n\
         ask g fired t\n\
         tally s src len *\n\
         ask h top s sum 2\n\
-        ask w total len len<=70\n";
+        ask w total len len<=70\n\
+        ask a1 groups a\n\
+        ask a2 groups s\n";
 
 #[test]
 fn each_kind_of_body_is_printed(rt: HostRuntime) -> Result<(), Fail> {
@@ -146,6 +162,8 @@ fn each_kind_of_body_is_printed(rt: HostRuntime) -> Result<(), Fail> {
             Found::In(&[(2, 100)]),
             Found::First(&[(167772161, 120), (167772162, 70)]),
             Found::Of(&[70, 20, 70]),
+            Found::All(&[(1, &[60]), (2, &[100])]),
+            Found::All(&[(167772161, &[100, 60])]),
         ],
         alerts: &[&[(2, 100)]],
         lives: &[],
@@ -160,6 +178,8 @@ fn each_kind_of_body_is_printed(rt: HostRuntime) -> Result<(), Fail> {
                 ask g fired 1: 2=100\n\
                 ask h top 2: 167772161=120 167772162=70\n\
                 ask w total count 3 sum 160 least 20 greatest 70\n\
+                ask a1 groups 2: 1=1/60/60/60 2=1/100/100/100\n\
+                ask a2 groups 1: 167772161=2/160/60/100\n\
                 alert t 2 100\n\
                 order 0*2\n",
         ),
@@ -172,6 +192,8 @@ fn each_kind_of_body_is_printed(rt: HostRuntime) -> Result<(), Fail> {
                 ask g fired 1: 2=100\n\
                 ask h top 2: 167772161=120 167772162=70\n\
                 ask w total count 3 sum 160 least 20 greatest 70\n\
+                ask a1 groups 2: 1=1/60/60/60 2=1/100/100/100\n\
+                ask a2 groups 1: 167772161=2/160/60/100\n\
                 alert t 2 100\n",
         ),
     ] {
@@ -196,12 +218,14 @@ fn of_no_number_the_least_and_greatest_are_a_dash(rt: HostRuntime) -> Result<(),
             Found::In(&[]),
             Found::First(&[]),
             Found::Of(&[]),
+            Found::All(&[]),
+            Found::All(&[]),
         ],
         alerts: &[&[]],
         lives: &[],
     };
     let text =
-        "records 0\nask q find 0:\nask b between 0:\nask m measure count 0 sum 0 least - greatest -\nask g fired 0:\nask h top 0:\nask w total count 0 sum 0 least - greatest -\norder\n";
+        "records 0\nask q find 0:\nask b between 0:\nask m measure count 0 sum 0 least - greatest -\nask g fired 0:\nask h top 0:\nask w total count 0 sum 0 least - greatest -\nask a1 groups 0:\nask a2 groups 0:\norder\n";
     assert_eq!(rt;
         text_of(alloc, &case, Form::Whole)?.as_deref(),
         Some(text.as_bytes())
@@ -287,6 +311,7 @@ fn answers_that_are_not_the_setups_are_told(rt: HostRuntime) -> Result<(), Fail>
         (&[Found::At(&[0, 2])], &[], false),
         (&[Found::In(&[])], &[], false),
         (&[Found::First(&[])], &[], false),
+        (&[Found::All(&[])], &[], false),
         (&[Found::At(&[])], &[(0, 1, 1, Found::At(&[0]))], false),
         (&[Found::At(&[])], &[(0, 0, 1, Found::Of(&[1]))], false),
         (&[Found::At(&[])], &[(0, 0, 1, Found::At(&[2]))], false),

@@ -57,6 +57,7 @@ on_within shape view is_final (asks.Find lane low high) = body_within shape (ask
 on_within shape view is_final (asks.Between lane low high) = body_within shape (asks.Between lane low high) view.rows
 on_within shape view is_final (asks.Measure lane low high) = tt
 on_within shape view is_final (asks.Top lane part count) = tt
+on_within shape view is_final (asks.Groups lane) = tt
 on_within shape view is_final (asks.Total attr expr) = tt
 
 pub near_ok : (shape : ShapeValue) (view : RoundView) (is_final : Bool) (ask : Ask) (r : Result Body AllocError) → view.to ≡ view.from + length view.rows

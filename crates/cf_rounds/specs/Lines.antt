@@ -46,6 +46,7 @@ body_on shape view is_final (asks.Find lane low high) = eval_rows shape (asks.Fi
 body_on shape view is_final (asks.Between lane low high) = eval_rows shape (asks.Between lane low high) view.rows
 body_on shape view is_final (asks.Measure lane low high) = eval_rows shape (asks.Measure lane low high) view.rows
 body_on shape view is_final (asks.Top lane part count) = eval_rows shape (asks.Top lane part count) view.rows
+body_on shape view is_final (asks.Groups lane) = eval_rows shape (asks.Groups lane) view.rows
 body_on shape view is_final (asks.Total attr expr) = eval_rows shape (asks.Total attr expr) view.rows
 
 -- a body, where the window's records are told by their numbers in the stream

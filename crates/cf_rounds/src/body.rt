@@ -39,6 +39,8 @@ pub(crate) fn push_told(text: &mut String, from: u64, body: &Body) -> Result<(),
 {
     match body {
         Body::Places(_) => push_numbers(text, from, places_of(body)),
-        Body::Total(_) | Body::Marks(_) | Body::Tops(_) => push_body(text, body, &[]),
+        Body::Total(_) | Body::Marks(_) | Body::Tops(_) | Body::Groups(_) => {
+            push_body(text, body, &[])
+        }
     }
 }

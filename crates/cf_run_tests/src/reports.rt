@@ -80,11 +80,14 @@ fn questions(alloc: Global) -> Result<Vec<u8>, Memory> {
         filter f caplen<2 || len==60\n\
         aggregate a f len\n\
         trigger t a sum > 70\n\
+        tally s kind len *\n\
         ask q find n 60 99\n\
         ask b between f 2 2\n\
         ask m measure a 1 2\n\
         ask e measure a 7 9\n\
         ask g fired t\n\
+        ask buckets groups a\n\
+        ask kinds groups s\n\
         live q\n"
         .to_vec(alloc)
 }
@@ -96,6 +99,8 @@ fn answers(alloc: Global) -> Result<Vec<u8>, Memory> {
         ask m measure count 2 sum 160 least 60 greatest 100\n\
         ask e measure count 0 sum 0 least - greatest -\n\
         ask g fired 1: 2=100\n\
+        ask buckets groups 2: 1=1/60/60/60 2=1/100/100/100\n\
+        ask kinds groups 1: 0=2/160/60/100\n\
         alert t 2 100\n\
         order 0*2\n"
         .to_vec(alloc)

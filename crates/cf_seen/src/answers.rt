@@ -49,6 +49,7 @@ fn marks_seen(
         Body::Places(_) => unreachable!(),
         Body::Total(_) => unreachable!(),
         Body::Tops(_) => unreachable!(),
+        Body::Groups(_) => unreachable!(),
     }
 }
 

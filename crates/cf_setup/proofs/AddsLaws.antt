@@ -16,8 +16,8 @@ use Rattle.cf_filter.specs.Grammar.{ValueText, ExprRead}
 use Rattle.cf_setup.specs.declared.source.Source.TheVariants.{Records}
 use Rattle.cf_setup.specs.Drafts.{DraftValue, attrs_of, with_lane, with_ask, index_over, filter_by}
 use Rattle.cf_setup.specs.Forms.{StatementFormValue}
-use Rattle.cf_setup.specs.Forms.StatementFormValue.{packet_schema, record_schema, bucket_width, new_index, new_filter, new_aggregate, new_tally, new_trigger, ask_list, ask_find, ask_buckets, ask_fired, ask_top, ask_total, ask_live}
-use Rattle.cf_setup.specs.Named.{place_in, is_index, is_filter, is_aggregate, is_tally, is_of, family_of, lane_named, trigger_named, index_kind}
+use Rattle.cf_setup.specs.Forms.StatementFormValue.{packet_schema, record_schema, bucket_width, new_index, new_filter, new_aggregate, new_tally, new_trigger, ask_list, ask_find, ask_buckets, ask_fired, ask_top, ask_groups, ask_total, ask_live}
+use Rattle.cf_setup.specs.Named.{place_in, is_index, is_filter, is_aggregate, is_tally, is_measuring, is_of, family_of, lane_named, trigger_named, index_kind}
 use Rattle.cf_lines.specs.Schemas.{schema_at}
 use Rattle.cf_setup.specs.Rules.{Broken, rules, expr_rules, IsBroken}
 use Rattle.cf_setup.specs.Rules.Rule.{schema_list, a_number, a_number_from, a_key}
@@ -126,6 +126,8 @@ module _ (line : ℕ) (before : DraftValue) where
   never (ask_top name tally part count) s h =
       no_then _ (lane_named is_tally before tally) h (λ e. s 6 (inr (inl (refl, e)))) (λ lane k.
       no_then _ (number_from 1 1000 count) k (λ e. s 7 (inr (inr (inl (refl, from_none 1 1000 count e))))) (λ n l. some_none l))
+  never (ask_groups name lane) s h =
+      s 6 (inr (inl (refl, map_none (λ found. with_ask before name (asks.Groups found.0)) (lane_named is_measuring before lane) h)))
   never (ask_total name attr expr) s h =
       no_then _ (attr_named (attrs_of before) attr) h (λ e. s 6 (inr (inl (refl, e)))) (λ found k.
       no_then _ (expr_of before expr) k (λ e. let broken = expr_breaks before expr e in s broken.0 (inr (inr (inr (inr broken.1))))) (λ read l. some_none l))
@@ -189,6 +191,7 @@ module _ (line : ℕ) (before : DraftValue) where
       option_and_then_some _ (number_from 1 1000 count) new k (λ n f l.
       let w = from_found 1 1000 count n f in
       (lane, n, e, w.value, w.least, w.most, some_same l)))
+  adds_found (ask_groups name lane) new h = map_some (λ found. with_ask before name (asks.Groups found.0)) (lane_named is_measuring before lane) new h
   adds_found (ask_total name attr expr) new h =
       option_and_then_some _ (attr_named (attrs_of before) attr) new h (λ found e k.
       option_and_then_some _ (expr_of before expr) new k (λ read f l. (found, read, e, expr_some before expr read f, some_same l)))
@@ -218,5 +221,6 @@ module _ (line : ℕ) (before : DraftValue) where
       rw (found, number_only U64 low h.1 ends.low_is, number_only U64 high h.2 ends.high_is) (ap Some (sym h.5))
   adds_only (ask_fired name trigger) new h = ap (option_map (λ found. with_ask before name (asks.Fired found))) h.1 ∙ ap Some (sym h.2)
   adds_only (ask_top name tally part count) new h = let lane = h.2 in rw (lane, from_only 1 1000 count h.1 h.3 h.4 h.5) (ap Some (sym h.6))
+  adds_only (ask_groups name lane) new h = ap (option_map (λ found. with_ask before name (asks.Groups found.0))) h.1 ∙ ap Some (sym h.2)
   adds_only (ask_total name attr expr) new h = let found = h.2 in rw (found, expr_known before expr h.1 h.3) (ap Some (sym h.4))
   adds_only (ask_live ask) new h = ap (option_map (λ place. record before { lives = before.lives ++ place ∷ [] })) h.1 ∙ ap Some (sym h.2)

@@ -15,7 +15,7 @@ use Rattle.cf_setup.specs.declared.statement.Question.TheVariants as questions
 use Rattle.cf_setup.specs.declared.ask_buckets.Buckets.TheVariants as buckets
 use Rattle.cf_lines.specs.Lines.{is_blank, next_word, last_word, new_name}
 use Rattle.cf_setup.specs.Forms.{StatementFormValue, is_schema_form, part_named, sign_named, question_named, schema_words, three_words, ranking_words, question_form, form_at}
-use Rattle.cf_setup.specs.Forms.StatementFormValue.{packet_schema, record_schema, bucket_width, new_index, new_filter, new_aggregate, new_tally, new_trigger, ask_list, ask_find, ask_buckets, ask_fired, ask_top, ask_total, ask_live}
+use Rattle.cf_setup.specs.Forms.StatementFormValue.{packet_schema, record_schema, bucket_width, new_index, new_filter, new_aggregate, new_tally, new_trigger, ask_list, ask_find, ask_buckets, ask_fired, ask_top, ask_groups, ask_total, ask_live}
 use Rattle.cf_setup.specs.Drafts.{DraftValue}
 use Rattle.cf_setup.specs.SetupText.{is_schema_statement, is_later, is_in_place}
 
@@ -73,6 +73,8 @@ question_fits questions.Fired name text form h = let m = mapped (ask_fired name)
     fits_as statements.Ask form (ask_fired name m.0) m.1 refl refl
 question_fits questions.Top name text form h = let m = mapped (λ words. ask_top name words.0 words.1 words.2) (ranking_words text) form h in
     fits_as statements.Ask form (ask_top name m.0.0 m.0.1 m.0.2) m.1 refl refl
+question_fits questions.Groups name text form h = let m = mapped (ask_groups name) (last_word text) form h in
+    fits_as statements.Ask form (ask_groups name m.0) m.1 refl refl
 question_fits questions.Total name text form h = let m = mapped (λ attr. ask_total name attr.0 attr.1) (next_word text) form h in
     fits_as statements.Ask form (ask_total name m.0.0 m.0.1) m.1 refl refl
 

@@ -24,7 +24,7 @@ use Rattle.cf_shape.specs.declared.lane.Lane.{Lane}
 use Rattle.cf_shape.specs.Lanes.{ShapeValue, no_lane, lane_at, is_number, is_narrow, is_lawful_key, is_lawful_measure, is_lawful_lane, option_passes}
 use Rattle.cf_plain.specs.declared.ask.Ask.{Ask}
 use Rattle.cf_plain.specs.declared.ask.Ask.TheVariants as asks
-use Rattle.cf_plain.specs.Asks.{exists, is_attr, is_indexed, is_bucketed, is_aggregate as is_aggregate_at, is_tally as is_tally_at, suits_trigger, suits_of}
+use Rattle.cf_plain.specs.Asks.{exists, is_attr, is_indexed, is_bucketed, is_aggregate as is_aggregate_at, is_tally as is_tally_at, is_measuring as is_measuring_at, suits_trigger, suits_of}
 use Rattle.cf_filter.specs.Reading.{attr_named}
 use Rattle.cf_filter.specs.Grammar.{ExprRead}
 use Rattle.cf_filter.proofs.Lawful.{named_stands, expr_fits}
@@ -37,8 +37,8 @@ use Rattle.cf_setup.specs.Drafts.{DraftValue, nothing_stated, attrs_of, with_lan
 use Rattle.cf_setup.specs.Setups.{settled, shaped, IsSetup, IsDraft}
 use Rattle.cf_setup.specs.Few.{IsFew}
 use Rattle.cf_setup.specs.Forms.{StatementFormValue, is_schema_form}
-use Rattle.cf_setup.specs.Forms.StatementFormValue.{packet_schema, record_schema, bucket_width, new_index, new_filter, new_aggregate, new_tally, new_trigger, ask_list, ask_find, ask_buckets, ask_fired, ask_top, ask_total, ask_live}
-use Rattle.cf_setup.specs.Named.{place_in, is_index, is_filter, is_aggregate, is_tally, is_of, family_of, asked_of, lane_named, trigger_named}
+use Rattle.cf_setup.specs.Forms.StatementFormValue.{packet_schema, record_schema, bucket_width, new_index, new_filter, new_aggregate, new_tally, new_trigger, ask_list, ask_find, ask_buckets, ask_fired, ask_top, ask_groups, ask_total, ask_live}
+use Rattle.cf_setup.specs.Named.{place_in, is_index, is_filter, is_aggregate, is_tally, is_measuring, is_of, family_of, asked_of, lane_named, trigger_named}
 use Rattle.cf_setup.specs.Rules.{rules, IsBroken}
 use Rattle.cf_setup.specs.Adds.{Adds, with_schema}
 use Rattle.cf_setup.specs.SetupText.{is_schema_statement, is_later, is_in_place, States, LineRead}
@@ -106,6 +106,9 @@ tally_more s lane k h =
     and_from (is_indexed (grown s lane) k) (is_some (lane_at (grown s lane) k).measure) (indexed_more s lane k both.0)
     (ap (λ l. is_some l.measure) (lane_kept s lane k there.0) ∙ both.1)
 
+measuring_more : (s : ShapeValue) (lane : Lane) (k : ℕ) → is_measuring_at s k ≡ true → is_measuring_at (grown s lane) k ≡ true
+measuring_more s lane k h = kept (λ l. is_some l.measure) s lane k h
+
 trigger_more : (s : ShapeValue) (lane : Lane) (trigger : Trigger) → suits_trigger s trigger ≡ true → suits_trigger (grown s lane) trigger ≡ true
 trigger_more s lane trigger h =
     let both = and_parts (is_aggregate_at s trigger.agg) (not (is_range trigger.op)) h in
@@ -122,6 +125,7 @@ ask_more s lane (asks.Top k part n) h =
     let first = and_parts (is_tally_at s k) (nat_le 1 n) both.0 in
     and_from (is_tally_at (grown s lane) k && nat_le 1 n) (nat_le n 1000)
     (and_from (is_tally_at (grown s lane) k) (nat_le 1 n) (tally_more s lane k first.0) first.1) both.1
+ask_more s lane (asks.Groups k) h = measuring_more s lane k h
 ask_more s lane (asks.Total attr expr) h = h
 
 below : (a b : ℕ) → (b ≤ a → ⊥) → a < b
@@ -309,6 +313,13 @@ module _ (before : DraftValue) (attrs : List Attr) (is : IsSetup (settled before
       and_from (is_indexed (shaped (settled before attrs) c w n) found.0) (is_some lane.measure)
       (and_from (exists (shaped (settled before attrs) c w n) found.0) (is_attr lane.key) there.0 both.0) both.1
 
+  measuring_there : (name : List ℕ) (found : ℕ × Lane) (c w n : ℕ) → lane_named is_measuring before name ≡ Some found
+      → is_measuring_at (shaped (settled before attrs) c w n) found.0 ≡ true
+  measuring_there name found c w n h =
+      let there = lane_there is_measuring name found c w n h in
+      let lane : Lane = lane_at (shaped (settled before attrs) c w n) found.0 in
+      and_from (exists (shaped (settled before attrs) c w n) found.0) (is_some lane.measure) there.0 there.1
+
   trigger_suits : (name : List ℕ) (found : Trigger) (c w n : ℕ) → trigger_named before name ≡ Some found
       → suits_trigger (shaped (settled before attrs) c w n) found ≡ true
   trigger_suits name found c w n h =
@@ -483,6 +494,12 @@ later line before (ask_top name tally part count) new attrs e is k sign s h =
           (and_from (is_tally_at (shaped (settled before attrs) c w m) lane.0) (nat_le 1 n) (tally_there before attrs is tally lane c w m h.2)
           (le-leb 1 n h.4)) (le-leb n 1000 h.5)),
     )
+later line before (ask_groups name lane) new attrs e is k sign s h =
+    subst (λ (x : DraftValue). (x.schema ≡ Some attrs) × IsSetup (settled x attrs)) (sym h.2) (
+      e,
+      ask_step before attrs is name (asks.Groups (h.0).0) (λ full. s 9 (inr (inr (inl (refl, full)))))
+          (λ c w n. measuring_there before attrs is lane h.0 c w n h.1),
+    )
 later line before (ask_total name attr expr) new attrs e is k sign s h =
     let found = h.0 in
     let same : attrs_of before ≡ attrs = ap (λ o. unwrap_or o []) e in
@@ -514,6 +531,7 @@ started line (ask_find name index low high) new k h = absurd (false≢true k)
 started line (ask_buckets what name lane low high) new k h = absurd (false≢true k)
 started line (ask_fired name trigger) new k h = absurd (false≢true k)
 started line (ask_top name tally part count) new k h = absurd (false≢true k)
+started line (ask_groups name lane) new k h = absurd (false≢true k)
 started line (ask_total name attr expr) new k h = absurd (false≢true k)
 started line (ask_live ask) new k h = absurd (false≢true k)
 

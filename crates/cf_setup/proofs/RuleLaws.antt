@@ -20,7 +20,7 @@ use Rattle.cf_filter.proofs.ValueLaws.{value_only, value_found}
 use Rattle.cf_filter.proofs.ExprLaws.{expr_only}
 use Rattle.cf_setup.specs.Drafts.{DraftValue, attrs_of}
 use Rattle.cf_setup.specs.Forms.{StatementFormValue}
-use Rattle.cf_setup.specs.Forms.StatementFormValue.{packet_schema, record_schema, bucket_width, new_index, new_filter, new_aggregate, new_tally, new_trigger, ask_list, ask_find, ask_buckets, ask_fired, ask_top, ask_total, ask_live}
+use Rattle.cf_setup.specs.Forms.StatementFormValue.{packet_schema, record_schema, bucket_width, new_index, new_filter, new_aggregate, new_tally, new_trigger, ask_list, ask_find, ask_buckets, ask_fired, ask_top, ask_groups, ask_total, ask_live}
 use Rattle.cf_setup.specs.Named.{place_in, is_of, lane_named, trigger_named, index_kind}
 use Rattle.cf_lines.specs.Schemas.{schema_at}
 use Rattle.cf_setup.specs.Rules.{Rule, Broken, rules, expr_rules, IsBroken}
@@ -257,5 +257,6 @@ ascends (ask_find name index low high) = (omega arith, (omega arith, (omega arit
 ascends (ask_buckets what name lane low high) = (omega arith, (omega arith, (omega arith, (omega arith, (omega arith, tt)))))
 ascends (ask_fired name trigger) = (omega arith, (omega arith, (omega arith, tt)))
 ascends (ask_top name tally part count) = (omega arith, (omega arith, (omega arith, (omega arith, tt))))
+ascends (ask_groups name lane) = (omega arith, (omega arith, (omega arith, tt)))
 ascends (ask_total name attr expr) = (omega arith, (omega arith, (omega arith, (omega arith, expr_ascends expr))))
 ascends (ask_live ask) = (omega arith, (omega arith, tt))

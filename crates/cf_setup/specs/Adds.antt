@@ -15,8 +15,8 @@ use Rattle.cf_setup.specs.declared.source.Source.{Source}
 use Rattle.cf_setup.specs.declared.source.Source.TheVariants.{Packets, Records}
 use Rattle.cf_setup.specs.Drafts.{DraftValue, attrs_of, with_lane, with_trigger, with_ask, index_over, filter_by, aggregate_by, tally_by}
 use Rattle.cf_setup.specs.Forms.{StatementFormValue}
-use Rattle.cf_setup.specs.Forms.StatementFormValue.{packet_schema, record_schema, bucket_width, new_index, new_filter, new_aggregate, new_tally, new_trigger, ask_list, ask_find, ask_buckets, ask_fired, ask_top, ask_total, ask_live}
-use Rattle.cf_setup.specs.Named.{place_in, is_index, is_filter, is_aggregate, is_tally, is_of, family_of, asked_of, lane_named, trigger_named, index_kind}
+use Rattle.cf_setup.specs.Forms.StatementFormValue.{packet_schema, record_schema, bucket_width, new_index, new_filter, new_aggregate, new_tally, new_trigger, ask_list, ask_find, ask_buckets, ask_fired, ask_top, ask_groups, ask_total, ask_live}
+use Rattle.cf_setup.specs.Named.{place_in, is_index, is_filter, is_aggregate, is_tally, is_measuring, is_of, family_of, asked_of, lane_named, trigger_named, index_kind}
 use Rattle.cf_lines.specs.Schemas.{ListText}
 
 -- a schema at that line
@@ -60,6 +60,8 @@ Adds line before (ask_fired name trigger) new =
 Adds line before (ask_top name tally part count) new =
     (lane : ℕ × Lane) × (n : ℕ) × (lane_named is_tally before tally ≡ Some lane) × ValueText U64 count (Num n) × (1 ≤ n) × (n ≤ 1000)
     × (new ≡ with_ask before name (asks.Top lane.0 part n))
+Adds line before (ask_groups name lane) new =
+    (found : ℕ × Lane) × (lane_named is_measuring before lane ≡ Some found) × (new ≡ with_ask before name (asks.Groups found.0))
 Adds line before (ask_total name attr expr) new =
     (found : ℕ × Kind) × (read : List (List Atom)) × (attr_named (attrs_of before) attr ≡ Some found) × ExprRead (attrs_of before) expr (Ok read)
     × (new ≡ with_ask before name (asks.Total found.0 read))

@@ -35,6 +35,7 @@ pub data StatementFormValue : Type 0 where
   ask_buckets : (what : Buckets) (name lane low high : List ℕ) → StatementFormValue
   ask_fired : (name trigger : List ℕ) → StatementFormValue
   ask_top : (name tally : List ℕ) (part : Part) (count : List ℕ) → StatementFormValue
+  ask_groups : (name lane : List ℕ) → StatementFormValue
   ask_total : (name attr expr : List ℕ) → StatementFormValue
   ask_live : (ask : List ℕ) → StatementFormValue
 
@@ -60,7 +61,8 @@ question_named word =
     if bytes_eq word (codes "measure") then Some questions.Measure else (
     if bytes_eq word (codes "fired") then Some questions.Fired else (
     if bytes_eq word (codes "top") then Some questions.Top else (
-    if bytes_eq word (codes "total") then Some questions.Total else None))))))
+    if bytes_eq word (codes "groups") then Some questions.Groups else (
+    if bytes_eq word (codes "total") then Some questions.Total else None)))))))
 
 -- the part of a quad that a word says
 abbrev pub part_named : List ℕ → Option Part
@@ -150,7 +152,7 @@ ranking_words text = do
   Some (tally.0, part_is, count)
 
 -- list EXPRESSION; find INDEX LOW HIGH; between FILTER LOW HIGH; measure AGGREGATE LOW HIGH; fired TRIGGER;
--- top TALLY PART COUNT; total ATTRIBUTE EXPRESSION
+-- top TALLY PART COUNT; groups LANE; total ATTRIBUTE EXPRESSION
 abbrev pub question_form : Question → List ℕ → List ℕ → Option StatementFormValue
 question_form questions.List name text = Some (ask_list name text)
 question_form questions.Find name text = option_map (λ words. ask_find name words.0 words.1 words.2) (three_words text)
@@ -158,6 +160,7 @@ question_form questions.Between name text = option_map (λ words. ask_buckets bu
 question_form questions.Measure name text = option_map (λ words. ask_buckets buckets.Measure name words.0 words.1 words.2) (three_words text)
 question_form questions.Fired name text = option_map (ask_fired name) (last_word text)
 question_form questions.Top name text = option_map (λ words. ask_top name words.0 words.1 words.2) (ranking_words text)
+question_form questions.Groups name text = option_map (ask_groups name) (last_word text)
 question_form questions.Total name text = option_map (λ attr. ask_total name attr.0 attr.1) (next_word text)
 
 -- ask NAME, and then a question
@@ -199,6 +202,7 @@ form_value (reads.Find name over) = ask_find name.now over.lane.now over.low.now
 form_value (reads.Buckets name what over) = ask_buckets what name.now over.lane.now over.low.now over.high.now
 form_value (reads.Fired name trigger) = ask_fired name.now trigger.now
 form_value (reads.Top name by) = ask_top name.now by.tally.now by.part by.count.now
+form_value (reads.Groups name lane) = ask_groups name.now lane.now
 form_value (reads.Total name attr expr) = ask_total name.now attr.now expr.now
 form_value (reads.Live ask) = ask_live ask.now
 
@@ -227,5 +231,6 @@ HasWords (ask_find name index low high) = IsAscii name
 HasWords (ask_buckets what name lane low high) = IsAscii name
 HasWords (ask_fired name trigger) = IsAscii name
 HasWords (ask_top name tally part count) = IsAscii name
+HasWords (ask_groups name lane) = IsAscii name
 HasWords (ask_total name attr expr) = IsAscii name × (length expr < 2 ^ 32)
 HasWords (ask_live ask) = Unit {0}

@@ -47,12 +47,17 @@ is_aggregate lane = not (is_attr lane.key) && is_some lane.measure
 abbrev pub is_tally : Lane → Bool
 is_tally lane = is_attr lane.key && is_some lane.measure
 
+-- rows by either, with an attribute that is measured: an aggregate or a tally
+abbrev pub is_measuring : Lane → Bool
+is_measuring lane = is_some lane.measure
+
 -- the lane is of the family
 abbrev pub is_of : Family → Lane → Bool
 is_of families.Index lane = is_index lane
 is_of families.Filter lane = is_filter lane
 is_of families.Aggregate lane = is_aggregate lane
 is_of families.Tally lane = is_tally lane
+is_of families.Measuring lane = is_measuring lane
 
 -- the family of the lane whose buckets are asked about
 abbrev pub family_of : Buckets → Family

@@ -31,8 +31,8 @@ use Rattle.cf_setup.specs.Codes.{code_number}
 use Rattle.cf_lines.specs.Lines.{lines_of, is_silent, word_at}
 use Rattle.cf_setup.specs.Drafts.{DraftValue, nothing_stated, attrs_of, with_lane, with_trigger, with_ask, index_over, filter_by, aggregate_by, tally_by}
 use Rattle.cf_setup.specs.Forms.{StatementFormValue, statement_named, form_at}
-use Rattle.cf_setup.specs.Forms.StatementFormValue.{packet_schema, record_schema, bucket_width, new_index, new_filter, new_aggregate, new_tally, new_trigger, ask_list, ask_find, ask_buckets, ask_fired, ask_top, ask_total, ask_live}
-use Rattle.cf_setup.specs.Named.{is_taken, place_in, is_index, is_filter, is_aggregate, is_tally, is_of, family_of, asked_of, lane_named, trigger_named, index_kind}
+use Rattle.cf_setup.specs.Forms.StatementFormValue.{packet_schema, record_schema, bucket_width, new_index, new_filter, new_aggregate, new_tally, new_trigger, ask_list, ask_find, ask_buckets, ask_fired, ask_top, ask_groups, ask_total, ask_live}
+use Rattle.cf_setup.specs.Named.{is_taken, place_in, is_index, is_filter, is_aggregate, is_tally, is_measuring, is_of, family_of, asked_of, lane_named, trigger_named, index_kind}
 use Rattle.cf_lines.specs.Schemas.{schema_at}
 use Rattle.cf_setup.specs.Rules.{Rule, rules, expr_rules}
 use Rattle.cf_setup.specs.Rules.Rule.{schema_list, free_name, live_once, known_attr, known_lane, known_trigger, known_ask, a_number, a_number_from, a_key, number_attr, narrow_attr, lane_room, trigger_room, ask_room, no_offence}
@@ -157,6 +157,7 @@ added line before (ask_top name tally part count) = do
   lane ← lane_named is_tally before tally
   n ← number_from 1 1000 count
   Some (with_ask before name (asks.Top lane.0 part n))
+added line before (ask_groups name lane) = option_map (λ found. with_ask before name (asks.Groups found.0)) (lane_named is_measuring before lane)
 added line before (ask_total name attr expr) = do
   found ← attr_named (attrs_of before) attr
   read ← expr_of before expr

@@ -15,7 +15,7 @@ use Rattle.cf_setup.specs.declared.draft.Family.{Family}
 use Rattle.cf_setup.specs.declared.draft.Family.TheVariants as families
 use Rattle.cf_setup.specs.Drafts.{DraftValue, attrs_of}
 use Rattle.cf_setup.specs.Forms.{StatementFormValue}
-use Rattle.cf_setup.specs.Forms.StatementFormValue.{packet_schema, record_schema, bucket_width, new_index, new_filter, new_aggregate, new_tally, new_trigger, ask_list, ask_find, ask_buckets, ask_fired, ask_top, ask_total, ask_live}
+use Rattle.cf_setup.specs.Forms.StatementFormValue.{packet_schema, record_schema, bucket_width, new_index, new_filter, new_aggregate, new_tally, new_trigger, ask_list, ask_find, ask_buckets, ask_fired, ask_top, ask_groups, ask_total, ask_live}
 use Rattle.cf_setup.specs.Named.{is_taken, place_in, is_of, family_of, lane_named, trigger_named, index_kind}
 use Rattle.cf_lines.specs.Schemas.{ListText}
 
@@ -87,6 +87,7 @@ rules (ask_buckets what name lane low high) =
     (5, free_name name) ∷ (6, known_lane (family_of what) lane) ∷ (7, a_number low) ∷ (7, a_number high) ∷ (9, ask_room) ∷ []
 rules (ask_fired name trigger) = (5, free_name name) ∷ (6, known_trigger trigger) ∷ (9, ask_room) ∷ []
 rules (ask_top name tally part count) = (5, free_name name) ∷ (6, known_lane families.Tally tally) ∷ (7, a_number_from 1 1000 count) ∷ (9, ask_room) ∷ []
+rules (ask_groups name lane) = (5, free_name name) ∷ (6, known_lane families.Measuring lane) ∷ (9, ask_room) ∷ []
 rules (ask_total name attr expr) = (5, free_name name) ∷ (6, known_attr attr) ∷ (8, narrow_attr attr) ∷ (9, ask_room) ∷ expr_rules expr
 rules (ask_live ask) = (5, live_once ask) ∷ (6, known_ask ask) ∷ []
 

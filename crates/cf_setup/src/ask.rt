@@ -82,6 +82,10 @@ fn question_form<'a>(
             name,
             by: ranking_of(text)?,
         }),
+        Question::Groups => Some(StatementForm::Groups {
+            name,
+            lane: last_word(text)?,
+        }),
         Question::Total => {
             let (attr, expr) = next_word(text)?;
             Some(StatementForm::Total { name, attr, expr })

@@ -62,6 +62,8 @@ pub(crate) enum Family {
     Filter,
     Aggregate,
     Tally,
+    /// An aggregate or a tally.
+    Measuring,
 }
 
 impl Family {
@@ -77,6 +79,7 @@ impl Family {
             Family::Filter => !is_indexed && lane.measure.is_none(),
             Family::Aggregate => !is_indexed && lane.measure.is_some(),
             Family::Tally => is_indexed && lane.measure.is_some(),
+            Family::Measuring => lane.measure.is_some(),
         }
     }
 }

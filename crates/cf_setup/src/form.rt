@@ -70,6 +70,10 @@ pub(crate) enum StatementForm<'a> {
         name: &'a [u8],
         by: Ranking<'a>,
     },
+    Groups {
+        name: &'a [u8],
+        lane: &'a [u8],
+    },
     Total {
         name: &'a [u8],
         attr: &'a [u8],

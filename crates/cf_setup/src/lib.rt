@@ -9,6 +9,7 @@ mod ask;
 mod ask_buckets;
 mod ask_find;
 mod ask_fired;
+mod ask_groups;
 mod ask_list;
 mod ask_top;
 mod ask_total;

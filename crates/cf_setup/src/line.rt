@@ -9,6 +9,7 @@ use crate::aggregate::add_aggregate;
 use crate::ask_buckets::add_buckets;
 use crate::ask_find::add_find;
 use crate::ask_fired::add_fired;
+use crate::ask_groups::add_groups;
 use crate::ask_list::add_list;
 use crate::ask_top::add_top;
 use crate::ask_total::add_total;
@@ -80,6 +81,7 @@ fn add_statement(
         ),
         StatementForm::Fired { name, trigger } => add_fired(alloc, line, draft, name, trigger),
         StatementForm::Top { name, by } => add_top(alloc, line, draft, name, by),
+        StatementForm::Groups { name, lane } => add_groups(alloc, line, draft, name, lane),
         StatementForm::Total { name, attr, expr } => add_total(
             alloc, line, draft, name, attr, expr,
         ),

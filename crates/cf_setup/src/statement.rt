@@ -25,6 +25,7 @@ pub(crate) enum Question {
     Measure,
     Fired,
     Top,
+    Groups,
     Total,
 }
 
@@ -83,6 +84,9 @@ pub(crate) fn question_of(word: &[u8]) -> Option<Question>
     }
     if word == b"top".as_slice() {
         return Some(Question::Top);
+    }
+    if word == b"groups".as_slice() {
+        return Some(Question::Groups);
     }
     if word == b"total".as_slice() {
         return Some(Question::Total);

@@ -69,6 +69,13 @@ fn each_line_has_its_least_code(rt: HostRuntime) -> Result<(), Fail> {
         ("tally t src len *\nask h top t sum 1", (0, 0)),
         ("tally t src len *\nask h top t sum 1000", (0, 0)),
         ("tally t src len *\nask h top t sum 1001", (3, 7)),
+        ("tally t src len *\nask h groups t", (0, 0)),
+        ("filter f *\naggregate a f len\nask h groups a", (0, 0)),
+        ("filter f *\naggregate a f len\nask h groups f", (4, 6)),
+        ("index i src\nask h groups i", (3, 6)),
+        ("tally t src len *\nask h groups", (3, 3)),
+        ("tally t src len *\nask h groups t 3", (3, 3)),
+        ("tally t src len *\nask t groups t", (3, 5)),
         ("ask t total len len<=70", (0, 0)),
         ("ask t total", (2, 3)),
         ("ask t total nosuch *", (2, 6)),
@@ -223,6 +230,7 @@ ask m measure a 1 3
 ask g fired t
 ask l list *
 ask h top y sum 2
+ask s groups a
 ask o total len len<=70
 live g
 live q
@@ -241,6 +249,7 @@ fn numbers(ask: &Ask) -> (u8, u64, u64) {
         Ask::Measure(lane, low, high) => (*lane, *low, *high),
         Ask::Fired(trigger) => (trigger.agg, trigger.number, 0),
         Ask::Top(lane, part, count) => (*lane, *part as u64, *count as u64),
+        Ask::Groups(lane) => (*lane, 0, 0),
         Ask::Total(attr, _) => (*attr, 0, 0),
     }
 }
@@ -255,6 +264,7 @@ fn a_setup_states_asks_by_their_names(rt: HostRuntime) -> Result<(), Fail> {
         ("g", (2, 70, 0)),
         ("l", (9, 0, 0)),
         ("h", (3, 1, 2)),
+        ("s", (2, 0, 0)),
         ("o", (2, 0, 0)),
     ];
     for ((name, want), (ask_name, ask)) in wanted
@@ -264,7 +274,7 @@ fn a_setup_states_asks_by_their_names(rt: HostRuntime) -> Result<(), Fail> {
         assert_eq!(rt; ask_name.as_str(), *name);
         assert_eq!(rt; numbers(ask), *want, "{name}");
     }
-    assert_eq!(rt; setup.lives(), [3, 0, 5, 6].as_slice());
+    assert_eq!(rt; setup.lives(), [3, 0, 5, 7].as_slice());
     Ok(())
 }
 

@@ -38,12 +38,21 @@ use Rattle.cf_calls.specs.declared.refusals.RowRefusal.TheVariants as rows
 abbrev pub mark_words : Fired → List ℕ
 mark_words m = m.bucket ∷ m.value ∷ []
 
--- the words of a body: places; or count, sum, least and greatest; or marks
+-- a group as its key, and then its quad
+abbrev pub group_words : ℕ × QuadValue → List ℕ
+group_words g = g.0 ∷ g.1.count ∷ g.1.sum ∷ g.1.least ∷ g.1.greatest ∷ []
+
+-- the words of groups
+abbrev pub groups_words : List (ℕ × QuadValue) → List ℕ
+groups_words gs = flat_map group_words gs
+
+-- the words of a body: places; or count, sum, least and greatest; or marks; or groups
 abbrev pub body_words : Body → List ℕ
 body_words (bodies.Places places) = places
 body_words (bodies.Total quad) = quad.count ∷ quad.sum ∷ quad.least ∷ quad.greatest ∷ []
 body_words (bodies.Marks marks) = flat_map mark_words marks
 body_words (bodies.Tops marks) = flat_map mark_words marks
+body_words (bodies.Groups groups) = groups_words groups
 
 -- the number of a body's kind
 abbrev pub body_kind : Body → ℕ
@@ -51,6 +60,7 @@ body_kind (bodies.Places places) = 0
 body_kind (bodies.Total quad) = 1
 body_kind (bodies.Marks marks) = 2
 body_kind (bodies.Tops marks) = 3
+body_kind (bodies.Groups groups) = 4
 
 -- the question of that number was asked, and the body is its meaning on all that the pass has seen then
 pub record IsAnswer (shared : Shared) (question : ℕ) (m n : PassValue) (answer : Answer) : Type 0 where
@@ -152,14 +162,6 @@ pub record AsksTail (m n : Reader) (tail : ℕ) : Type 0 where
   pub words : n.words.items ≡ m.words.items
   pub asked : HasAsked (arc_value m.of).log.shape m.pass n.pass
   pub tail_is : tail ≡ length (n.pass.view).seen
-
--- a group as its key, and then its quad
-abbrev pub group_words : ℕ × QuadValue → List ℕ
-group_words g = g.0 ∷ g.1.count ∷ g.1.sum ∷ g.1.least ∷ g.1.greatest ∷ []
-
--- the words of groups
-abbrev pub groups_words : List (ℕ × QuadValue) → List ℕ
-groups_words gs = flat_map group_words gs
 
 -- the lane is there, and measures something
 pub record IsMeasured (shared : Shared) (lane : ℕ) : Type 0 where

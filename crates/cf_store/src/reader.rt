@@ -57,6 +57,7 @@ fn body_words(alloc: Global, body: &Body) -> Result<Vec<u64>, NoMemory>
         Body::Total(quad) => quad_words(alloc, *quad),
         Body::Marks(marks) => mark_words(alloc, marks.as_slice()),
         Body::Tops(tops) => mark_words(alloc, tops.as_slice()),
+        Body::Groups(groups) => group_words(alloc, groups.as_slice()),
     }
 }
 
@@ -68,6 +69,7 @@ fn body_kind(body: &Body) -> u32
         Body::Total(_) => 1,
         Body::Marks(_) => 2,
         Body::Tops(_) => 3,
+        Body::Groups(_) => 4,
     }
 }
 

@@ -21,12 +21,13 @@ use Rattle.confluo_example.specs.declared.Found.{Found}
 abbrev pub sent : ℕ → ℕ → RowValue
 sent source k = record { num = k; values = Num (100 * k) ∷ Num source ∷ Num (60 + 10 * k) ∷ [] }
 
--- what an answer comes to: a sum, or how many places, buckets or keys were found
+-- what an answer comes to: a sum, or how many places, buckets, keys or groups were found
 abbrev pub figure_of : Body → ℕ
 figure_of (bodies.Places places) = length places
 figure_of (bodies.Total quad) = quad.sum
 figure_of (bodies.Marks marks) = length marks
 figure_of (bodies.Tops keys) = length keys
+figure_of (bodies.Groups groups) = length groups
 
 -- Pass 0 has appended the first rows and pass 1 the second, all of them, and meanwhile each question was asked of entries that the root
 -- has seen.

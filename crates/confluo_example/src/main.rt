@@ -155,6 +155,7 @@ fn figure(answer: &Answer) -> u64
         Body::Total(quad) => quad.sum(),
         Body::Marks(marks) => marks.as_slice().len() as u64,
         Body::Tops(keys) => keys.as_slice().len() as u64,
+        Body::Groups(groups) => groups.as_slice().len() as u64,
     }
 }
 

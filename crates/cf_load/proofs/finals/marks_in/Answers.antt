@@ -36,6 +36,15 @@ unreachable-requires-in-Tops c =
     let both : bodies.Marks is.0 ≡ bodies.Tops c.in-Tops.field-0 = sym is.1 ∙ c.in-Tops.is in
     absurd (cc both)
 
+pub unreachable-requires-in-Groups : goal.unreachable-requires-in-Groups
+unreachable-requires-in-Groups c =
+    let rest : List Answer = into_iter_items c.next.new.self in
+    let split : into_iter_items c.loop-answer.answer-iterator ≡ c.in-Some.answer ∷ rest = c.in-Some.ensures.steps.0 in
+    let all : All IsMarks (c.in-Some.answer ∷ rest) = subst (λ (xs : List Answer). All IsMarks xs) split c.loop-answer.invariant.rest in
+    let is = all 0 c.in-Some.answer (omega arith) in
+    let both : bodies.Marks is.0 ≡ bodies.Groups c.in-Groups.field-0 = sym is.1 ∙ c.in-Groups.is in
+    absurd (cc both)
+
 pub loop-answer-init : goal.loop-answer-init
 loop-answer-init c = record {
   rest = subst (λ (xs : List Answer). All IsMarks xs) (sym c.into_iter-answer-iterator.ensures.into_iter_gives.0) c.requires.marks;
