@@ -188,7 +188,7 @@ typedef enum confluo_kind {
     CONFLUO_QUAD = 1,   /* measure, total: count, sum, least, greatest; of no record four times 0 */
     CONFLUO_MARKS = 2,  /* fired: pairs of a bucket and its value, by ascending bucket */
     CONFLUO_TOPS = 3,   /* top: pairs of a key and its value, the heaviest first, ties by ascending key */
-    CONFLUO_GROUPS = 4  /* confluo_groups: a bucket or key, count, sum, least, greatest, and so on, by ascending bucket or key */
+    CONFLUO_GROUPS = 4  /* groups, confluo_groups: a bucket or key, count, sum, least, greatest, and so on, by ascending bucket or key */
 } confluo_kind;
 
 /* What a setup names. Each sort is numbered from 0, in the order of the lines. */
@@ -205,8 +205,8 @@ typedef enum confluo_sort {
 **   lane         kind: 0 index, 1 filter, 2 aggregate, 3 tally; of: the attribute of the keys (index, tally); size: the attribute that is
 **                measured (aggregate, tally)
 **   trigger      of: the lane of its aggregate; part; op; low: its number
-**   question     kind: 0 list, 1 find, 2 between, 3 measure, 4 fired, 5 top, 6 total; of: the lane it is about, of a total the attribute, of a
-**                list 0; part: of a fired or a top; op: of a fired; low: the least value of its range, of a fired the number; high: the
+**   question     kind: 0 list, 1 find, 2 between, 3 measure, 4 fired, 5 top, 6 total, 7 groups; of: the lane it is about, of a total the
+**                attribute, of a list 0; part: of a fired or a top; op: of a fired; low: the least value of its range, of a fired the number; high: the
 **                greatest value of its range; size: of a top how many keys
 **
 ** `part` is 0 count, 1 sum, 2 least, 3 greatest; `op` is 0 ==, 1 !=, 2 <, 3 <=, 4 >, 5 >=. */

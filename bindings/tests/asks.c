@@ -80,7 +80,7 @@ static void lines(void) {
         const char *line;
         uint32_t code, fault, kind;
         size_t count;
-        uint64_t words[4];
+        uint64_t words[5];
     } cases[] = {
         {"ask some find keys 7 7", CONFLUO_OK, 7, CONFLUO_PLACES, 2, {0, 2}},
         {"  ask long list len>20", CONFLUO_OK, 7, CONFLUO_PLACES, 1, {1}},
@@ -88,6 +88,7 @@ static void lines(void) {
         {"ask seconds measure sums 0 9", CONFLUO_OK, 7, CONFLUO_QUAD, 4, {3, 55, 10, 25}},
         {"ask marks fired large", CONFLUO_OK, 7, CONFLUO_MARKS, 2, {0, 55}},
         {"ask best top kinds sum 1", CONFLUO_OK, 7, CONFLUO_TOPS, 2, {7, 30}},
+        {"ask each groups sums", CONFLUO_OK, 7, CONFLUO_GROUPS, 5, {0, 3, 55, 10, 25}},
         {"ask all list *", CONFLUO_SETUP, 5, 0, 0, {0}},
         {"ask other find lost 7 7", CONFLUO_SETUP, 6, 0, 0, {0}},
         {"ask other find keys 7", CONFLUO_SETUP, 3, 0, 0, {0}},
@@ -102,24 +103,24 @@ static void lines(void) {
     };
     static const uint64_t rows[3][3] = {{1, 7, 10}, {2, 8, 25}, {3, 7, 20}};
     parts it = parts_of(setup, 8, 64);
-    uint64_t words[4];
+    uint64_t words[5];
     uint32_t offset;
     for (uint32_t k = 0; k < 3; k++) is(confluo_append_values(it.writer, k, rows[k], 3, &offset), CONFLUO_OK, "append");
     for (int twice = 0; twice < 2; twice++)
         for (size_t k = 0; k < sizeof cases / sizeof *cases; k++) {
             confluo_head head = {9, 9, 9};
             confluo_fault fault = {7, 7};
-            size_t kept = confluo_words(it.reader, 0, words, 4);
+            size_t kept = confluo_words(it.reader, 0, words, 5);
             is(confluo_ask_text(it.reader, cases[k].line, strlen(cases[k].line), &head, &fault), cases[k].code, cases[k].line);
             is(fault.code, cases[k].fault, cases[k].line);
             is(fault.line, fault.code == 7 ? 7 : 1, "the line is one");
             if (cases[k].code == CONFLUO_OK) {
                 is(head.tail == 3 && head.kind == cases[k].kind && head.count == cases[k].count, 1, cases[k].line);
-                is(confluo_words(it.reader, 0, words, 4), cases[k].count, cases[k].line);
+                is(confluo_words(it.reader, 0, words, 5), cases[k].count, cases[k].line);
                 is(memcmp(words, cases[k].words, cases[k].count * sizeof *words), 0, cases[k].line);
             } else {
                 is(head.tail == 9 && head.count == 9, 1, "what a refused line leaves");
-                is(confluo_words(it.reader, 0, words, 4), kept, "the words that it keeps");
+                is(confluo_words(it.reader, 0, words, 5), kept, "the words that it keeps");
             }
         }
     confluo_head head;

@@ -11,7 +11,7 @@ from .calls import LONG, SIZE, call
 from .errors import Code, wanted
 
 LANES = ["index", "filter", "aggregate", "tally"]
-QUESTIONS = ["list", "find", "between", "measure", "fired", "top", "total"]
+QUESTIONS = ["list", "find", "between", "measure", "fired", "top", "total", "groups"]
 PARTS = ["count", "sum", "least", "greatest"]
 OPERATORS = ["==", "!=", "<", "<=", ">", ">="]
 
@@ -78,6 +78,8 @@ def question_of(name: str, about: calls.About, attributes: list[Attribute], lane
     if kind == "total":
         return Question(name, kind, attributes[about.of].name)
     of, part = lanes[about.of].name, PARTS[about.part]
+    if kind == "groups":
+        return Question(name, kind, of)
     if kind == "fired":
         return Question(name, kind, of, part=part, operator=OPERATORS[about.op], number=about.low)
     if kind == "top":

@@ -25,7 +25,8 @@ QUAD = ("count", "sum", "least", "greatest")
 
 class Over(Dict[str, "pandas.DataFrame"]):
     """A DataFrame by the name of each question, in the order of the setup. list, find and between: `capture`, `record`;
-    measure and total: `count`, `sum`, `least`, `greatest`; fired: `bucket`, `time`, `value`; top: `key`, `text`, `value`.
+    measure and total: `count`, `sum`, `least`, `greatest`; fired: `bucket`, `time`, `value`; top: `key`, `text`, `value`;
+    groups: `key`, `text` (of an aggregate the time of the bucket), `count`, `sum`, `least`, `greatest`.
 
     `records` is how many there are in all. `captures` has a row for each one, `alerts` for each alert, and `left_out` for
     each capture that could not be answered.
@@ -70,6 +71,9 @@ def _frame(held: Any, ask: Dict[str, Any]) -> pandas.DataFrame:
         return _timed(held, ask["marks"], [])
     if "keys" in ask:
         return _of(held, ask["keys"], ["text"], ["key", "value"])[["key", "text", "value"]]
+    if "groups" in ask:
+        rows = [{"text": it.get("time"), **it} for it in ask["groups"]]
+        return _of(held, rows, ["text"], ["key", *QUAD])[["key", "text", *QUAD]]
     return _of(held, [ask], [], QUAD)
 
 

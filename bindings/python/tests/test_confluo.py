@@ -22,7 +22,7 @@ RECORDS = (
 LANES = (
     "schema records ts:u64,host:u16,len:u32,mac:b6\nindex hosts host\nfilter every *\naggregate sums every len\n"
     "tally keys host len *\ntrigger large sums sum > 40\nask all total len *\nask one find hosts 1 1\n"
-    "ask marks fired large\nask first top keys count 2\n"
+    "ask marks fired large\nask first top keys count 2\nask each groups keys\n"
 )
 FRAME = bytes([0] * 12 + [8, 0, 0x45, 0, 0, 20] + [0] * 8 + [10, 0, 0, 1] + [0] * 4)
 
@@ -164,6 +164,7 @@ class Calls(unittest.TestCase):
                 confluo.Question("one", "find", "hosts", (1, 1)),
                 confluo.Question("marks", "fired", "sums", part="sum", operator=">", number=40),
                 confluo.Question("first", "top", "keys", part="count", count=2),
+                confluo.Question("each", "groups", "keys"),
             ],
         )
         setup = "schema packet\nwidth 50\n"
@@ -204,6 +205,7 @@ class Calls(unittest.TestCase):
             ("one", confluo.Kind.PLACES, []),
             ("marks", confluo.Kind.MARKS, [(0, 55)]),
             ("first", confluo.Kind.TOPS, [(7, 2), (8, 1)]),
+            ("each", confluo.Kind.GROUPS, [(7, 2, 30, 10, 20), (8, 1, 25, 25, 25)]),
         ]
         for name, kind, found in cases:
             answer = reader.ask_seen(name)

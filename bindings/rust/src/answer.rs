@@ -23,6 +23,8 @@ pub enum Body {
     Marks(Vec<Mark>),
     /// The greatest keys, the heaviest first, ties by ascending key, of `top`.
     Tops(Vec<Top>),
+    /// All groups of an aggregate or a tally, by ascending bucket or key, of `groups`.
+    Groups(Vec<Group>),
     /// Of a kind that this crate does not know: the library is a later one.
     Unknown {
         /// The kind.
@@ -97,6 +99,14 @@ impl Quad {
     }
 }
 
+fn groups_of(words: &[u64]) -> Vec<Group> {
+    let group = |words: &[u64]| Group {
+        key: words[0],
+        quad: Quad::of(&words[1..]),
+    };
+    words.chunks_exact(GROUP).map(group).collect()
+}
+
 impl Body {
     /// The body of that kind with these words.
     pub(crate) fn of(kind: u32, words: &[u64]) -> Self {
@@ -107,6 +117,7 @@ impl Body {
             raw::QUAD => Body::Quad(Quad::of(words)),
             raw::MARKS => Body::Marks(pairs().map(|(bucket, value)| Mark { bucket, value }).collect()),
             raw::TOPS => Body::Tops(pairs().map(|(key, value)| Top { key, value }).collect()),
+            raw::GROUPS => Body::Groups(groups_of(words)),
             _ => Body::Unknown {
                 kind,
                 words: words.to_vec(),
@@ -122,13 +133,9 @@ impl Groups {
     }
 
     pub(crate) fn of(tail: u32, words: &[u64]) -> Self {
-        let group = |words: &[u64]| Group {
-            key: words[0],
-            quad: Quad::of(&words[1..]),
-        };
         Groups {
             tail,
-            groups: words.chunks_exact(GROUP).map(group).collect(),
+            groups: groups_of(words),
         }
     }
 }

@@ -201,6 +201,8 @@ pub enum Asks {
     Top { lane: u32, part: Part, count: u32 },
     /// What the attribute adds up to over the records that match.
     Total { attribute: u32 },
+    /// All groups of an aggregate or a tally.
+    Groups { lane: u32 },
     /// Of a kind that this crate does not know: the library is a later one.
     Unknown(u32),
 }
@@ -303,6 +305,7 @@ impl Question {
                 count: about.size,
             },
             6 => Asks::Total { attribute: lane },
+            7 => Asks::Groups { lane },
             other => Asks::Unknown(other),
         };
         Question { name, asks }

@@ -137,6 +137,7 @@ pub const PLACES: u32 = 0;
 pub const QUAD: u32 = 1;
 pub const MARKS: u32 = 2;
 pub const TOPS: u32 = 3;
+pub const GROUPS: u32 = 4;
 
 pub const NUMBER: u32 = 0;
 pub const BYTES: u32 = 1;

@@ -14,7 +14,7 @@ use std::time::{Duration, Instant};
 const RECORDS: &str =
     "schema records ts:u64,host:u32,len:u32\nindex hosts host\nfilter every *\naggregate sums every len\n\
     trigger large sums sum > 40\ntally keys host len *\nask all total len *\nask one find hosts 1 1\n\
-    ask marks fired large\nask top top keys sum 2\n";
+    ask marks fired large\nask top top keys sum 2\nask each groups sums\n";
 
 fn sizes(capacity: u32, writers: u32, nodes: u32) -> Sizes {
     Sizes {
@@ -92,7 +92,7 @@ fn calls_are_refused() -> Result<(), Box<dyn Error>> {
     assert_eq!(writer.append_values(0, &[1, 1, 10]), Ok(0));
     assert_eq!(writer.append_values(0, &[2, 1, 40]), Ok(1));
     assert_eq!(writer.append_values(0, &[3, 1, 10]), Err(AppendError::Full));
-    assert_eq!(reader.ask(4), Err(AskError::NoQuestion));
+    assert_eq!(reader.ask(5), Err(AskError::NoQuestion));
     assert_eq!((writer.room().capacity, writer.room().covered), (2, 2));
     let mut other = Log::open("schema packet\n", sizes(1, 1, 0))?;
     let unread = Capture {
@@ -122,6 +122,7 @@ fn answers_have_forms() -> Result<(), Box<dyn Error>> {
         Body::Places(vec![1]),
         Body::Marks(vec![Mark { bucket: 0, value: 55 }]),
         Body::Tops(vec![Top { key: 7, value: 30 }, Top { key: 1, value: 25 }]),
+        Body::Groups(vec![Group { key: 0, quad }]),
     ];
     for (question, body) in (0..).zip(answers) {
         assert_eq!(reader.ask(question)?, Answer { tail: 3, body });
@@ -176,6 +177,7 @@ fn names_are_told() -> Result<(), Box<dyn Error>> {
             part,
             count: 2,
         },
+        Asks::Groups { lane: 2 },
     ];
     assert_eq!(asks, asked);
     assert_eq!((setup.question("marks"), setup.question("large")), (Some(2), None));
@@ -234,7 +236,7 @@ fn all_is_asked_at_one_tail() -> Result<(), Box<dyn Error>> {
     };
     assert_eq!(merge(&[wrong], &[]), Err(MergeError::NoGroups));
     assert_eq!(reader.groups(0), Err(GroupsError::NoLane));
-    assert_eq!(reader.ask_seen(4), Err(AskError::NoQuestion));
+    assert_eq!(reader.ask_seen(5), Err(AskError::NoQuestion));
     let row = Row {
         number: 7,
         values: vec![Value::Number(1), Value::Number(9), Value::Number(30)],
