@@ -64,6 +64,8 @@ def drawn_asks(draw, lanes):
             yield f"top {name} {draw.choice(PARTS)} {draw.choice([1, 2, 10, 1000])}"
         else:
             yield f"{RANGES[kind]} {name} {low} {high}"
+        if kind in ("aggregate", "tally"):
+            yield f"groups {name}"
 
 
 def drawn_setup(draw):
@@ -154,6 +156,8 @@ def body(reader, question, answer):
         return f"{question.kind} {quad_text(answer.rows[0])}"
     if answer.kind == confluo.Kind.PLACES:
         found = sorted(reader.row(it).number for it in answer.words)
+    elif answer.kind == confluo.Kind.GROUPS:
+        found = [f"{key}=" + "/".join(map(str, quad)) for key, *quad in answer.rows]
     else:
         found = [f"{key}={value}" for key, value in answer.rows]
     return " ".join([f"{question.kind} {len(found)}:", *map(str, found)])

@@ -75,6 +75,9 @@ class Answers:
             return quad_text("total", quad([row[ask.attribute] for row in self.rows if ask.expression.holds(row)]))
         if ask.kind == "fired":
             return listed("fired", [f"{b}={value}" for b, value in self.marks(ask.trigger)])
+        if ask.kind == "groups":
+            groups = sorted(self.groups(lane).items())
+            return listed("groups", [f"{key}=" + "/".join(map(str, it.values())) for key, it in groups])
         ranked = sorted((-it[ask.part], key) for key, it in self.groups(lane).items())[:high]
         return listed("top", [f"{key}={-value}" for value, key in ranked])
 

@@ -14,6 +14,7 @@ from .reports import (
     Body,
     Fired,
     Found,
+    Groups,
     Host,
     Live,
     Pair,
@@ -30,6 +31,7 @@ from .values import key_text, utc
 
 FORMAT = "confluo-report/1"
 Addresses = Mapping[str, Ranked]
+QUAD_PARTS = ("count", "sum", "least", "greatest")
 COLUMNS = ("part", "host", "name", "kind", "prefix", "place", "key", "value")
 
 
@@ -49,20 +51,27 @@ def _pairs(
     return found
 
 
+def _groups(body: Groups, setup: Setup | None, question: Question | None) -> list[dict[str, Any]]:
+    lane = question.lane if question else None
+    found = []
+    for it in body.groups:
+        more: dict[str, Any] = {}
+        if setup and lane:
+            more = _time(setup, it.key) if lane.key is None else {"text": key_text(setup, lane, it.key)}
+        found.append({"key": it.key, **{part: getattr(it, part) for part in QUAD_PARTS}, **more})
+    return found
+
+
 def body_object(body: Body, setup: Setup | None = None, question: Question | None = None) -> dict[str, Any]:
     """The members of an answer."""
     if isinstance(body, Found):
         return {"kind": body.kind, "records": list(body.rows)}
     if isinstance(body, Quad):
-        return {
-            "kind": body.kind,
-            "count": body.count,
-            "sum": body.sum,
-            "least": body.least,
-            "greatest": body.greatest,
-        }
+        return {"kind": body.kind, **{part: getattr(body, part) for part in QUAD_PARTS}}
     if isinstance(body, Fired):
         return {"kind": body.kind, "marks": _pairs(body.marks, "bucket", setup, question)}
+    if isinstance(body, Groups):
+        return {"kind": body.kind, "groups": _groups(body, setup, question)}
     return {"kind": body.kind, "keys": _pairs(body.keys, "key", setup, question)}
 
 
@@ -199,12 +208,23 @@ class Table:
             return key_text(self.setup, question.lane, key)
         return key
 
+    def group(self, name: Cell, key: int) -> Cell:
+        question = self.setup.question(str(name)) if self.setup else None
+        is_timed = question and question.lane and question.lane.key is None
+        return self.bucket(key) if is_timed else self.key(name, key)
+
     def body(self, front: Sequence[Cell], body: Body) -> Iterator[tuple[Cell, ...]]:
-        """First how many entries an answer has, then each; a quad has four rows."""
+        """First how many entries an answer has, then each; a quad has four rows, and so has each group, with its part as its place."""
         if isinstance(body, Quad):
-            for name in ("count", "sum", "least", "greatest"):
+            for name in QUAD_PARTS:
                 value = getattr(body, name)
                 yield (*front, "", name, "" if value is None else value)
+            return
+        if isinstance(body, Groups):
+            yield (*front, "", "", len(body.groups))
+            for it in body.groups:
+                for name in QUAD_PARTS:
+                    yield (*front, name, self.group(front[2], it.key), getattr(it, name))
             return
         if isinstance(body, Found):
             entries: list[tuple[Cell, Cell]] = [(it, "") for it in body.rows]

@@ -1,6 +1,6 @@
 """Puts the final parts of reports of one setup together.
 
-What can be added up exactly is: records, and the answers of measure and total. Found records, marks and
+What can be added up exactly is: records, and the answers of measure, total and groups. Found records, marks and
 alerts stay with their report, since record numbers count within one capture, and a bucket that fires in
 no report may still fire in the sum. Answers of top are put together with bounds: the answer says from
 which place on it could be another.
@@ -14,7 +14,21 @@ from typing import Sequence
 
 from .errors import Complaint
 from .matching import must_match
-from .reports import NAME, NUMBER, Alert, Body, Pair, Quad, Report, Top, body_text, parse_body, parse_report
+from .reports import (
+    NAME,
+    NUMBER,
+    Alert,
+    Body,
+    Group,
+    Groups,
+    Pair,
+    Quad,
+    Report,
+    Top,
+    body_text,
+    parse_body,
+    parse_report,
+)
 from .setups import Question, Setup
 
 
@@ -85,6 +99,20 @@ def joined_quad(quads: Sequence[Quad]) -> Quad:
     greatests = [it.greatest for it in quads if it.greatest is not None]
     count, total = sum(it.count for it in quads), sum(it.sum for it in quads)
     return Quad(quads[0].kind, count, total, min(leasts, default=None), max(greatests, default=None))
+
+
+def joined_group(one: Group, other: Group) -> Group:
+    """Two groups of one key as one."""
+    least, greatest = min(one.least, other.least), max(one.greatest, other.greatest)
+    return Group(one.key, one.count + other.count, one.sum + other.sum, least, greatest)
+
+
+def joined_groups(all_groups: Sequence[Groups]) -> Groups:
+    """The groups of all records."""
+    found: dict[int, Group] = {}
+    for it in (it for groups in all_groups for it in groups.groups):
+        found[it.key] = joined_group(found[it.key], it) if it.key in found else it
+    return Groups(tuple(found[key] for key in sorted(found)))
 
 
 @dataclass(frozen=True)
@@ -176,6 +204,9 @@ def _joined(named: Sequence[Named], at: int, setup: Setup | None, asked: dict[st
     quads = [body for _, body in parts if isinstance(body, Quad)]
     if quads:
         return Joined(name, kind, joined_quad(quads), parts)
+    groups = [body for _, body in parts if isinstance(body, Groups)]
+    if groups:
+        return Joined(name, kind, joined_groups(groups), parts)
     tops = [body for _, body in parts if isinstance(body, Top)]
     if tops:
         question = setup.question(name) if setup else None
@@ -239,7 +270,7 @@ class _Merging:
 
     def ask(self, name: str, body: Body, behind: str | None) -> None:
         """An answer on all reports, with its note, or that of one report, behind others of the same question."""
-        if isinstance(body, (Quad, Top)):
+        if isinstance(body, (Quad, Top, Groups)):
             self.asks.append(Joined(name, body.kind, body, (), behind or ""))
             return
         last = (

@@ -12,7 +12,19 @@ from typing import Callable, Iterable
 
 from .errors import Complaint
 from .merge import Merged
-from .reports import Body, Fired, Found, Quad, Report, RoundAlert, RoundBeat, RoundLive, RoundTotal, Snapshot
+from .reports import (
+    Body,
+    Fired,
+    Found,
+    Groups,
+    Quad,
+    Report,
+    RoundAlert,
+    RoundBeat,
+    RoundLive,
+    RoundTotal,
+    Snapshot,
+)
 from .setups import Setup
 from .values import key_text
 
@@ -35,6 +47,8 @@ HELP = {
     "confluo_fired_value": "The value in a time bucket in which the question's trigger fires.",
     "confluo_top_keys": "How many keys the question lists.",
     "confluo_top_value": "The part of a key.",
+    "confluo_groups": "How many keys or time buckets have a record.",
+    "confluo_group_value": "Of a key or time bucket: count, sum, least or greatest.",
     "confluo_alerts": "In how many time buckets the trigger fires.",
     "confluo_alert_value": "The value in a time bucket in which the trigger fires.",
     "confluo_order_records": "Records of the writer in the log.",
@@ -132,6 +146,12 @@ def add_body(
         families.add(f"{front}fired_buckets", len(body.marks), **labels)
         for it in body.marks:
             families.add(f"{front}fired_value", it.value, **labels, bucket=it.key)
+    elif isinstance(body, Groups):
+        families.add(f"{front}groups", len(body.groups), **labels)
+        for group in body.groups:
+            key = keys(str(labels["ask"]), group.key)
+            for part in ("count", "sum", "least", "greatest"):
+                families.add(f"{front}group_value", getattr(group, part), **labels, key=key, part=part)
     else:
         families.add(f"{front}top_keys", len(body.keys), **labels)
         for it in body.keys:

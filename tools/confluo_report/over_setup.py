@@ -1,7 +1,7 @@
 """The setup that each part of a question over many captures runs, and how its reports are added up.
 
-A trigger's threshold is for the sum, so a part tells the value of every bucket. Of a tally a part tells all
-keys. When confluo tells all groups of a lane, `_part_lines` and `Sum` are what changes.
+A trigger's threshold is for the sum, so a part tells the value of every bucket. In place of a tally's first keys
+a part tells all its groups.
 """
 
 from __future__ import annotations
@@ -9,16 +9,15 @@ from __future__ import annotations
 import operator
 from dataclasses import dataclass, field
 from itertools import accumulate
-from typing import Callable, Iterator, Mapping
+from typing import Callable, Iterator, Mapping, TypeVar
 
-from .errors import Complaint
 from .matching import must_match
-from .merge import joined_quad
-from .reports import Alert, Ask, Body, Fired, Found, Pair, Quad, Report, Top, parse_report
+from .merge import joined_group, joined_quad
+from .reports import Alert, Ask, Body, Fired, Found, Group, Groups, Pair, Quad, Report, Top, parse_report
 from .setups import Question, Setup, Trigger, parse_setup
 
-MOST_KEYS = 1000
 FINDING = ("list", "find", "between")
+Joined = TypeVar("Joined", int, Group)
 # Below this no bucket with a record has a part of that kind.
 LEAST = {"count": 1, "sum": 0, "least": 0, "greatest": 0}
 JOINED: Mapping[str, Callable[[int, int], int]] = {
@@ -69,7 +68,7 @@ def _part_lines(setup: Setup, data: bytes, telling: set[str]) -> Iterator[str]:
             part = trigger.part
             yield f"trigger {trigger.name} {trigger.aggregate.name} {part} >= {LEAST[part]}"
         elif words[0] == "ask" and words[2] == "top":
-            yield " ".join([*words[:5], str(MOST_KEYS)])
+            yield f"ask {words[1]} groups {words[3]}"
         elif words[0] != "trigger" and not (words[0] == "ask" and words[2] == "fired"):
             yield bare
 
@@ -78,7 +77,7 @@ def _part_lines(setup: Setup, data: bytes, telling: set[str]) -> Iterator[str]:
 class Sum:
     """What reports of parts say together. Parts are known by their places; they may be added in any order.
 
-    `values` are of the triggers of parts by bucket, `keys` of the questions for a top by key.
+    `values` are of the triggers of parts by bucket, `groups` of the questions for a top or for groups by key or bucket.
     """
 
     records: dict[int, int] = field(default_factory=dict)
@@ -86,7 +85,7 @@ class Sum:
     found: dict[str, dict[int, tuple[int, ...]]] = field(default_factory=dict)
     quads: dict[str, Quad] = field(default_factory=dict)
     values: dict[str, dict[int, int]] = field(default_factory=dict)
-    keys: dict[str, dict[int, int]] = field(default_factory=dict)
+    groups: dict[str, dict[int, Group]] = field(default_factory=dict)
 
     def add(self, other: Sum, plan: Plan) -> None:
         """Adds the other one to this, which takes the time of the other alone."""
@@ -99,15 +98,15 @@ class Sum:
         for trigger in plan.part.triggers:
             _join(self.values, other.values, trigger.name, JOINED[trigger.part])
         for question in plan.part.asks:
-            if question.kind == "top":
-                _join(self.keys, other.keys, question.name, JOINED[question.part])
+            if question.kind == "groups":
+                _join(self.groups, other.groups, question.name, joined_group)
 
 
 def _join(
-    ours: dict[str, dict[int, int]],
-    theirs: Mapping[str, Mapping[int, int]],
+    ours: dict[str, dict[int, Joined]],
+    theirs: Mapping[str, Mapping[int, Joined]],
     name: str,
-    join: Callable[[int, int], int],
+    join: Callable[[Joined, Joined], Joined],
 ) -> None:
     there = ours.setdefault(name, {})
     for key, value in theirs.get(name, {}).items():
@@ -115,7 +114,7 @@ def _join(
 
 
 def sum_of(plan: Plan, place: int, text: str, source: str) -> Sum:
-    """What a part's report says; a Complaint where it is none, or does not tell all."""
+    """What a part's report says; a Complaint where it is none."""
     report = parse_report(text, source)
     must_match(report, plan.part, source)
     total = Sum({place: report.records})
@@ -133,14 +132,8 @@ def _take(total: Sum, place: int, question: Question, body: Body) -> None:
         total.found[question.name] = {place: body.rows} if body.rows else {}
     elif isinstance(body, Quad):
         total.quads[question.name] = body
-    elif isinstance(body, Top):
-        if len(body.keys) >= MOST_KEYS:
-            lane = question.lane.name if question.lane else ""
-            raise Complaint(
-                f"`{question.name}` (top of `{lane}`) finds {MOST_KEYS:,} keys or more in it, and confluo lists no more. "
-                "The sum would not be exact: for that the program must tell all groups"
-            )
-        total.keys[question.name] = {it.key: it.value for it in body.keys}
+    elif isinstance(body, Groups):
+        total.groups[question.name] = {it.key: it for it in body.groups}
 
 
 def report_of(plan: Plan, total: Sum) -> Report:
@@ -167,8 +160,11 @@ def _body(
         by_place = sorted(total.found[name].items())
         return Found(question.kind, tuple(starts[place] + it for place, rows in by_place for it in rows))
     if question.kind == "top":
-        ranked = sorted(total.keys[name].items(), key=lambda it: (-it[1], it[0]))
-        return Top(tuple(Pair(*it) for it in ranked[: question.high]))
+        pairs = [Pair(it.key, getattr(it, question.part)) for it in total.groups[name].values()]
+        ranked = sorted(pairs, key=lambda it: (-it.value, it.key))
+        return Top(tuple(ranked[: question.high]))
+    if question.kind == "groups":
+        return Groups(tuple(its for _, its in sorted(total.groups[name].items())))
     if question.kind == "fired":
         assert question.trigger
         return Fired(marks[question.trigger.name])

@@ -61,7 +61,26 @@ class Top:
     kind: str = "top"
 
 
-Body = Union[Found, Quad, Fired, Top]
+@dataclass(frozen=True)
+class Group:
+    """A bucket or a key with the count, the sum, the least and the greatest of what its records measure."""
+
+    key: int
+    count: int
+    sum: int
+    least: int
+    greatest: int
+
+
+@dataclass(frozen=True)
+class Groups:
+    """All groups of an aggregate, by ascending bucket, or of a tally, by ascending key."""
+
+    groups: tuple[Group, ...]
+    kind: str = "groups"
+
+
+Body = Union[Found, Quad, Fired, Top, Groups]
 
 
 @dataclass(frozen=True)
@@ -228,6 +247,7 @@ QUAD = re.compile(
 )
 LISTED = re.compile(rf"(list|find|between) ({NUMBER}):((?: {NUMBER})*)")
 PAIRED = re.compile(rf"(fired|top) ({NUMBER}):((?: {NUMBER}={NUMBER})*)")
+GROUPED = re.compile(rf"groups ({NUMBER}):((?: {NUMBER}=[1-9][0-9]*(?:/{NUMBER}){{3}})*)")
 
 
 TOLD = ("alert", "live", "at", "total")
@@ -331,8 +351,13 @@ def _body(lines: _Lines, text: str, most: int, ascending: bool, least: int = 0) 
         _must_count(lines, int(found[2]), len(pairs))
         _must_be_in_order(lines, found[1], pairs)
         return Fired(pairs) if found[1] == "fired" else Top(pairs)
+    if found := GROUPED.fullmatch(text):
+        groups = tuple(Group(*map(int, re.split("[=/]", it))) for it in found[2].split())
+        _must_count(lines, int(found[1]), len(groups))
+        _must_be_groups(lines, groups)
+        return Groups(groups)
     lines.fail(
-        "an answer as `list K: ..`, `find K: ..`, `between K: ..`, `fired K: ..`, `top K: ..`, "
+        "an answer as `list K: ..`, `find K: ..`, `between K: ..`, `fired K: ..`, `top K: ..`, `groups K: ..`, "
         "`measure count C sum S least L greatest G` or `total count ..`",
         back=1,
     )
@@ -371,6 +396,13 @@ def _must_be_in_order(lines: _Lines, kind: str, pairs: tuple[Pair, ...]) -> None
         wanted = "the greater part first, and of equal parts the lower key"
     if any(low >= high for low, high in zip(places, places[1:])):
         lines.fail(wanted, back=1)
+
+
+def _must_be_groups(lines: _Lines, groups: tuple[Group, ...]) -> None:
+    if any(low.key >= high.key for low, high in zip(groups, groups[1:])):
+        lines.fail("buckets or keys in ascending order", back=1)
+    if any(not it.least * it.count <= it.sum <= it.greatest * it.count for it in groups):
+        lines.fail("sums of so many numbers, from the least to the greatest", back=1)
 
 
 def _asks(lines: _Lines, most: int, least: int = 0) -> tuple[Ask, ...]:
@@ -619,6 +651,8 @@ def body_text(body: Body) -> str:
         return f"{body.kind} count {body.count} sum {body.sum} least {ends[0]} greatest {ends[1]}"
     if isinstance(body, Found):
         words = list(map(str, body.rows))
+    elif isinstance(body, Groups):
+        words = [f"{it.key}={it.count}/{it.sum}/{it.least}/{it.greatest}" for it in body.groups]
     else:
         pairs = body.marks if isinstance(body, Fired) else body.keys
         words = [f"{it.key}={it.value}" for it in pairs]

@@ -436,6 +436,7 @@ def _ask(it: _Statement) -> None:
         "measure": _ask_buckets,
         "fired": _ask_fired,
         "top": _ask_top,
+        "groups": _ask_groups,
         "total": _ask_total,
     }
     if not it.must_begin(3, "ask NAME KIND .."):
@@ -488,6 +489,13 @@ def _ask_top(it: _Statement, kind: str) -> Question | None:
     name, tally = it.new_name(), it.lane(3, "tally")
     count = it.number(5, 1, 1000)
     return Question(name, kind, it.rest(2).text, lane=tally, part=it.word(4).text, high=count)
+
+
+def _ask_groups(it: _Statement, kind: str) -> Question | None:
+    if not it.must_have(4, "ask NAME groups LANE"):
+        return None
+    name, lane = it.new_name(), it.lane(3, "aggregate", "tally")
+    return Question(name, kind, it.rest(2).text, lane=lane)
 
 
 def _ask_total(it: _Statement, kind: str) -> Question | None:

@@ -14,6 +14,7 @@ from .reports import (
     Body,
     Fired,
     Found,
+    Groups,
     Host,
     Live,
     Pair,
@@ -108,6 +109,9 @@ def heading(viewer: Viewer, name: str, body: Body) -> str:
         return f"{units(setup.nanoseconds)} with {condition_text(setup, question.trigger)}"
     if question.kind == "top" and lane and lane.key is not None:
         return f"{setup.schema[lane.key].name} by {part_text(setup, question.part, lane)}, of {select_text(lane)}"
+    if question.kind == "groups" and lane:
+        by = unit(setup.nanoseconds) if lane.key is None else setup.schema[lane.key].name
+        return f"each {by} of {select_text(lane)}"
     return question.text
 
 
@@ -151,6 +155,30 @@ def _bucket_cell(viewer: Viewer, bucket: int) -> str:
 
 def _bucket_head(viewer: Viewer) -> str:
     return f"{unit(viewer.setup.nanoseconds)} (UTC)" if viewer.setup else "bucket"
+
+
+def _groups(viewer: Viewer, name: str, body: Groups) -> list[str]:
+    setup = viewer.setup
+    question = setup.question(name) if setup else None
+    lane = question.lane if question else None
+    head, measure = "bucket or key", ""
+    if setup and lane:
+        head = _bucket_head(viewer) if lane.key is None else setup.schema[lane.key].name
+        measure = f" {setup.schema[lane.measure].name}" if lane.measure is not None else ""
+    shown = body.groups[: viewer.most or None]
+    rows = []
+    for it in shown:
+        key = str(it.key)
+        if setup and lane:
+            is_timed = lane.key is None
+            key = _bucket_cell(viewer, it.key) if is_timed else key_text(setup, lane, it.key, viewer.flows)
+        rows.append([key, *(grouped(number) for number in (it.count, it.sum, it.least, it.greatest))])
+    of = f" of{measure}" if measure else ""
+    heads = [head, viewer.things, f"sum{of}", f"least{measure}", f"greatest{measure}"]
+    lines = table(heads, rows, viewer.style, "lrrrr") if rows else []
+    if len(shown) < len(body.groups):
+        lines.append(f"  and {grouped(len(body.groups) - len(shown))} more; --most 0 shows all")
+    return lines
 
 
 def _fired(viewer: Viewer, name: str, pairs: Sequence[Pair]) -> list[str]:
@@ -305,6 +333,8 @@ def count_text(viewer: Viewer, body: Body) -> str:
         return f": {grouped(len(body.marks))}" if body.marks else ": none"
     if isinstance(body, Top):
         return f": the first {grouped(len(body.keys))}" if body.keys else ": none"
+    if isinstance(body, Groups):
+        return f": {grouped(len(body.groups))}" if body.groups else ": none"
     return ""
 
 
@@ -316,6 +346,8 @@ def body_lines(viewer: Viewer, name: str, body: Body) -> list[str]:
         return _quad(viewer, name, body)
     if isinstance(body, Fired):
         return _fired(viewer, name, body.marks)
+    if isinstance(body, Groups):
+        return _groups(viewer, name, body)
     return _top(viewer, name, body)
 
 

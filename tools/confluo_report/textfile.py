@@ -12,7 +12,7 @@ from .errors import Complaint
 from .incoming import Ending
 from .metrics import EXACT, Families, add_beat, add_body, keys_of, write_at_once
 from .outputs import Output, Silent, report_trouble
-from .reports import Quad, RoundAlert, RoundBeat, RoundLive, RoundTotal, Told, Top
+from .reports import Groups, Quad, RoundAlert, RoundBeat, RoundLive, RoundTotal, Told, Top
 from .setups import SECOND, Setup
 from .tcpdump import Counts
 
@@ -136,5 +136,7 @@ class Textfile(Output):
 def _is_exact(live: RoundLive) -> bool:
     if isinstance(live.body, Quad):
         return live.body.sum <= EXACT
+    if isinstance(live.body, Groups):
+        return all(it.sum <= EXACT and it.key <= EXACT for it in live.body.groups)
     pairs = live.body.keys if isinstance(live.body, Top) else getattr(live.body, "marks", ())
     return all(it.value <= EXACT for it in pairs)

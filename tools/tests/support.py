@@ -53,6 +53,7 @@ ask m measure count 3 sum 190 least 60 greatest 70
 ask z measure count 0 sum 0 least - greatest -
 ask o total count 1 sum 60 least 60 greatest 60
 ask h top 2: 167772161=120 167772162=70
+ask i groups 2: 1=1/60/60/60 2=2/130/60/70
 alert t 1 90
 alert t 2 100
 live all @2 list 2: 1 0

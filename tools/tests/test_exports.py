@@ -38,6 +38,10 @@ def text_of_object(it: dict) -> str:
     """An answer's text from its JSON object."""
     if "count" in it:
         return quad_text(it["kind"], it)
+    if "groups" in it:
+        parts = ("count", "sum", "least", "greatest")
+        words = [f"{one['key']}=" + "/".join(str(one[part]) for part in parts) for one in it["groups"]]
+        return body_text("groups", len(words), words)
     if "records" in it:
         return body_text(it["kind"], len(it["records"]), list(map(str, it["records"])))
     if "marks" in it:
@@ -78,6 +82,10 @@ def body_of_rows(rows: list[dict]) -> tuple[str, int]:
     if kind in ("measure", "total"):
         return quad_text(kind, {it["key"]: it["value"] for it in rows[:4]}), 4
     count = int(rows[0]["value"])
+    if kind == "groups":
+        groups = [rows[at : at + 4] for at in range(1, 1 + 4 * count, 4)]
+        entries = [f"{four[0]['key']}=" + "/".join(it["value"] for it in four) for four in groups]
+        return body_text(kind, count, entries), 1 + 4 * count
     entries = [it["key"] + ("=" if it["value"] else "") + it["value"] for it in rows[1 : 1 + count]]
     return body_text(kind, count, entries), 1 + count
 
@@ -187,6 +195,8 @@ class Exports(unittest.TestCase):
         self.assertEqual(z, {"count": 0, "sum": 0})
         tops = [(int(it["key"]), value) for it, value in found["confluo_top_value"]]
         self.assertEqual(tops, [(167772161, 120), (167772162, 70)])
+        groups = [(it["key"], it["part"], value) for it, value in found["confluo_group_value"]]
+        self.assertEqual(groups[4:6], [("2", "count", 2), ("2", "sum", 130)])
         alerts = [(it["trigger"], int(it["bucket"]), value) for it, value in found["confluo_alert_value"]]
         self.assertEqual(alerts, [("t", 1, 90), ("t", 2, 100)])
         live = [(it["line"], it["prefix"], it["record"]) for it, _ in found["confluo_live_found_record"]]

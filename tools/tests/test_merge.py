@@ -26,6 +26,7 @@ ask all list 2: 0 2
 ask o total count 3 sum 30 least 5 greatest 15
 ask z total count 0 sum 0 least - greatest -
 ask h top 2: 1=20 2=10
+ask each groups 2: 1=2/20/5/15 2=1/10/10/10
 ask g fired 1: 5=30
 alert t 5 30
 order 0*3
@@ -36,6 +37,7 @@ ask all list 1: 1
 ask o total count 2 sum 9 least 4 greatest 5
 ask z total count 1 sum 7 least 7 greatest 7
 ask h top 1: 2=9
+ask each groups 2: 2=2/9/4/5 3=1/7/7/7
 ask g fired 0:
 """
 SETUP = """\
@@ -48,6 +50,7 @@ ask all list len>0
 ask o total len *
 ask z total len dport==1
 ask h top y sum 3
+ask each groups y
 ask g fired t
 """
 MERGED = """\
@@ -57,6 +60,7 @@ ask all list 1: 1 (two)
 ask o total count 5 sum 39 least 4 greatest 15
 ask z total count 1 sum 7 least 7 greatest 7
 ask h top 2: 1=20 2=19
+ask each groups 3: 1=2/20/5/15 2=3/19/4/10 3=1/7/7/7
 ask g fired 1: 5=30 (one)
 ask g fired 0: (two)
 alert t 5 30 (one)
@@ -145,8 +149,8 @@ class Merges(unittest.TestCase):
         self.assertIn('confluo_found_records{ask="all",report="one",kind="list"} 2\n', out)
         for text, why in (
             (MERGED.replace("sum 39", "sum x"), "line 4 cannot be read"),
-            (MERGED.replace("alert t 5 30 (one)", "alert t 5 30"), "line 9 cannot be read"),
-            (MERGED + "order\n", "line 10 cannot be read"),
+            (MERGED.replace("alert t 5 30 (one)", "alert t 5 30"), "line 10 cannot be read"),
+            (MERGED + "order\n", "line 11 cannot be read"),
             (MERGED.replace("0 2 (one)", "0 7 (one)"), "below 7"),
         ):
             self.assertIn(why, tool("show", stdin=text).err)

@@ -27,7 +27,7 @@ from confluo_report.over_part import PACKERS, Running, Work, answer
 from confluo_report.over_setup import Sum, plan_of, report_of, sum_of
 from confluo_report.program import program
 from confluo_report.progress import Parts
-from confluo_report.reports import lines_of
+from confluo_report.reports import Pair, Top, lines_of
 
 SETUP = """\
 # All kinds of questions.
@@ -46,6 +46,7 @@ ask w between f 0 1
 ask m measure a 0 9
 ask g fired few
   ask h top t sum 2
+ask s groups a
 ask o total len *
 live l
 """
@@ -62,7 +63,8 @@ ask l list dport==81
 ask n find i 10.0.0.1 10.0.0.2
 ask w between f 0 1
 ask m measure a 0 9
-ask h top t sum 1000
+ask h groups t
+ask s groups a
 ask o total len *
 """
 # The reports of two parts, and the one over both.
@@ -73,7 +75,8 @@ ask l list 1: 1
 ask n find 2: 0 2
 ask w between 1: 0
 ask m measure count 2 sum 120 least 54 greatest 66
-ask h top 2: 167772161=120 167772163=54
+ask h groups 2: 167772161=2/120/54/66 167772163=1/54/54/54
+ask s groups 2: 0=1/54/54/54 2=1/66/66/66
 ask o total count 3 sum 174 least 54 greatest 66
 alert many 0 1
 alert many 2 1
@@ -87,7 +90,8 @@ ask l list 0:
 ask n find 1: 1
 ask w between 0:
 ask m measure count 2 sum 154 least 54 greatest 100
-ask h top 2: 167772164=100 167772161=54
+ask h groups 2: 167772161=1/54/54/54 167772164=1/100/100/100
+ask s groups 1: 2=2/154/54/100
 ask o total count 2 sum 154 least 54 greatest 100
 alert many 2 2
 alert much 2 154
@@ -102,6 +106,7 @@ ask w between 1: 0
 ask m measure count 4 sum 274 least 54 greatest 100
 ask g fired 1: 0=1
 ask h top 2: 167772161=174 167772164=100
+ask s groups 2: 0=1/54/54/54 2=3/220/54/100
 ask o total count 5 sum 328 least 54 greatest 100
 alert many 2 3
 alert few 0 1
@@ -132,16 +137,17 @@ class Sums(unittest.TestCase):
                 total.add(sum_of(plan, at, REPORTS[at], "part"), plan)
             self.assertEqual("\n".join(lines_of(report_of(plan, total))) + "\n", BOTH)
 
-    def test_a_part_with_too_many_keys_is_refused(self) -> None:
+    def test_parts_with_many_keys_are_added_up(self) -> None:
         plan = plan_of(SETUP.encode())
-        for count, why in ((999, ""), (1000, "1,000 keys or more.*the program must tell all groups")):
-            keys = " ".join(f"{it}=60" for it in range(count))
-            text = REPORTS[1].replace("top 2: 167772164=100 167772161=54", f"top {count}: {keys}")
-            if not why:
-                self.assertEqual(len(sum_of(plan, 0, text, "part").keys["h"]), count)
-                continue
-            with self.assertRaisesRegex(Complaint, why):
-                sum_of(plan, 0, text, "part")
+        keys = " ".join(f"{it}=1/60/60/60" for it in range(3000))
+        many = REPORTS[1].replace(
+            "groups 2: 167772161=1/54/54/54 167772164=1/100/100/100", f"groups 3000: {keys}"
+        )
+        total = sum_of(plan, 0, many, "part")
+        total.add(sum_of(plan, 1, many.replace("2999=1/60/60/60", "2999=1/61/61/61"), "part"), plan)
+        self.assertEqual(len(total.groups["h"]), 3000)
+        found = {it.name: it.body for it in report_of(plan, total).asks}["h"]
+        self.assertEqual(found, Top((Pair(2999, 121), Pair(0, 120))))
 
 
 class KilledWorker(Exception):
@@ -739,6 +745,13 @@ class Frames(Case):
                 "m": [["count", "sum", "least", "greatest"], [[4, 216, 54, 54]]],
                 "g": [["bucket", "time", "value"], [[0, 2], [1, 2]]],
                 "h": [["key", "text", "value"], [[167772161, "10.0.0.1", 108], [167772162, "10.0.0.2", 108]]],
+                "s": [
+                    ["key", "text", "count", "sum", "least", "greatest"],
+                    [
+                        [0, "1970-01-01 00:00:00Z", 2, 108, 54, 54],
+                        [1, "1970-01-01 00:00:02Z", 2, 108, 54, 54],
+                    ],
+                ],
                 "o": [["count", "sum", "least", "greatest"], [[4, 216, 54, 54]]],
             },
         )

@@ -25,6 +25,7 @@ ask m measure a 1 3
 ask g fired t
 ask l list *
 ask h top y sum 2
+ask s groups a
 ask o total len len<=70
 live g
 live q
@@ -45,7 +46,7 @@ class Setups(unittest.TestCase):
     def test_a_valid_setup(self) -> None:
         for end in ("\n", "\r\n"):
             setup = parse_setup(EVERY.replace("\n", end).encode())
-            self.assertEqual((setup.width, len(setup.lanes), len(setup.asks)), (1000, 4, 7))
+            self.assertEqual((setup.width, len(setup.lanes), len(setup.asks)), (1000, 4, 8))
             self.assertEqual(setup.lives, ["g", "q"])
         for path in EXAMPLES.rglob("*.setup"):
             self.assertTrue(parse_setup(path.read_bytes()).asks, path)
