@@ -8,6 +8,7 @@ pub mod SetupSize
 pub mod PacketSchema
 pub mod OneCase
 pub mod MoreRows
+pub mod Keeping
 pub mod Several
 pub mod SingleReads
 pub mod Numbering

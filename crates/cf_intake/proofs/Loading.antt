@@ -9,14 +9,14 @@ use Rattle.cf_setup.specs.declared.source.Source.{Source}
 use Rattle.cf_setup.specs.declared.source.Source.TheVariants.{Packets, Records}
 use Rattle.cf_row.specs.declared.schema.Attr.{Attr}
 use Rattle.cf_outside.specs.Files.{File, Opens}
-use Rattle.cf_records.specs.Records.{AreFirst, HasRecordsFault, IsRecordFile}
+use Rattle.cf_records.specs.Records.{AreFirst, HasRecordsFault}
 use Rattle.cf_records.specs.declared.fault.RecordFault.{RecordFault}
 use Rattle.cf_records.specs.declared.fault.RecordFault.TheVariants as records
 use Rattle.cf_intake.specs.Devices.{IsFileRead, ReadsFile}
 use Rattle.cf_intake.specs.Faults.{HasLineFault, HasFaultBy, HasFaultTo}
 use Rattle.cf_intake.specs.Files.{HasFile, HasLeft, Grammar, captures, IsReadAs, IsFileRefused, Halts}
 use Rattle.cf_intake.specs.Files.IsFileRefused.{missing, broken}
-use Rattle.cf_intake.specs.Parts.{HasFirst, IsBad, captured}
+use Rattle.cf_intake.specs.Parts.{HasFirst, IsBad, IsFirstOf, captured, first_of}
 use Rattle.cf_intake.specs.Reading.{TakesPackets, ReadsRows}
 use Rattle.cf_intake.specs.Refusals.{unread}
 use Rattle.cf_intake.specs.Rows.{CaptureValue, AreRowsTo, IsTruncatedAt, limit_by}
@@ -141,18 +141,7 @@ bad_lines attrs bytes (Stopped stop) bad = stopped_bad stop bad where
   stopped_bad stops.ReadFault bad = bad
   stopped_bad stops.Memory bad = bad
 
--- of a file of records
-pub lines_read : (attrs : List Attr) (told : Option (List File)) (name bytes : List ℕ) (before now : Option (List ℕ))
-    (result : Result (Vec RowValue Global) Halt) → IsFileRead told name (2 ^ 24) now bytes
-    → MatchResult result (λ rows. IsRecordFile attrs bytes rows.items) (IsBad (HasLineFault attrs bytes))
-    → MatchResult result (λ rows. IsReadAs (captures Records false attrs) told name now (record { rows = rows.items; cut = None }))
-    (Halts (captures Records false attrs) told name before now)
-lines_read attrs told name bytes before now (Ok rows) read says =
-    rows_said Records false attrs told name bytes now (record { rows = rows.items; cut = None }) read says
-lines_read attrs told name bytes before now (Err halt) read bad =
-    rows_unsaid Records false attrs told name bytes before now halt read (bad_lines attrs bytes halt bad)
-
--- of which the first are kept
+-- of a file of records, of which the first are kept
 pub first_read : (attrs : List Attr) (told : Option (List File)) (name bytes : List ℕ) (before now : Option (List ℕ)) (most : ℕ)
     (result : Result (Vec RowValue Global) Halt) → IsFileRead told name (2 ^ 24) now bytes
     → MatchResult result (λ rows. AreFirst attrs bytes most rows.items) (IsBad (HasLineFault attrs bytes))
@@ -190,17 +179,29 @@ packets_read schema truncated Took told name before mid now (Err (Refused why)) 
     (file_read told name (2 ^ 32) before mid now takes.0 opened takes.1) takes.2
 packets_read schema truncated Took told name before mid now (Err (Stopped stop)) opened takes = file_stopped told name (2 ^ 32) before mid now opened takes
 
--- all of which are kept
-pub packets_kept : (schema : PacketSchema) (truncated : Bool) (told : Option (List File)) (name : List ℕ) (before mid now : Option (List ℕ))
+-- of which the first are kept
+pub packets_kept : (schema : PacketSchema) (truncated : Bool) (told : Option (List File)) (name : List ℕ) (before mid now : Option (List ℕ)) (most : ℕ)
     (result : Result Captured Halt)
-    → Opens told name before mid (Ok tt) → TakesPackets schema truncated (λ kept what. captured kept ≡ what) mid now result
-    → MatchResult result (λ kept. IsReadAs (captures (Packets schema) truncated (attrs_by schema)) told name now (captured kept))
+    → Opens told name before mid (Ok tt) → TakesPackets schema truncated (λ kept what. captured kept ≡ first_of most what) mid now result
+    → MatchResult result (λ kept. IsFirstOf (captures (Packets schema) truncated (attrs_by schema)) told name now most (captured kept))
     (Halts (captures (Packets schema) truncated (attrs_by schema)) told name before now)
-packets_kept schema truncated told name before mid now (Ok kept) opened takes =
-    subst (λ (what : CaptureValue). IsReadAs (captures (Packets schema) truncated (attrs_by schema)) told name now what) (sym takes.4)
-    (rows_said (Packets schema) truncated (attrs_by schema) told name takes.0 now takes.1
-    (file_read told name (2 ^ 32) before mid now takes.0 opened takes.2) takes.3)
-packets_kept schema truncated told name before mid now (Err (Refused why)) opened takes =
+packets_kept schema truncated told name before mid now most (Ok kept) opened takes = record {
+  what = takes.1;
+  read = rows_said (Packets schema) truncated (attrs_by schema) told name takes.0 now takes.1
+      (file_read told name (2 ^ 32) before mid now takes.0 opened takes.2) takes.3;
+  kept_is = takes.4;
+}
+packets_kept schema truncated told name before mid now most (Err (Refused why)) opened takes =
     rows_unsaid (Packets schema) truncated (attrs_by schema) told name takes.0 before now (Refused why)
     (file_read told name (2 ^ 32) before mid now takes.0 opened takes.1) takes.2
-packets_kept schema truncated told name before mid now (Err (Stopped stop)) opened takes = file_stopped told name (2 ^ 32) before mid now opened takes
+packets_kept schema truncated told name before mid now most (Err (Stopped stop)) opened takes = file_stopped told name (2 ^ 32) before mid now opened takes
+
+-- and of a file of records, which is never truncated
+pub lines_kept : (truncated : Bool) (attrs : List Attr) (told : Option (List File)) (name : List ℕ) (now : Option (List ℕ)) (most : ℕ)
+    (rows : List RowValue) → HasFirst attrs told name now most rows
+    → IsFirstOf (captures Records truncated attrs) told name now most (record { rows = rows; cut = None })
+lines_kept truncated attrs told name now most rows first = record {
+  what = record { rows = first.rows; cut = None };
+  read = first.read;
+  kept_is = ap (λ (rs : List RowValue). record { rows = rs; cut = None }) first.first_are;
+}

@@ -13,6 +13,7 @@ use Rattle.cf_intake.specs.declared.refusal.Halt.TheVariants.{Refused, Stopped}
 use Rattle.cf_intake.specs.declared.refusal.Refusal.TheVariants.{Capture}
 use Rattle.cf_intake.specs.declared.refusal.Stop.TheVariants.{ReadFault, Memory}
 use Rattle.cf_intake.specs.Files.{Grammar, IsReadAs, captures}
+use Rattle.cf_intake.specs.Several.{AreReadAs}
 use Rattle.cf_intake.specs.Rows.{CaptureValue}
 use Rattle.cf_intake.specs.declared.rows.Captured.{Captured}
 use Rattle.cf_intake.specs.declared.rows.Format.{Format}
@@ -48,6 +49,24 @@ captured host = record { rows = host.rows.items; cut = host.cut }
 
 abbrev pub captured_each : List Captured → List CaptureValue
 captured_each hosts = map captured hosts
+
+-- what is kept of what a capture says: its first rows, so many at most, and its end
+abbrev pub first_of : ℕ → CaptureValue → CaptureValue
+first_of most what = record { rows = take most what.rows; cut = what.cut }
+
+-- the capture of that name was read to its end, and this is kept of it
+pub record IsFirstOf (g : Grammar CaptureValue) (told : Option (List File)) (name : List ℕ) (now : Option (List ℕ)) (most : ℕ) (kept : CaptureValue)
+    : Type 0 where
+  pub what : CaptureValue
+  pub read : IsReadAs g told name now what
+  pub kept_is : kept ≡ first_of most what
+
+-- the captures of these names were read to their ends, after another file that was, and this is kept of each
+pub record AreFirstOf (g : Grammar CaptureValue) (told : Option (List File)) (names : List (List ℕ)) (now : Option (List ℕ)) (most : ℕ)
+    (kept : List CaptureValue) : Type 0 where
+  pub whats : List CaptureValue
+  pub read : AreReadAs g told names now whats
+  pub kept_are : kept ≡ map (first_of most) whats
 
 -- the file of records of that name was read to its end, and these are the first of its rows, so many at most
 pub record HasFirst (attrs : List Attr) (told : Option (List File)) (name : List ℕ) (now : Option (List ℕ)) (most : ℕ) (first : List RowValue) : Type 0 where

@@ -34,7 +34,7 @@ impl From<OpenFault> for ReadError {
 const CHUNK: usize = 4096;
 
 /// The most bytes of one write.
-const PIECE: usize = 256;
+const PIECE: usize = 4096;
 
 // Reads the opened file to its end, or until that many bytes were taken, and no further.
 fn read_rest<F: Shelf>(alloc: Global, shelf: &mut F, limit: usize) -> Result<Vec<u8>, ReadError>

@@ -1,5 +1,5 @@
 // The setup and the rows of the files that the words name.
-ghost use Rattle.std.specs.Prelude.{◌≡◌, Bool, false, None, All, Ok, IfOk, MatchResult};
+ghost use Rattle.std.specs.Prelude.{◌≡◌, Bool, false, All, Ok, IfOk, MatchResult};
 ghost use Rattle.cf_outside.specs.Files.{Opens};
 ghost use Rattle.cf_row.specs.Row.{Fits};
 ghost use Rattle.cf_packet6.specs.Schema6.{attrs_by};
@@ -7,12 +7,12 @@ ghost use Rattle.cf_setup.specs.declared.source.Source.TheVariants.{Packets, Rec
 ghost use Rattle.cf_packet6.specs.declared.PacketSchema.{PacketSchema};
 ghost use Rattle.cf_intake.specs.Files.{setups, captures, IsReadAs, Halts};
 ghost use Rattle.cf_intake.specs.Causes.{HasHaltCause};
-ghost use Rattle.cf_intake.specs.Parts.{HasFirst, IsSetupRead, captured, captures_by, attrs_in};
+ghost use Rattle.cf_intake.specs.Parts.{HasFirst, IsFirstOf, IsSetupRead, captured, captures_by, attrs_in};
 
 use crate::devices::{ReadError, read_file};
-use crate::pieces::collect_packets;
+use crate::pieces::first_packets;
 use crate::refusal::Halt;
-use crate::rows::{Captured, Format, Manner, first_records_of, records_of};
+use crate::rows::{Captured, Format, Manner, first_records_of};
 use cf_outside::Shelf;
 use cf_row::{Row, Schema};
 use cf_setup::{Setup, parse_setup};
@@ -49,23 +49,6 @@ pub fn open_packets<F: Shelf>(shelf: &mut F, name: &str) -> Result<(), Halt>
     }
 }
 
-/// The rows of the file of records of that name, which is read whole.
-pub fn read_lines<F: Shelf>(
-    alloc: Global,
-    shelf: &mut F,
-    name: &str,
-    schema: &Schema,
-) -> Result<Vec<Row>, Halt>
-    ensures files { F.files shelf.new ≡ F.files shelf.old }
-    ensures read { MatchResult result (λ rows. IsReadAs (captures Records false schema.now) (F.files shelf.old) name.now (F.rest shelf.new) (record { rows = rows.items; cut = None }))
-        (Halts (captures Records false schema.now) (F.files shelf.old) name.now (F.rest shelf.old) (F.rest shelf.new)) }
-    ensures fit { IfOk result (λ rows. All (Fits schema.now) rows.items) }
-    ensures cause { HasHaltCause (F.faults shelf.old) (F.faults shelf.new) result }
-{
-    let bytes = read_file(alloc, shelf, name, RECORDS_LIMIT)?;
-    records_of(alloc, schema, &bytes)
-}
-
 /// The first rows of the file of records of that name, so many at most. It is read whole, and each record is judged.
 pub fn first_lines<F: Shelf>(
     alloc: Global,
@@ -84,15 +67,16 @@ pub fn first_lines<F: Shelf>(
     first_records_of(alloc, schema, &bytes, most)
 }
 
-/// All rows of the capture of that name.
-pub fn collect_rows<F: Shelf>(
+/// The first rows of the capture of that name, so many at most. It is read to its end, and each record is judged.
+pub fn first_rows<F: Shelf>(
     alloc: Global,
     shelf: &mut F,
     name: &str,
     manner: Manner,
+    most: usize,
 ) -> Result<Captured, Halt>
     ensures files { F.files shelf.new ≡ F.files shelf.old }
-    ensures read { MatchResult result (λ kept. IsReadAs (captures_by manner.entry) (F.files shelf.old) name.now (F.rest shelf.new) (captured kept))
+    ensures read { MatchResult result (λ kept. IsFirstOf (captures_by manner.entry) (F.files shelf.old) name.now (F.rest shelf.new) most (captured kept))
         (Halts (captures_by manner.entry) (F.files shelf.old) name.now (F.rest shelf.old) (F.rest shelf.new)) }
     ensures fit { IfOk result (λ kept. All (Fits (attrs_in manner.entry.format)) kept.rows.items) }
     ensures cause { HasHaltCause (F.faults shelf.old) (F.faults shelf.new) result }
@@ -100,10 +84,10 @@ pub fn collect_rows<F: Shelf>(
     match manner.format {
         Format::Packets(schema) => {
             open_packets(shelf, name)?;
-            collect_packets(alloc, shelf, schema, manner.truncated)
+            first_packets(alloc, shelf, schema, manner.truncated, most)
         }
         Format::Records(schema) => {
-            let rows = read_lines(alloc, shelf, name, schema)?;
+            let rows = first_lines(alloc, shelf, name, schema, most)?;
             Ok(Captured { rows, cut: None })
         }
     }

@@ -1,28 +1,30 @@
-// The rows of several hosts, each from a capture of its own.
+// The first rows of several hosts, each from a capture of its own.
 ghost use Rattle.std.specs.Prelude.{◌≡◌, [], Some, All, IfOk, length, MatchResult};
 ghost use Rattle.cf_row.specs.Row.{Fits};
 ghost use Rattle.cf_intake.specs.Files.{HasLeft};
 ghost use Rattle.cf_intake.specs.Causes.{HasHaltCause};
-ghost use Rattle.cf_intake.specs.Parts.{attrs_in, captured_each, captures_by, rows_each};
-ghost use Rattle.cf_intake.specs.Several.{names_in, AreReadAs, AreHalted};
+ghost use Rattle.cf_intake.specs.Parts.{AreFirstOf, attrs_in, captured_each, captures_by, rows_each};
+ghost use Rattle.cf_intake.specs.Several.{names_in, AreHalted};
 
-use crate::files::collect_rows;
+use crate::files::first_rows;
 use crate::refusal::{Halt, Stop};
 use crate::rows::{Captured, Manner};
 use cf_outside::Shelf;
 use std::alloc::Global;
 
-/// The rows of the captures in the files of these names, which are read one after another.
+/// The first rows of the captures in the files of these names, so many of each at most. They are read one after another, each to its end, and
+/// all their records are judged.
 pub fn read_hosts<F: Shelf>(
     alloc: Global,
     shelf: &mut F,
     names: &[&str],
     manner: Manner,
+    most: usize,
 ) -> Result<Vec<Captured>, Halt>
     requires { HasLeft (F.files shelf.old) (F.rest shelf.old) (Some []) }
     ensures files { F.files shelf.new ≡ F.files shelf.old }
     ensures read { MatchResult result
-        (λ hosts. AreReadAs (captures_by manner.entry) (F.files shelf.old) (names_in names.now) (F.rest shelf.new) (captured_each hosts.items))
+        (λ hosts. AreFirstOf (captures_by manner.entry) (F.files shelf.old) (names_in names.now) (F.rest shelf.new) most (captured_each hosts.items))
         (AreHalted (captures_by manner.entry) (F.files shelf.old) (names_in names.now) (Some []) (F.rest shelf.new)) }
     ensures cause { HasHaltCause (F.faults shelf.old) (F.faults shelf.new) result }
     ensures fit { IfOk result (λ hosts. All (All (Fits (attrs_in manner.entry.format))) (rows_each hosts.items)) }
@@ -30,7 +32,7 @@ pub fn read_hosts<F: Shelf>(
 {
     let mut hosts = Vec::new(alloc);
     for name in names {
-        let host = collect_rows(alloc, shelf, name, manner)?;
+        let host = first_rows(alloc, shelf, name, manner, most)?;
         match hosts.push(host) {
             Ok(()) => {}
             Err(_) => return Err(Halt::Stopped(Stop::Memory)),

@@ -1,5 +1,5 @@
 // A capture of packets is read in pieces, and its rows come piece by piece.
-ghost use Rattle.std.specs.Prelude.{◌≡◌, ◌≤◌, ◌<◌, ◌^◌, ◌+◌, ℕ, List, Option, [], length, take, false, All, IfOk, OnErr, IsTrue, Err};
+ghost use Rattle.std.specs.Prelude.{◌≡◌, ◌≤◌, ◌<◌, ◌^◌, ◌+◌, ◌++◌, ℕ, List, Option, [], length, take, false, All, IfOk, OnErr, OnOk, IsTrue, Err};
 ghost use Rattle.cf_outside.specs.Causes.{HasCause};
 ghost use Rattle.cf_pcap.specs.Capture.{FrameValue};
 ghost use Rattle.cf_row.specs.Row.{Fits, RowValue};
@@ -7,7 +7,7 @@ ghost use Rattle.cf_packet6.specs.Schema6.{attrs_by};
 ghost use Rattle.cf_intake.specs.Devices.{TakesUpTo, TakesAtMost};
 ghost use Rattle.cf_intake.specs.Causes.{HasHaltCause, HasStopCause};
 ghost use Rattle.cf_intake.specs.Reading.{AddsFew, Feeds, HasMore, IfReadOn, IfReaderAt, IsLast, IsReadOn, ReadsOn, StopsOn, TakesPackets, pieces_left, reads_blocks, reads_scope};
-ghost use Rattle.cf_intake.specs.Parts.{captured};
+ghost use Rattle.cf_intake.specs.Parts.{captured, first_of};
 ghost use Rattle.cf_intake.specs.Rows.{links_by, packet_rows};
 ghost use Rattle.cf_intake.specs.declared.refusal.Halt.TheVariants.{Stopped};
 ghost use Rattle.cf_intake.specs.declared.refusal.Stop.TheVariants as stops;
@@ -204,22 +204,33 @@ impl Pieces {
     }
 }
 
-/// The rows of the opened capture by that schema. It is read to its end, or until 2^32 bytes were taken.
-pub(crate) fn collect_packets<F: Shelf>(
+// Keeps more rows behind the first ones, so many at most in all.
+fn keep_first(kept: &mut Vec<Row>, mut more: Vec<Row>, most: usize) -> Result<(), Memory>
+    ensures { OnOk result ((all : List RowValue) → kept.old.items ≡ take most all → kept.new.items ≡ take most (all ++ more.items)) }
+{
+    more.truncate(most.saturating_sub(kept.len()));
+    kept.append(&mut more)?;
+    Ok(())
+}
+
+/// The first rows of the opened capture by that schema, so many at most. It is read to its end, or until 2^32 bytes were taken.
+pub(crate) fn first_packets<F: Shelf>(
     alloc: Global,
     shelf: &mut F,
     schema: PacketSchema,
     truncated: bool,
+    most: usize,
 ) -> Result<Captured, Halt>
     ensures files { F.files shelf.new ≡ F.files shelf.old }
-    ensures taken { TakesPackets schema truncated (λ kept what. captured kept ≡ what) (F.rest shelf.old) (F.rest shelf.new) result }
+    ensures taken { TakesPackets schema truncated (λ kept what. captured kept ≡ first_of most what) (F.rest shelf.old) (F.rest shelf.new) result }
     ensures fit { IfOk result (λ kept. All (Fits (attrs_by schema)) kept.rows.items) }
     ensures cause { HasHaltCause (F.faults shelf.old) (F.faults shelf.new) result }
 {
     let (mut pieces, mut rows) = Pieces::begin(alloc, shelf, schema)?;
+    rows.truncate(most);
     while pieces.has_more() {
-        let mut given = pieces.next(alloc, shelf)?;
-        rows.append(&mut given)?;
+        let given = pieces.next(alloc, shelf)?;
+        keep_first(&mut rows, given, most)?;
     }
     let cut = pieces.finish(truncated)?;
     Ok(Captured { rows, cut })

@@ -2,7 +2,7 @@
 ghost use Rattle.std.specs.Prelude.{◌≡◌, All, IfOk, MatchResult};
 ghost use Rattle.cf_row.specs.Row.{Fits};
 ghost use Rattle.cf_packet6.specs.Schema6.{attrs_by};
-ghost use Rattle.cf_records.specs.Records.{AreFirst, IsRecordFile};
+ghost use Rattle.cf_records.specs.Records.{AreFirst};
 ghost use Rattle.cf_intake.specs.Faults.{HasLineFault};
 ghost use Rattle.cf_intake.specs.Parts.{IsBad, IsSetupRead, source_in, attrs_in};
 ghost use Rattle.cf_intake.specs.Reads.{numbered_on};
@@ -12,7 +12,7 @@ use crate::refusal::Halt;
 use cf_headers::{packet_row, packet6_row};
 use cf_packet6::PacketSchema;
 use cf_pcap::Frame;
-use cf_records::{read_first, read_records};
+use cf_records::read_first;
 use cf_row::{Memory, Row, Schema};
 use cf_setup::{Setup, Source};
 use std::alloc::Global;
@@ -34,7 +34,7 @@ pub struct Manner<'a> {
     pub truncated: bool,
 }
 
-/// The rows of a capture.
+/// What is kept of a capture: its first rows.
 #[derive(Drop)]
 pub struct Captured {
     pub rows: Vec<Row>,
@@ -98,14 +98,6 @@ pub(crate) fn numbered_rows(
         num = num.saturating_add(1);
     }
     Ok(rows)
-}
-
-/// The rows of a file of records.
-pub(crate) fn records_of(alloc: Global, schema: &Schema, bytes: &[u8]) -> Result<Vec<Row>, Halt>
-    ensures rows { MatchResult result (λ rows. IsRecordFile schema.now bytes.now rows.items) (IsBad (HasLineFault schema.now bytes.now)) }
-    ensures fit { IfOk result (λ rows. All (Fits schema.now) rows.items) }
-{
-    Ok(read_records(alloc, schema, bytes)?)
 }
 
 /// The first rows of a file of records, so many at most. Each record is judged.

@@ -1,6 +1,5 @@
 -- From the parts of the work to what is due, and what is left of the opened file.
-use Rattle.std.proofs.Common.{◌≡◌, ℕ, ◌*◌, ◌<◌, ◌≤◌, Bool, true, false, List, [], ◌++◌, length, Option, Some, None, Result, Ok, Err, MatchResult, All, refl, sym, ap, subst, inl, inr, arith}
-use Rattle.std.proofs.lemmas.Simd.{map-map}
+use Rattle.std.proofs.Common.{◌≡◌, ℕ, ◌+◌, ◌*◌, ◌<◌, ◌≤◌, Bool, true, false, List, [], ◌++◌, length, Option, Some, None, Result, Ok, Err, MatchResult, All, Any, refl, sym, ap, subst, inl, inr, arith}
 use Rattle.cf_outside.specs.Files.{File}
 use Rattle.cf_row.specs.Row.{RowValue}
 use Rattle.cf_packet6.specs.Schema6.{attrs_by}
@@ -17,11 +16,12 @@ use Rattle.cf_run.specs.Due.Work.{report, answers, listing, at_cut, refused}
 use Rattle.cf_run.specs.Due.CallsBy.{halted, whole}
 use Rattle.cf_run.specs.Due.CallsByAll.{one_halted, all_whole}
 use Rattle.cf_run.specs.Due.GivesCut.{refuses_hosts, tells_hosts}
+use Rattle.cf_run.specs.Due.HostsExceed.{some_full}
 use Rattle.cf_run.specs.Due.GivesLog.{refuses, tells}
 use Rattle.cf_intake.specs.Files.{IsStopped, Grammar, setups, captures, IsFileAs, IsFileRefused, IsReadAs, Halts}
 use Rattle.cf_intake.specs.Files.IsFileRefused.{missing, broken}
 use Rattle.cf_run.specs.Parts.{EndsWith, IsPrepared, reply_status, reply_text, reply_seals, ends_each}
-use Rattle.cf_intake.specs.Parts.{captured, captured_each, rows_each}
+use Rattle.cf_intake.specs.Parts.{AreFirstOf, captured_each, rows_each}
 use Rattle.cf_intake.specs.Rows.{CaptureValue}
 use Rattle.cf_intake.specs.declared.rows.Captured.{Captured}
 use Rattle.cf_fill.specs.Logs.{NodesSuffice, IsUnmade, halt_of}
@@ -30,12 +30,13 @@ use Rattle.cf_run.specs.Refusals.{status_of}
 use Rattle.cf_fill.specs.Seals.{IsSealedReport}
 use Rattle.cf_intake.specs.Several.{AreReadAs, AreHalted, AreStopped}
 use Rattle.cf_fill.specs.Work.{draws, drawn_rows, shape_for}
-use Rattle.cf_run.specs.Hosts.{rows_told, ends_told}
+use Rattle.cf_run.specs.Hosts.{ends_told}
 use Rattle.cf_run.specs.Due.Exceeds.{full, short}
 use Rattle.cf_fill.proofs.Drawing.{drawn_many}
 use Rattle.cf_fill.proofs.Whole.{whole_taken}
 use Rattle.cf_intake.proofs.Several.{all_taken, halts_after, refused_stopped}
 use Rattle.cf_intake.proofs.Taking.{left_same}
+use Rattle.cf_run.proofs.Keeping.{rows_captured, ends_captured, full_told}
 use Rattle.cf_run.specs.declared.reply.WorkReply.{WorkReply}
 use Rattle.cf_fill.specs.declared.log.Unmade.{Unmade}
 use Rattle.cf_fill.specs.declared.log.Unmade.TheVariants as unmade
@@ -47,13 +48,6 @@ use Rattle.cf_intake.specs.declared.refusal.Stop.{Stop}
 use Rattle.cf_intake.specs.declared.refusal.Stop.TheVariants as stops
 use Rattle.cf_run.specs.declared.status.Status.{Status}
 use Rattle.cf_run.specs.declared.status.Status.TheVariants.{Done}
-
--- what is told of hosts is what was read of them
-rows_captured : (hosts : List Captured) → rows_told (captured_each hosts) ≡ rows_each hosts
-rows_captured hosts = map-map (λ (what : CaptureValue). what.rows) captured hosts
-
-ends_captured : (hosts : List Captured) → ends_told (captured_each hosts) ≡ ends_each hosts
-ends_captured hosts = map-map (λ (what : CaptureValue). what.cut) captured hosts
 
 -- a file that halts the work
 ends_halted : {A : Type 0} (g : Grammar A) (told : Option (List File)) (call : Option Call) (name : List ℕ) (start before now : Option (List ℕ))
@@ -174,6 +168,18 @@ module _ (told : Option (List File)) (call : SnapshotCall) (before now : Option 
         → EndsWith told (Some (snapshot call)) before now (Err halt)
     snapshot_unread (Refused why) halts = record { work = refused why; comes = whole setup set.0 (one_halted why halts refl); gives = (refl, refl, refl) }
     snapshot_unread (Stopped stop) halts = inr (setup, set.0, halts)
+
+    -- of which some host has too many rows
+    pub snapshot_full : (hosts : List Captured)
+        → AreFirstOf (captures setup.source call.truncated setup.schema) told call.captures now (call.sizes.capacity + 1) (captured_each hosts)
+        → Any (λ rows. call.sizes.capacity < length rows) (rows_each hosts)
+        → EndsWith told (Some (snapshot call)) before now (Err (Refused (refusals.Full call.sizes.capacity)))
+    snapshot_full hosts first many = record {
+      work = at_cut call setup first.whats;
+      comes = whole setup set.0 (all_whole first.whats first.read.0 (refl, first.read.1));
+      gives = refuses_hosts (refusals.Full call.sizes.capacity) (some_full (full_told call.sizes.capacity hosts first.whats first.kept_are many) refl)
+          (refl, refl, refl);
+    }
 
     module _ (hosts : List Captured) (read : AreReadAs (captures setup.source call.truncated setup.schema) told call.captures now (captured_each hosts)) where
       snapshot_gives : (status : Status) (text : List ℕ) (seals : List SealValue)

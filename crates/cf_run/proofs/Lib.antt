@@ -1,4 +1,5 @@
 pub mod OneHost
+pub mod Keeping
 pub mod Taken
 pub mod Deciding
 pub mod Ending

@@ -79,17 +79,6 @@ fn push_cut(text: &mut String, several: bool, place: usize, cut: Option<u64>) ->
     write!(text, "truncated: capture {capture} record {record}\n")
 }
 
-// The lines of all captures that end within records.
-fn push_cuts(text: &mut String, several: bool, cuts: &[Option<u64>]) -> Result<(), Memory>
-    requires { length cuts.now ≤ 4096 }
-    ensures { OnOk result (string_bytes text.new ≡ string_bytes text.old ++ cut_lines several cuts.now) }
-{
-    for place in 0..cuts.len() {
-        push_cut(text, several, place, cuts[place])?;
-    }
-    Ok(())
-}
-
 // A text about captures, with the lines of those that end within records behind it.
 fn with_cuts(
     alloc: Global,
@@ -101,7 +90,9 @@ fn with_cuts(
     ensures { IfOk result (λ reply. IsTold reply (text.items ++ cut_lines several cuts.now)) }
 {
     let mut lines = String::new(alloc);
-    push_cuts(&mut lines, several, cuts)?;
+    for place in 0..cuts.len() {
+        push_cut(&mut lines, several, place, cuts[place])?;
+    }
     text.extend_from_slice(lines.as_bytes())?;
     let seals = Vec::new(alloc);
     Ok(WorkReply::Done { text, seals })

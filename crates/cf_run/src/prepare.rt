@@ -134,8 +134,10 @@ fn snapshot_answers<F: Shelf>(
         format: format_of(&setup),
         truncated: command.truncated,
     };
-    let captures = read_hosts(alloc, shelf, &command.captures, manner)?;
     let sizes = command.sizes;
+    // One row more than there is room for shows that there are more.
+    let most = sizes.capacity as usize + 1;
+    let captures = read_hosts(alloc, shelf, &command.captures, manner, most)?;
     if is_some_full(&captures, sizes.capacity) {
         let most = sizes.capacity as u64;
         return Err(Halt::Refused(Refusal::Full { most }));
