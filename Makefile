@@ -27,7 +27,7 @@ try:
 
 test:
 	rt ci
-	@$(MAKE) --no-print-directory check-tools check-twin check-bindings check-packages
+	@$(MAKE) --no-print-directory built check-tools check-twin check-bindings check-packages
 
 check-tools:
 	@if command -v $(PYTHON) > /dev/null; then cd tools/tests && $(PYTHON) -B -m unittest discover; \

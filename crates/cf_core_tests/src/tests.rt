@@ -177,56 +177,6 @@ fn one_writer_is_marked_once(rt: HostRuntime) -> Result<(), Fail> {
     Ok(())
 }
 
-// 3 words for each ticket, and 241 for each node.
-#[test]
-fn a_large_world(rt: HostRuntime) -> Result<(), Fail> {
-    let world = world(&rt, rt.alloc(), 20_000, 15)?;
-    assert_eq!(rt; world.words().len(), 2 + 3 * 20_000 + 241 * 30);
-    Ok(())
-}
-
-#[test]
-fn every_writer_is_marked_once(rt: HostRuntime) -> Result<(), Fail> {
-    let alloc = rt.alloc();
-    let mut world = world(&rt, alloc, 1, 15)?;
-    for writer in 0..15 {
-        let pass = u32::from(writer) + 1;
-        says(&rt, alloc, &mut world, 0, Act::Split(Some(writer)), true)?;
-        says(
-            &rt,
-            alloc,
-            &mut world,
-            pass,
-            Act::Ticket(row(alloc, 0, 9)?),
-            true,
-        )?;
-    }
-    says(&rt, alloc, &mut world, 1, Act::Cell(0, 0, 9), true)?;
-    says(&rt, alloc, &mut world, 1, Act::Cell(0, 1, 0), true)?;
-    says(&rt, alloc, &mut world, 1, Act::Done(0), true)?;
-    says(
-        &rt,
-        alloc,
-        &mut world,
-        1,
-        Act::Ticket(row(alloc, 1, 9)?),
-        true,
-    )?;
-    assert_eq!(rt; world.words()[0], 16);
-    for pass in 0..16 {
-        says(
-            &rt,
-            alloc,
-            &mut world,
-            pass,
-            Act::Ticket(row(alloc, 2, 9)?),
-            false,
-        )?;
-    }
-    assert_eq!(rt; world.words()[0], 16);
-    Ok(())
-}
-
 // A world of two writers and a lane of all rows for each key, or none where a lane isn't of the schema.
 fn lane_world(
     rt: &impl Abort,
@@ -372,33 +322,6 @@ fn a_ticket_ends_in_each_lane(rt: HostRuntime) -> Result<(), Fail> {
     Ok(())
 }
 
-#[test]
-fn a_ticket_ends_after_its_last_lane(rt: HostRuntime) -> Result<(), Fail> {
-    let alloc = rt.alloc();
-    let kinds = [("ts", Kind::U64), ("k", Kind::U8)];
-    let keys = [Key::Attr(1), Key::Attr(1)];
-    let mut world = lane_world(&rt, alloc, &kinds, &keys, None, 2)?.expect(&rt, "lanes");
-    takes(&rt, alloc, &mut world, [[3, 53], [5, 53]])?;
-    for (act, answer) in [
-        (Act::Label(0, 929), true),
-        (Act::Link(29, 0), true),
-        (Act::Label(1, 1441), true),
-        (Act::Link(45, 1), true),
-        (Act::Cell(0, 0, 3), true),
-        (Act::Cell(0, 1, 53), true),
-        (Act::Cell(0, 2, 0), true),
-        (Act::Cell(0, 3, 0), true),
-        (Act::Cell(0, 4, 0), true),
-        (Act::Head(0, 0, 5, 0), true),
-        (Act::Done(0), false),
-        (Act::Head(1, 1, 5, 0), true),
-        (Act::Done(0), true),
-    ] {
-        says(&rt, alloc, &mut world, 1, act, answer)?;
-    }
-    Ok(())
-}
-
 // the path of bucket 0 is linked by pass 1 and loaded by pass 2
 fn bucket_path(rt: &impl Abort, alloc: Global, world: &mut World) -> Result<(), Memory> {
     for level in 1..16 {
@@ -472,27 +395,5 @@ fn a_cell_counts_its_writers_rows(rt: HostRuntime) -> Result<(), Fail> {
             "word {place}"
         );
     }
-    Ok(())
-}
-
-#[test]
-fn an_ask_waits_for_what_is_finished(rt: HostRuntime) -> Result<(), Fail> {
-    let alloc = rt.alloc();
-    let mut world = one_finished(&rt, alloc)?;
-    says(&rt, alloc, &mut world, 2, Act::LoadTail(true), true)?;
-    assert_eq!(rt; world.words().get(1).copied(), Some(0));
-    for (pass, act) in [
-        (1, Act::Cell(0, 0, 3)),
-        (1, Act::Cell(0, 1, 0)),
-        (1, Act::Done(0)),
-        (1, Act::LookDone(0)),
-        (1, Act::Advance(0)),
-        (1, Act::LookDone(1)),
-        (1, Act::Advance(1)),
-        (2, Act::LoadTail(true)),
-    ] {
-        says(&rt, alloc, &mut world, pass, act, true)?;
-    }
-    assert_eq!(rt; world.words().get(1).copied(), Some(2));
     Ok(())
 }

@@ -9,8 +9,6 @@ mod ending;
 mod gone;
 mod laws;
 mod said;
-#[cfg(test)]
-mod tests;
 mod truncated;
 mod watch;
 

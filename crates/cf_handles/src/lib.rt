@@ -8,7 +8,5 @@ pub mod names;
 pub mod numbered;
 mod parts;
 mod seats;
-#[cfg(test)]
-mod tests;
 
 pub use handles::{LogHandle, ReaderHandle, WriterHandle};

@@ -4,16 +4,12 @@
 
 mod batch;
 mod finals;
-#[cfg(test)]
-mod gates;
 mod loader;
 mod loads;
 mod plan;
 mod prior;
 mod reader;
 mod segment_asks;
-#[cfg(test)]
-mod tests;
 mod writers;
 
 pub use cf_segments::{Closing, Sealing, Segments, TurnFault};

@@ -1,6 +1,5 @@
 -- Writers' passes append and ask, and come home.
-use Rattle.std.proofs.Common.{◌≡◌, ◌∙◌, ◌+◌, ◌<◌, ◌++◌, get_or, ℕ, zero, suc, List, [], ◌∷◌, length, Some, slice_get, Result, Ok, Err, is_ok, true, IfOk, IfErr, refl, ap, sym, subst, arith}
-use Rattle.std.specs.declared.alloc.AllocError.{AllocError}
+use Rattle.std.proofs.Common.{◌≡◌, ◌∙◌, ◌<◌, get_or, ℕ, zero, suc, List, [], ◌∷◌, length, Some, slice_get, Result, refl, ap, sym, subst, arith}
 use Rattle.std.proofs.lemmas.Option.{slice_get_within}
 use Rattle.cf_row.specs.Row.{RowValue}
 use Rattle.cf_shape.specs.Lanes.{ShapeValue}
@@ -16,10 +15,9 @@ use Rattle.cf_table.specs.Moves.{AreDealt, AreAll}
 use Rattle.cf_append.specs.Appends.{PassGoesOn, Rests, HasAppendAnswer}
 use Rattle.cf_append.specs.declared.appends.AppendFault.{AppendFault}
 use Rattle.cf_append.proofs.Appending.{rests_by, rests_all}
-use Rattle.cf_append.proofs.Answering.{rests_same, same_writer}
-use Rattle.cf_query.specs.Asking.{HasAsked}
-use Rattle.cf_log_tests.specs.Writers.{IsWriters, AreDealtOut, AreWritersFrom}
-use Rattle.cf_table.proofs.Homing.{some_at, still_one}
+use Rattle.cf_append.proofs.Answering.{same_writer}
+use Rattle.cf_log_tests.specs.Writers.{IsWriters, AreDealtOut}
+use Rattle.cf_table.proofs.Homing.{still_one}
 
 -- All books are dealt.
 dealt_at : (log : LogValue) (m n : PassValue) (hs : List PassValue) (k : ℕ) (h : PassValue) → m.view ≡ root_pass log.shape → AreDealt log m hs n
@@ -55,29 +53,10 @@ dealt_out shape log m n hs opened is dealt =
       each = λ k h at. dealt_at log m n hs k h view dealt at;
     }
 
-pub same_books : (log : LogValue) (w : ℕ) (m n : PassValue) → IsWriters log w m → n ≡ record m { view = n.view } → (n.view).books ≡ (m.view).books
-    → IsWriters log w n
-same_books log w m n is same books =
-    record {
-      of = still_one log m n is.of same;
-      rest = rests_same m.view n.view books is.rest;
-      writer_is = ap (λ (bs : List Book). (get_or bs 0 (no_book 0)).writer) books ∙ is.writer_is;
-    }
-
 pub appended : (log : LogValue) (w : ℕ) (row : RowValue) (m n : PassValue) (r : Result ℕ AppendFault) → IsWriters log w m → PassGoesOn m n → Rests n.view
     → HasAppendAnswer log.shape row m n r → IsWriters log w n
 appended log w row m n r is goes rest done =
     record { of = still_one log m n is.of goes.same; rest = rest; writer_is = same_writer log.shape row m n r done ∙ is.writer_is }
-
-pub asked : (log : LogValue) (w : ℕ) (m n : PassValue) (A : Type 0) (P : A → Type 0) (r : Result A AllocError) → IsWriters log w m
-    → IfOk r (λ a. HasAsked log.shape m n × P a) → IfErr r (λ x. HasAsked log.shape m n) → IsWriters log w n
-asked log w m n A P (Ok a) is ok err = same_books log w m n is (ok.0).same (ok.0).books
-asked log w m n A P (Err e) is ok err = same_books log w m n is err.same err.books
-
--- what holds of an answer holds where there is one
-pub ok_then : {A B : Type 0} {P : Type 0} (r : Result A B) → is_ok r ≡ true → IfOk r (λ _. P) → P
-ok_then (Ok a) good p = p
-ok_then (Err e) good p = absurd (cc good)
 
 -- One writer's pass, or two, are all.
 pub each_one : (P : PassValue → Type 0) (a : PassValue) → P a → (k : ℕ) (h : PassValue) → slice_get (a ∷ []) k ≡ Some h → P h
@@ -134,33 +113,3 @@ pub forked_first : (shape : ShapeValue) (log : LogValue) (m p q n a : PassValue)
     → AreDealt log q hs n → hs ≡ a ∷ rest → IsWriters log 0 a
 forked_first shape log m p q n a hs rest opened is one two dealt first =
     first_ready shape log n a hs rest (dealt_out shape log q n hs opened (two ∙ (one ∙ is)) dealt) first
-
--- The writers' passes, one after the other.
-pub dealt_from : (shape : ShapeValue) (log : LogValue) (root : PassValue) (hs : List PassValue) → AreDealtOut shape log root hs → AreWritersFrom log 0 hs
-dealt_from shape log root hs dealt k h at = subst (λ (w : ℕ). IsWriters log w h) (omega arith) (dealt.each k h at)
-
-pub from_first : (log : LogValue) (n : ℕ) (h : PassValue) (rest : List PassValue) → AreWritersFrom log n (h ∷ rest) → IsWriters log n h
-from_first log n h rest all = subst (λ (w : ℕ). IsWriters log w h) (omega arith) (all 0 h refl)
-
-pub from_rest : (log : LogValue) (n : ℕ) (h : PassValue) (rest : List PassValue) → AreWritersFrom log n (h ∷ rest) → AreWritersFrom log (n + 1) rest
-from_rest log n h rest all k x at = subst (λ (w : ℕ). IsWriters log w x) (omega arith) (all (suc k) x at)
-
-pub from_push : (log : LogValue) (n : ℕ) (hs : List PassValue) (x : PassValue) → AreWritersFrom log n hs → IsWriters log (n + length hs) x
-    → AreWritersFrom log n (hs ++ x ∷ [])
-from_push log n [] x all last zero h at = (let same : x ≡ h = cc at in subst (λ (g : PassValue). IsWriters log (n + 0) g) same last)
-from_push log n [] x all last (suc k) h at = absurd (cc at)
-from_push log n (y ∷ ys) x all last zero h at = all 0 h at
-from_push log n (y ∷ ys) x all last (suc k) h at =
-    subst (λ (w : ℕ). IsWriters log w h) (omega arith)
-    (from_push log (n + 1) ys x (from_rest log n y ys all) (subst (λ (w : ℕ). IsWriters log w x) (omega arith) last) k h at)
-
-pub all_from : (log : LogValue) (hs : List PassValue) → length hs ≡ (log.shape).writers → AreWritersFrom log 0 hs → AreAll log hs
-all_from log hs count all = record {
-  of = λ k h at. (all k h at).of;
-  rest = λ k h at. rests_all h.view (all k h at).rest;
-  count = count;
-  writers = λ w lt.
-      let there = some_at hs w (omega (arith, lt, count)) in
-      let is = all w there.0 there.1 in
-      (w, there.0, 0, book_of (there.0).view, there.1, holds_its log (0 + w) there.0 is, is.writer_is ∙ (omega arith));
-}

@@ -1,5 +1,5 @@
 -- The writers' passes of a log, as the tests hand them about.
-use Rattle.std.specs.Prelude.{ℕ, ◌≡◌, ◌+◌, List, [], length, Some, slice_get}
+use Rattle.std.specs.Prelude.{ℕ, ◌≡◌, List, [], length, Some, slice_get}
 use Rattle.cf_shape.specs.Lanes.{ShapeValue}
 use Rattle.cf_table.specs.Values.{PassValue, LogValue, IsOf, book_of}
 use Rattle.cf_append.specs.Appends.{Rests}
@@ -10,10 +10,6 @@ pub record IsWriters (log : LogValue) (writer : ℕ) (h : PassValue) : Type 0 wh
   pub rest : Rests h.view
   pub writer_is : (book_of h.view).writer ≡ writer
 
--- each pass is at rest, with the book of a writer
-abbrev pub AreReady : LogValue → List PassValue → Type 0
-AreReady log passes = (k : ℕ) (h : PassValue) → slice_get passes k ≡ Some h → (w : ℕ) × IsWriters log w h
-
 -- all books of a new log of the shape were dealt, each writer's in its place
 pub record AreDealtOut (shape : ShapeValue) (log : LogValue) (root : PassValue) (passes : List PassValue) : Type 0 where
   pub opened : log.shape ≡ shape
@@ -22,7 +18,3 @@ pub record AreDealtOut (shape : ShapeValue) (log : LogValue) (root : PassValue) 
   pub away : (root.view).books ≡ []
   pub count : length passes ≡ shape.writers
   pub each : (k : ℕ) (h : PassValue) → slice_get passes k ≡ Some h → IsWriters log k h
-
--- the passes are those of the writers from n on, each in its place
-abbrev pub AreWritersFrom : LogValue → ℕ → List PassValue → Type 0
-AreWritersFrom log n passes = (k : ℕ) (h : PassValue) → slice_get passes k ≡ Some h → IsWriters log (n + k) h

@@ -1,19 +1,16 @@
-ghost use Rattle.std.specs.Prelude.{◌≡◌, ◌≤◌, ◌+◌, ◌<◌, IfOk, OnOk};
-ghost use Rattle.cf_row.specs.Row.{Fits};
+ghost use Rattle.std.specs.Prelude.{◌≡◌, ◌<◌, OnOk};
 ghost use Rattle.cf_table.specs.Values.{IsOf};
 ghost use Rattle.cf_plain.specs.Asks.{Suits};
-ghost use Rattle.cf_log_tests.specs.Writers.{IsWriters, AreReady};
+ghost use Rattle.cf_log_tests.specs.Writers.{IsWriters};
 
 use crate::tests::{
-    answers, append_all, append_at, atom, check, dealt, expr_of, first_of, numbers_of, row_of,
-    shape_of, trigger, triggers, two_of,
+    append_at, atom, check, dealt, expr_of, numbers_of, row_of, shape_of, triggers, two_of,
 };
-use cf_append::append;
 use cf_fold::Part;
 use cf_plain::{Ask, Body, Plain, suits};
-use cf_query::{ask, finding, groups, measure};
+use cf_query::{finding, groups, measure};
 use cf_row::{Kind, Memory, Op, Row, fits};
-use cf_shape::{Key, Shape, levels};
+use cf_shape::Key;
 use cf_table::{MultiLog, Pass, ReaderPass, Steps, WriterPass};
 use std::alloc::Global;
 use std::marker::Brand;
@@ -42,85 +39,6 @@ fn check_bucket<P: Pass, L: Ledger, R: Abort>(
         quad.greatest(),
     ];
     assert_eq!(rt; found.as_slice(), wanted);
-}
-
-// One bucket of a log of three places, all covered, is measured within so many steps.
-fn measure_within<P: Pass, L: Ledger, R: Abort>(
-    rt: &R,
-    log: &MultiLog,
-    pass: &mut P,
-    steps: &mut Steps<L>,
-)
-    requires of { IsOf (P.held pass.old) log.now }
-    ensures { steps.new ≤ steps.old + 29 }
-{
-    assert!(rt; suits(log.shape(), &Ask::Measure(0, 0, 0)));
-    assert!(rt; log.shape().capacity() == 3);
-    assert!(rt; log.shape().writers() == 2);
-    assert!(rt; levels(log.shape(), 0) == 16);
-    let (tail, quad) = measure(log, pass, 0, 0, 0, steps);
-    assert!(rt; tail == 3);
-    assert!(rt; quad.count() == 3);
-}
-
-// Two writers append to one bucket, and a reader measures it.
-fn measure_between<L: Ledger, R: Abort>(
-    rt: &R,
-    alloc: Global,
-    log: &MultiLog,
-    mut first: WriterPass,
-    mut second: WriterPass,
-    reader: &mut ReaderPass,
-    steps: &mut Steps<L>,
-) -> Result<(), Fail>
-    requires ready { IsWriters log.now 0 first × IsWriters log.now 1 second }
-    requires of { IsOf reader.old log.now }
-    ensures { OnOk result (IsOf reader.new log.now) }
-{
-    let seven = row_of(alloc, 0, &[3, 7])?;
-    assert!(rt; fits(log.shape().schema(), &seven));
-    let nine = row_of(alloc, 1, &[5, 9])?;
-    assert!(rt; fits(log.shape().schema(), &nine));
-    let one = row_of(alloc, 2, &[4, 1])?;
-    assert!(rt; fits(log.shape().schema(), &one));
-    append_at(rt, log, 0, &mut first, &seven, 0, steps);
-    check_bucket(rt, log, reader, &[1, 1, 7, 7, 7], steps);
-    append_at(rt, log, 1, &mut second, &nine, 1, steps);
-    check_bucket(rt, log, reader, &[2, 2, 16, 7, 9], steps);
-    append_at(rt, log, 0, &mut first, &one, 2, steps);
-    check_bucket(rt, log, reader, &[3, 3, 17, 1, 9], steps);
-    Ok(())
-}
-
-fn two_measurers<L: Ledger, R: Abort>(
-    rt: &R,
-    alloc: Global,
-    blank: Blank,
-    capacity: u32,
-) -> Result<(), Fail>
-    requires { (blank.name ≡ L.name) × (blank.parts ≡ L.parts) × (0 < L.parts) }
-{
-    let mut steps = Steps::<L>::new(blank);
-    let kinds = [("ts", Kind::U64), ("len", Kind::U32)];
-    let shape = shape_of(rt, alloc, &kinds, &[(Key::Bucket, Some(1))], capacity, 2)?;
-    let (log, mut root, passes) = dealt(alloc, shape)?;
-    let mut reader = log.fork(&mut root);
-    let (first, second) = two_of(rt, passes);
-    measure_between(rt, alloc, &log, first, second, &mut reader, &mut steps)?;
-    if capacity == 3 {
-        measure_within(rt, &log, &mut reader, &mut steps);
-    }
-    Ok(())
-}
-
-#[test]
-fn a_bucket_of_two_writers(rt: HostRuntime) -> Result<(), Fail> {
-    two_measurers::<Brand, _>(&rt, rt.alloc(), Blank::new(1), 8)
-}
-
-#[test]
-fn a_bucket_of_a_full_log(rt: HostRuntime) -> Result<(), Fail> {
-    two_measurers::<Brand, _>(&rt, rt.alloc(), Blank::new(1), 3)
 }
 
 // The second writer's ticket stays in flight: nothing behind it is covered, and an older version of the chain counts.
@@ -166,120 +84,8 @@ fn a_ticket_in_flight_covers_nothing_behind_it(rt: HostRuntime) -> Result<(), Fa
     one_in_flight::<Brand, _>(&rt, rt.alloc(), Blank::new(1))
 }
 
-// One of four sources is found within so many steps.
-fn find_within<P: Pass, L: Ledger, R: Abort>(
-    rt: &R,
-    log: &MultiLog,
-    alloc: Global,
-    pass: &mut P,
-    steps: &mut Steps<L>,
-) -> Result<(), Memory>
-    requires of { IsOf (P.held pass.old) log.now }
-    ensures { OnOk result (steps.new ≤ steps.old + 11) }
-{
-    let one = Ask::Find(0, 0x0a00_0000, 0x0a00_0000);
-    assert!(rt; suits(log.shape(), &one));
-    assert!(rt; log.shape().capacity() == 4);
-    assert!(rt; log.shape().writers() == 1);
-    assert!(rt; levels(log.shape(), 0) == 8);
-    let answer = ask(log, alloc, pass, &one, steps)?;
-    assert!(rt; answer.tail == 4);
-    match &answer.body {
-        Body::Places(places) => assert!(rt; places.as_slice().len() == 1),
-        _ => panic!(rt; "no places"),
-    }
-    Ok(())
-}
-
-// One source is found among those of these rows.
-fn one_of<L: Ledger, R: Abort>(
-    rt: &R,
-    alloc: Global,
-    blank: Blank,
-    shape: Shape,
-    rows: &[&[u64]],
-) -> Result<(), Fail>
-    requires { (blank.name ≡ L.name) × (blank.parts ≡ L.parts) × (0 < L.parts) }
-{
-    let mut steps = Steps::<L>::new(blank);
-    let (log, _root, passes) = dealt(alloc, shape)?;
-    let mut pass = first_of(rt, passes);
-    append_all(rt, &log, alloc, &mut pass, rows, &mut steps)?;
-    find_within(rt, &log, alloc, &mut pass, &mut steps)?;
-    Ok(())
-}
-
-#[test]
-fn one_source_of_four(rt: HostRuntime) -> Result<(), Fail> {
-    let alloc = rt.alloc();
-    let kinds = [("ts", Kind::U64), ("src", Kind::U32)];
-    let shape = shape_of(&rt, alloc, &kinds, &[(Key::Attr(1), None)], 4, 1)?;
-    let sources: [&[u64]; 4] = [
-        &[0, 0x09ff_ffff],
-        &[0, 0x0a00_0000],
-        &[0, 0x0aff_ffff],
-        &[0, 0x0b00_0000],
-    ];
-    one_of::<Brand, _>(&rt, alloc, Blank::new(1), shape, &sources)
-}
-
-// Each writer appends the row, one after the other.
-fn append_each<L: Ledger, R: Abort>(
-    rt: &R,
-    log: &MultiLog,
-    row: &Row,
-    passes: Vec<WriterPass>,
-    steps: &mut Steps<L>,
-)
-    requires fits { Fits log.now.shape.schema row.now }
-    requires ready { AreReady log.now passes.items }
-{
-    for pass in passes {
-        let mut pass = pass;
-        assert!(rt; append(log, &mut pass, row, steps).is_ok());
-    }
-}
-
-// So many writers have a chain each in one leaf.
-fn chains_of<L: Ledger, R: Abort>(
-    rt: &R,
-    alloc: Global,
-    blank: Blank,
-    writers: u8,
-) -> Result<(), Fail>
-    requires { (blank.name ≡ L.name) × (blank.parts ≡ L.parts) × (0 < L.parts) }
-{
-    let mut steps = Steps::<L>::new(blank);
-    let kinds = [("ts", Kind::U64), ("k", Kind::U8)];
-    let shape = shape_of(rt, alloc, &kinds, &[(Key::Attr(1), None)], 15, writers)?;
-    let (log, mut root, passes) = dealt(alloc, shape)?;
-    let mut reader = log.fork(&mut root);
-    let row = row_of(alloc, 0, &[0, 0x5a])?;
-    assert!(rt; fits(log.shape().schema(), &row));
-    append_each(rt, &log, &row, passes, &mut steps);
-    let mut wanted = Vec::new(alloc);
-    wanted.push(u64::from(writers))?;
-    for place in 0..writers {
-        wanted.push(u64::from(place))?;
-    }
-    let question = Ask::Find(0, 0x5a, 0x5a);
-    assert!(rt; suits(log.shape(), &question));
-    check(rt, &log, alloc, &mut reader, &question, &wanted, &mut steps)?;
-    Ok(())
-}
-
-#[test]
-fn chains_of_one_writer(rt: HostRuntime) -> Result<(), Fail> {
-    chains_of::<Brand, _>(&rt, rt.alloc(), Blank::new(1), 1)
-}
-
-#[test]
-fn chains_of_fifteen_writers(rt: HostRuntime) -> Result<(), Fail> {
-    chains_of::<Brand, _>(&rt, rt.alloc(), Blank::new(1), 15)
-}
-
 // The groups of the first lane are as a list of one thread measures their buckets, and have all rows.
-pub(crate) fn agree_in_groups<P: Pass, L: Ledger, R: Abort>(
+fn agree_in_groups<P: Pass, L: Ledger, R: Abort>(
     rt: &R,
     alloc: Global,
     log: &MultiLog,
@@ -306,7 +112,7 @@ pub(crate) fn agree_in_groups<P: Pass, L: Ledger, R: Abort>(
 }
 
 // What the question finds tells that answer.
-pub(crate) fn check_finding<P: Pass, L: Ledger, R: Abort>(
+fn check_finding<P: Pass, L: Ledger, R: Abort>(
     rt: &R,
     alloc: Global,
     log: &MultiLog,
@@ -355,7 +161,7 @@ fn agree<P: Pass, L: Ledger, R: Abort>(
 }
 
 // Appends the row to the log and to the list.
-pub(crate) fn append_both<L: Ledger, R: Abort>(
+fn append_both<L: Ledger, R: Abort>(
     rt: &R,
     log: &MultiLog,
     plain: &mut Plain,
@@ -452,67 +258,4 @@ fn drawn<L: Ledger, R: Abort>(rt: &R, alloc: Global, blank: Blank) -> Result<(),
 #[test]
 fn drawn_rows_as_on_the_list_of_one_thread(rt: HostRuntime) -> Result<(), Fail> {
     drawn::<Brand, _>(&rt, rt.alloc(), Blank::new(1))
-}
-
-// Rows with the least key, the greatest and one between of an attribute of that kind.
-fn ends_of<L: Ledger, R: Abort>(
-    rt: &R,
-    alloc: Global,
-    blank: Blank,
-    kind: Kind,
-    last: u64,
-) -> Result<(), Fail>
-    requires { (blank.name ≡ L.name) × (blank.parts ≡ L.parts) × (0 < L.parts) }
-{
-    let kinds = [("ts", Kind::U64), ("k", kind)];
-    let shape = shape_of(rt, alloc, &kinds, &[(Key::Attr(1), None)], 4, 1)?;
-    let rows: [&[u64]; 4] = [&[0, 0], &[0, last], &[0, last / 2], &[0, 0]];
-    let questions: [(Ask, Option<&[u64]>); 7] = [
-        (Ask::Find(0, 0, 0), Some(&[4, 0, 3])),
-        (Ask::Find(0, 1, 1), Some(&[4])),
-        (Ask::Find(0, 1, 0), Some(&[4])),
-        (Ask::Find(0, 1, last / 2), Some(&[4, 2])),
-        (Ask::Find(0, last, last), Some(&[4, 1])),
-        (Ask::Find(0, 0, last), Some(&[4, 0, 1, 2, 3])),
-        (Ask::Find(0, 0, u64::MAX), Some(&[4, 0, 1, 2, 3])),
-    ];
-    answers::<L, R>(rt, alloc, blank, shape, &rows, &questions)
-}
-
-#[test]
-fn keys_of_one_byte(rt: HostRuntime) -> Result<(), Fail> {
-    ends_of::<Brand, _>(&rt, rt.alloc(), Blank::new(1), Kind::U8, 0xff)
-}
-
-#[test]
-fn keys_of_two_bytes(rt: HostRuntime) -> Result<(), Fail> {
-    ends_of::<Brand, _>(&rt, rt.alloc(), Blank::new(1), Kind::U16, 0xffff)
-}
-
-#[test]
-fn keys_of_four_bytes(rt: HostRuntime) -> Result<(), Fail> {
-    ends_of::<Brand, _>(&rt, rt.alloc(), Blank::new(1), Kind::U32, 0xffff_ffff)
-}
-
-#[test]
-fn keys_of_eight_bytes(rt: HostRuntime) -> Result<(), Fail> {
-    ends_of::<Brand, _>(&rt, rt.alloc(), Blank::new(1), Kind::U64, u64::MAX)
-}
-
-#[test]
-fn buckets_at_both_ends(rt: HostRuntime) -> Result<(), Fail> {
-    let alloc = rt.alloc();
-    let kinds = [("ts", Kind::U64), ("len", Kind::U32)];
-    let shape = shape_of(&rt, alloc, &kinds, &[(Key::Bucket, Some(1))], 4, 1)?;
-    let last = u64::MAX / 10;
-    let rows: [&[u64]; 3] = [&[9, 4], &[u64::MAX, 6], &[0, 2]];
-    let questions: [(Ask, Option<&[u64]>); 6] = [
-        (Ask::Measure(0, 0, 0), Some(&[3, 2, 6, 2, 4])),
-        (Ask::Measure(0, 1, last - 1), Some(&[3, 0, 0, 0, 0])),
-        (Ask::Measure(0, last, u64::MAX), Some(&[3, 1, 6, 6, 6])),
-        (Ask::Measure(0, 0, u64::MAX), Some(&[3, 3, 12, 2, 6])),
-        (Ask::Between(0, 0, u64::MAX), Some(&[3, 0, 1, 2])),
-        (trigger(Part::Sum, Op::Eq, 6), Some(&[3, 0, 6, last, 6])),
-    ];
-    answers::<Brand, _>(&rt, alloc, Blank::new(1), shape, &rows, &questions)
 }

@@ -3,12 +3,6 @@
 #![tactic(auto)]
 
 #[cfg(test)]
-mod full_tests;
-#[cfg(test)]
 mod lane_tests;
-#[cfg(test)]
-mod large_tests;
-#[cfg(test)]
-mod near_tests;
 #[cfg(test)]
 mod tests;

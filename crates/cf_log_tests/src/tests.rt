@@ -1,4 +1,4 @@
-ghost use Rattle.std.specs.Prelude.{◌≡◌, ◌+◌, ◌<◌, ◌∷◌, ℕ, List, [], IfOk, OnOk, IfSome, IsTrue, ◌↔◌};
+ghost use Rattle.std.specs.Prelude.{◌≡◌, ◌<◌, ◌∷◌, List, IfOk, OnOk};
 ghost use Rattle.cf_row.specs.Row.{Fits};
 ghost use Rattle.cf_table.specs.Values.{PassValue, IsOf};
 ghost use Rattle.cf_plain.specs.Asks.{Suits};
@@ -95,7 +95,7 @@ pub(crate) fn dealt(alloc: Global, shape: Shape) -> Result<(MultiLog, Root, Vec<
 }
 
 // The first pass.
-pub(crate) fn first_of<R: Abort>(rt: &R, passes: Vec<WriterPass>) -> WriterPass
+fn first_of<R: Abort>(rt: &R, passes: Vec<WriterPass>) -> WriterPass
     ensures { (rest : List PassValue) × (passes.items ≡ result ∷ rest) }
 {
     passes.into_iter().next().expect(rt, "a pass")
@@ -219,49 +219,6 @@ fn two_writers<L: Ledger, R: Abort + Wait>(rt: &R, alloc: Global, blank: Blank) 
 #[test]
 fn a_question_between_appends(rt: HostRuntime) -> Result<(), Fail> {
     two_writers::<Brand, _>(&rt, rt.alloc(), Blank::new(1))
-}
-
-// Two writers append numbers to a lane, and each asks for some of them.
-fn find_between<L: Ledger, R: Abort>(
-    rt: &R,
-    alloc: Global,
-    log: &MultiLog,
-    mut first: WriterPass,
-    mut second: WriterPass,
-    steps: &mut Steps<L>,
-) -> Result<(), Fail>
-    requires ready { IsWriters log.now 0 first × IsWriters log.now 1 second }
-{
-    let five = row_of(alloc, 0, &[0, 5])?;
-    assert!(rt; fits(log.shape().schema(), &five));
-    let six = row_of(alloc, 1, &[0, 6])?;
-    assert!(rt; fits(log.shape().schema(), &six));
-    append_at(rt, log, 0, &mut first, &five, 0, steps);
-    append_at(rt, log, 1, &mut second, &five, 1, steps);
-    append_at(rt, log, 0, &mut first, &six, 2, steps);
-    let one = Ask::Find(0, 5, 5);
-    assert!(rt; suits(log.shape(), &one));
-    check(rt, log, alloc, &mut first, &one, &[3, 0, 1], steps)?;
-    let none = Ask::Find(0, 6, 5);
-    assert!(rt; suits(log.shape(), &none));
-    check(rt, log, alloc, &mut second, &none, &[3], steps)?;
-    Ok(())
-}
-
-fn two_finders<L: Ledger, R: Abort>(rt: &R, alloc: Global, blank: Blank) -> Result<(), Fail>
-    requires { (blank.name ≡ L.name) × (blank.parts ≡ L.parts) × (0 < L.parts) }
-{
-    let mut steps = Steps::<L>::new(blank);
-    let kinds = [("ts", Kind::U64), ("k", Kind::U8)];
-    let shape = shape_of(rt, alloc, &kinds, &[(Key::Attr(1), None)], 8, 2)?;
-    let (log, _root, passes) = dealt(alloc, shape)?;
-    let (first, second) = two_of(rt, passes);
-    find_between(rt, alloc, &log, first, second, &mut steps)
-}
-
-#[test]
-fn a_number_of_two_writers_is_found(rt: HostRuntime) -> Result<(), Fail> {
-    two_finders::<Brand, _>(&rt, rt.alloc(), Blank::new(1))
 }
 
 // A log for one writer, and readers who tell each other what they have seen.
@@ -471,71 +428,7 @@ fn writers_ask_in_threads(rt: HostRuntime) -> Result<(), Fail> {
     at_once::<Brand, Brand, _>(&rt, rt.alloc(), (Blank::new(1), Blank::new(1)))
 }
 
-// Appends the rows of these numbers.
-pub(crate) fn append_all<L: Ledger, R: Abort>(
-    rt: &R,
-    log: &MultiLog,
-    alloc: Global,
-    pass: &mut WriterPass,
-    table: &[&[u64]],
-    steps: &mut Steps<L>,
-) -> Result<(), Memory>
-    requires ready { IsWriters log.now 0 pass.old }
-    ensures { OnOk result (IsWriters log.now 0 pass.new) }
-{
-    let mut offset = 0;
-    for numbers in table {
-        let row = row_of(alloc, offset, numbers)?;
-        assert!(rt; fits(log.shape().schema(), &row));
-        append_at(rt, log, 0, pass, &row, offset, steps);
-        offset = offset.wrapping_add(1);
-    }
-    Ok(())
-}
-
-// Asks each question, and compares the answers; None is for one that doesn't suit.
-fn check_all<P: Pass, L: Ledger, R: Abort>(
-    rt: &R,
-    log: &MultiLog,
-    alloc: Global,
-    pass: &mut P,
-    table: &[(Ask, Option<&[u64]>)],
-    steps: &mut Steps<L>,
-) -> Result<(), Memory>
-    requires of { IsOf (P.held pass.old) log.now }
-{
-    for (question, wanted) in table {
-        match wanted {
-            Some(wanted) => {
-                assert!(rt; suits(log.shape(), question));
-                check(rt, log, alloc, pass, question, wanted, steps)?;
-            }
-            None => assert!(rt; !suits(log.shape(), question)),
-        }
-    }
-    Ok(())
-}
-
-// Rows are appended to a log of one lane, and questions asked of it.
-pub(crate) fn answers<L: Ledger, R: Abort>(
-    rt: &R,
-    alloc: Global,
-    blank: Blank,
-    shape: Shape,
-    rows: &[&[u64]],
-    questions: &[(Ask, Option<&[u64]>)],
-) -> Result<(), Fail>
-    requires { (blank.name ≡ L.name) × (blank.parts ≡ L.parts) × (0 < L.parts) }
-{
-    let mut steps = Steps::<L>::new(blank);
-    let (log, _root, passes) = dealt(alloc, shape)?;
-    let mut pass = first_of(rt, passes);
-    append_all(rt, &log, alloc, &mut pass, rows, &mut steps)?;
-    check_all(rt, &log, alloc, &mut pass, questions, &mut steps)?;
-    Ok(())
-}
-
-pub(crate) fn trigger(part: Part, op: Op, number: u64) -> Ask {
+fn trigger(part: Part, op: Op, number: u64) -> Ask {
     Ask::Fired(Trigger {
         agg: 0,
         part,
@@ -561,59 +454,4 @@ pub(crate) fn triggers(alloc: Global, numbers: [u64; 4]) -> Result<Vec<Ask>, Mem
     push_triggers(&mut questions, Part::Least, least)?;
     push_triggers(&mut questions, Part::Greatest, greatest)?;
     Ok(questions)
-}
-
-#[test]
-fn five_packets(rt: HostRuntime) -> Result<(), Fail> {
-    let alloc = rt.alloc();
-    let kinds = [
-        ("ts", Kind::U64),
-        ("dport", Kind::U16),
-        ("len", Kind::U32),
-        ("proto", Kind::U8),
-    ];
-    let shape = shape_of(&rt, alloc, &kinds, &[(Key::Bucket, Some(2))], 8, 1)?;
-    let packets: [&[u64]; 5] = [
-        &[0, 80, 101, 6],
-        &[0, 80, 100, 6],
-        &[0, 53, 60, 17],
-        &[9, 80, 200, 17],
-        &[10, 443, 500, 6],
-    ];
-    let web: [&[Atom]; 2] = [
-        &[atom(1, Op::Eq, 80), atom(2, Op::Gt, 100)],
-        &[atom(3, Op::Eq, 17)],
-    ];
-    let questions: [(Ask, Option<&[u64]>); 11] = [
-        (Ask::List(expr_of(alloc, &web)?), Some(&[5, 0, 2, 3])),
-        (Ask::Measure(0, 0, 1), Some(&[5, 5, 961, 60, 500])),
-        (Ask::Measure(0, 1, 0), Some(&[5, 0, 0, 0, 0])),
-        (Ask::Measure(0, 7, 9), Some(&[5, 0, 0, 0, 0])),
-        (Ask::Measure(1, 0, 9), None),
-        (Ask::Between(0, 1, 1), Some(&[5, 4])),
-        (Ask::Find(0, 0, 9), None),
-        (trigger(Part::Count, Op::Ge, 1), Some(&[5, 0, 4, 1, 1])),
-        (trigger(Part::Sum, Op::Gt, 461), Some(&[5, 1, 500])),
-        (trigger(Part::Least, Op::Lt, 5), Some(&[5])),
-        (trigger(Part::Sum, Op::Within, 461), None),
-    ];
-    answers::<Brand, _>(&rt, alloc, Blank::new(1), shape, &packets, &questions)
-}
-
-#[test]
-fn sources_of_one_network(rt: HostRuntime) -> Result<(), Fail> {
-    let alloc = rt.alloc();
-    let kinds = [("ts", Kind::U64), ("src", Kind::U32)];
-    let shape = shape_of(&rt, alloc, &kinds, &[(Key::Attr(1), None)], 8, 1)?;
-    let sources: [&[u64]; 4] = [
-        &[0, 0x09ff_ffff],
-        &[0, 0x0a00_0000],
-        &[0, 0x0aff_ffff],
-        &[0, 0x0b00_0000],
-    ];
-    let questions: [(Ask, Option<&[u64]>); 2] = [
-        (Ask::Find(0, 0x0a00_0000, 0x0aff_ffff), Some(&[4, 1, 2])),
-        (Ask::Find(0, 2, 1), Some(&[4])),
-    ];
-    answers::<Brand, _>(&rt, alloc, Blank::new(1), shape, &sources, &questions)
 }

@@ -28,6 +28,3 @@ pub use system::{FileShelf, StdSink};
 
 /// Out of memory, of a call that fails for no other reason.
 pub type Memory = AllocError;
-
-#[cfg(test)]
-mod tests;

@@ -11,8 +11,6 @@ mod loaded;
 mod plain;
 mod scan;
 mod segments;
-#[cfg(test)]
-mod tests;
 mod total;
 
 pub use answer::{Answer, Body, Fired, Group, Groups, Marks, Places};

@@ -6,8 +6,6 @@
 
 mod body;
 mod condition;
-#[cfg(test)]
-mod dump_tests;
 mod laws;
 mod lines;
 mod listing;
@@ -15,8 +13,6 @@ mod live;
 mod order;
 mod snapshot;
 mod tags;
-#[cfg(test)]
-mod tests;
 mod text;
 mod value;
 

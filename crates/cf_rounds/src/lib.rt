@@ -11,8 +11,6 @@ mod laws;
 mod lives;
 mod marks;
 mod rounds;
-#[cfg(test)]
-mod tests;
 
 pub use laws::{none_goes_unseen, rounds_are_on_windows, windows_are_of_records};
 pub use rounds::{Intervals, Rounds, Taken};

@@ -1,30 +1,12 @@
-//! The top call, tried: reports, dumps, snapshots and watches, damaged files, failing devices and full logs. There is no code
-//! here but tests: each compares the status and the text with what the table of causes says, and no answer is outside it.
+//! The top call, tried: failing devices, which files are opened, live questions beside writers, seals, and watches read by read.
+//! There is no code here but tests. Those of words, files, statuses and texts alone are of the built program: tools/tests/test_program.py.
 #![tactic(auto)]
 
 #[cfg(test)]
 mod devices;
 #[cfg(test)]
-mod files;
-#[cfg(test)]
-mod frames;
-#[cfg(test)]
-mod long;
-#[cfg(test)]
-mod packet6;
-#[cfg(test)]
-mod pieces;
-#[cfg(test)]
-mod reports;
-#[cfg(test)]
-mod rows;
-#[cfg(test)]
-mod segments;
-#[cfg(test)]
-mod snapshots;
+mod runs;
 #[cfg(test)]
 mod tried;
-#[cfg(test)]
-mod truncated;
 #[cfg(test)]
 mod watched;

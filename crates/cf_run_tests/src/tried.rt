@@ -1,18 +1,13 @@
-// What the tests have in common: a capture of two records, and a run over files in memory.
-use cf_outside::{FreeGate, MemShelf, MemSink};
+// What the tests have in common: captures, and files in memory.
+ghost use Rattle.std.specs.Prelude.{◌<◌};
+
+use cf_outside::MemShelf;
 use cf_row::Memory;
-use cf_run::run;
 use std::alloc::Global;
-use std::process::Abort;
-use std::thread::Threads;
 
 pub(crate) const WORDS: [&str; 6] = ["run", "--setup", "s", "--writers", "1", "c"];
 
-pub(crate) const DUMP: [&str; 2] = ["dump", "c"];
-
 pub(crate) const SETUP: &[u8] = b"schema packet\nask big list len>=100\n";
-
-pub(crate) const REPORT: &[u8] = b"records 2\nask big list 1: 1\norder 0*2\n";
 
 // A file header, little-endian, in microseconds, and two records of 2 bytes and of 1.
 pub(crate) const TWO_RECORDS: [u8; 59] = [
@@ -21,30 +16,28 @@ pub(crate) const TWO_RECORDS: [u8; 59] = [
     2, 0, 0, 0, 0, 0, 0, 0, 1, 0, 0, 0, 0x64, 0, 0, 0, 0xcc, // record 1
 ];
 
-// A shelf with the setup `s` and the capture `c`, which gives 7 bytes a read.
+// A capture of packets without bytes: of each the second and the length.
+pub(crate) fn records(alloc: Global, packets: &[(u32, u32)]) -> Result<Vec<u8>, Memory> {
+    let mut capture = TWO_RECORDS.split_at(24).0.to_vec(alloc)?;
+    for (second, length) in packets {
+        capture.extend_from_slice(&second.to_le_bytes())?;
+        capture.extend_from_slice(&[0; 8])?;
+        capture.extend_from_slice(&length.to_le_bytes())?;
+    }
+    Ok(capture)
+}
+
+// A shelf with the setup `s` and the capture `c`, of which some calls fail, and which gives so many bytes a read.
 pub(crate) fn shelf_of(
     alloc: Global,
     failing: &[u64],
+    most: usize,
     files: (&[u8], &[u8]),
-) -> Result<MemShelf, Memory> {
-    let mut shelf = MemShelf::new(alloc, failing.to_vec(alloc)?, 7);
+) -> Result<MemShelf, Memory>
+    requires { 0 < most }
+{
+    let mut shelf = MemShelf::new(alloc, failing.to_vec(alloc)?, most);
     shelf.put("s", files.0)?;
     shelf.put("c", files.1)?;
     Ok(shelf)
-}
-
-// Runs the words over the two files, and compares the status's number and the text.
-pub(crate) fn expect<R: Threads + Sync + Abort>(
-    rt: &R,
-    alloc: Global,
-    words: &[&str],
-    files: (&[u8], &[u8]),
-    answer: (u8, &[u8]),
-) -> Result<(), Memory> {
-    let mut shelf = shelf_of(alloc, &[], files)?;
-    let mut sink = MemSink::new(alloc, 300, Vec::new(alloc), 5)?;
-    let outcome = run(rt, alloc, words, &mut shelf, &mut sink, &FreeGate);
-    assert_eq!(rt; outcome.status.number(), answer.0);
-    assert_eq!(rt; sink.held(), answer.1);
-    Ok(())
 }

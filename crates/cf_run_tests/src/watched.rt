@@ -1,296 +1,224 @@
-// Captures are watched.
-ghost use Rattle.std.specs.Prelude.{◌<◌};
-
-use cf_outside::{FreeGate, MemShelf, MemSink};
-use cf_row::Memory;
+// Captures are watched read by read.
+use crate::tried::{records, shelf_of};
+use cf_outside::{FreeGate, MemSink};
 use cf_run::run;
 use std::alloc::Global;
 use std::process::Abort;
 use std::test::Fail;
 use std::thread::Threads;
 
-const SETUP: &str =
+const SUM: &str =
     "schema packet\nfilter f *\naggregate a f len\ntrigger t a sum > 50\nask q list len>=1\nlive q\n";
 
-// A capture in pcap of two packets, of 60 bytes in second 1 and of 100 in second 2. The first ends with byte 42.
-const CAPTURE: &[u8] = &[
-    0xd4, 0xc3, 0xb2, 0xa1, 2, 0, 4, 0, 0, 0, 0, 0, 0, 0, 0, 0, 0xff, 0xff, 0, 0, 1, 0, 0, 0, 1, 0,
-    0, 0, 0x20, 0xa1, 0x07, 0, 2, 0, 0, 0, 60, 0, 0, 0, 0xaa, 0xbb, 2, 0, 0, 0, 0, 0, 0, 0, 1, 0,
-    0, 0, 100, 0, 0, 0, 0xcc,
-];
+// A second lane for the longer packets, which need twice as many nodes then.
+const LONG: &str =
+    "schema packet\nfilter f *\naggregate a f len\nfilter g len>90\naggregate b g len\ntrigger t a sum > 50\nask q list len>=1\n";
+
+const COUNT: &str =
+    "schema packet\nfilter f *\naggregate a f len\ntrigger t a count > 5\nask g fired t\n";
+
+const LEAST: &str =
+    "schema packet\nfilter f *\naggregate a f len\ntrigger t a least > 50\nask g fired t\n";
+
+const FEW: &str =
+    "schema packet\nfilter f *\naggregate a f len\ntrigger t a count < 3\nask g fired t\nlive g\n";
+
+const OTHER: &str =
+    "schema packet\nfilter f *\naggregate a f len\ntrigger t a sum != 18\nask g fired t\n";
+
+const TWO: &[(u32, u32)] = &[(1, 60), (2, 100)];
 
 const ROUND: &str = "alert t 1 60 @2\nalert t 2 100 @2\nlive q @0..2 list 2: 0 1\n";
 
-const FIRST: &str = "alert t 1 60 @1\nlive q @0..1 list 1: 0\n";
+const ROUNDS: &str =
+    "alert t 1 60 @1\nlive q @0..1 list 1: 0\nalert t 2 100 @2\nlive q @0..2 list 2: 0 1\n";
 
 const END: &str = "records 2\nwindow 0\nask q list 2: 0 1\nalert t 1 60\nalert t 2 100\n";
 
-const NO_FILE: &str = "file: none of that name\n";
-
-const EVERY_1: &[&str] = &["watch", "--setup", "s", "--every", "1", "c"];
-
-const NEVER: &[&str] = &["watch", "--setup", "s", "--every", "0", "c"];
-
-const DROPPING: &[&str] = &[
-    "watch",
-    "--setup",
-    "s",
-    "--every",
-    "1",
-    "--capacity",
-    "1",
-    "--segments",
-    "1",
-    "c",
-];
-
-const TRUNCATED: &[&str] = &["watch", "--setup", "s", "--every", "0", "--truncated", "c"];
-
-// The words, the files, how many bytes a read moves at most, which calls of the devices fail, and the number of the status and the text.
-// The shelf's first call opens the setup, two reads take it, and the fourth call opens the capture.
-#[derive(Clone, Copy, Drop)]
-struct Case {
-    words: &'static [&'static str],
-    setup: &'static str,
-    capture: &'static [u8],
-    most: usize,
-    failing_reads: &'static [u64],
-    failing_writes: &'static [u64],
-    number: u8,
-    text: &'static [&'static str],
-}
-
-const PLAIN: Case = Case {
-    words: EVERY_1,
-    setup: SETUP,
-    capture: CAPTURE,
-    most: 65536,
-    failing_reads: &[],
-    failing_writes: &[],
-    number: 0,
-    text: &[ROUND, END],
-};
-
-fn expect<R: Threads + Sync + Abort>(rt: &R, alloc: Global, case: &Case) -> Result<(), Memory>
-    requires { 0 < case.now.most }
-{
-    let mut shelf = MemShelf::new(alloc, case.failing_reads.to_vec(alloc)?, case.most);
-    shelf.put("s", case.setup.as_bytes())?;
-    shelf.put("c", case.capture)?;
-    let mut sink = MemSink::new(alloc, 1000, case.failing_writes.to_vec(alloc)?, 1000)?;
-    let outcome = run(rt, alloc, case.words, &mut shelf, &mut sink, &FreeGate);
-    let mut text = Vec::new(alloc);
-    for part in case.text {
-        text.extend_from_slice(part.as_bytes())?;
+// Watches the capture by a setup and options, which may leave out the sizes. The devices are how many bytes a read gives, and which calls
+// of the shelf and of the sink fail. Answers the status's number and the text.
+fn watched<R: Threads + Sync + Abort>(
+    rt: &R,
+    alloc: Global,
+    setup: &str,
+    options: &str,
+    capture: &[u8],
+    devices: (usize, u64, u64),
+) -> Result<(u8, String), Fail> {
+    let mut words = Vec::new(alloc);
+    for word in ["watch", "--setup", "s", "c"] {
+        words.push(word)?;
     }
-    assert_eq!(rt; sink.held(), text.as_slice());
-    assert_eq!(rt; outcome.status.number(), case.number);
+    for word in options.split_whitespace() {
+        words.push(word)?;
+    }
+    if !options.contains("--capacity") {
+        words.push("--capacity")?;
+        words.push("64")?;
+    }
+    if !options.contains("--nodes") {
+        words.push("--nodes")?;
+        words.push("64")?;
+    }
+    let (most, failing_read, failing_write) = devices;
+    assert!(rt; 0 < most);
+    let mut shelf = shelf_of(alloc, &[failing_read], most, (setup.as_bytes(), capture))?;
+    let mut sink = MemSink::new(alloc, 1000, [failing_write].to_vec(alloc)?, 1000)?;
+    let outcome = run(rt, alloc, &words, &mut shelf, &mut sink, &FreeGate);
     assert!(rt; outcome.seals.is_empty());
-    Ok(())
+    let text = str::from_utf8(sink.held())?.to_string(alloc)?;
+    Ok((outcome.status.number(), text))
 }
 
+// By reads of 8 bytes each record ends a read.
 #[test]
-fn rounds_and_the_end_of_a_capture_are_written(rt: HostRuntime) -> Result<(), Fail> {
-    let short = CAPTURE.split_at(58).0;
-    for case in [
-        PLAIN,
-        Case {
-            most: 42,
-            text: &[FIRST, "alert t 2 100 @2\nlive q @0..2 list 2: 0 1\n", END],
-            ..PLAIN
-        },
-        Case {
-            words: NEVER,
-            capture: short,
-            number: 3,
-            text: &["alert t 1 60 @1\ncapture: record 1 code 5\n"],
-            ..PLAIN
-        },
-        Case {
-            words: TRUNCATED,
-            capture: short,
-            text: &[
-                "alert t 1 60 @1\n",
-                "records 1\nwindow 0\nask q list 1: 0\nalert t 1 60\ntruncated: record 1\n",
-            ],
-            ..PLAIN
-        },
-        // a beat ends a round; and an alert stays when its segment is dropped
-        Case {
-            words: &["watch", "--setup", "s", "--every", "1", "--beat", "1", "c"],
-            text: &[ROUND, "at 2 2\ntotal a count 2 sum 160\n", END],
-            ..PLAIN
-        },
-        Case {
-            words: DROPPING,
-            text: &[
-                FIRST,
-                "alert t 2 100 @2\nlive q @1..2 list 1: 1\n",
-                "records 2\nwindow 1\nask q list 1: 1\nalert t 1 60\nalert t 2 100\n",
-            ],
-            ..PLAIN
-        },
-        // the header alone, and no byte
-        Case {
-            capture: CAPTURE.split_at(24).0,
-            text: &["records 0\nwindow 0\nask q list 0:\n"],
-            ..PLAIN
-        },
-        Case {
-            capture: &[],
-            number: 3,
-            text: &["capture: record 0 code 5\n"],
-            ..PLAIN
-        },
-        // a record that no segment takes
-        Case {
-            words: &["watch", "--setup", "s", "--nodes", "29", "c"],
-            number: 7,
-            text: &["nodes: more than 29 nodes\n"],
-            ..PLAIN
-        },
-    ] {
-        assert!(rt; 0 < case.most);
-        expect(&rt, rt.alloc(), &case)?;
+fn rounds_come_as_reads_cut_the_capture(rt: HostRuntime) -> Result<(), Fail> {
+    let alloc = rt.alloc();
+    let four: &[(u32, u32)] = &[(1, 60), (2, 100), (3, 60), (4, 100)];
+    let table: [(&str, &str, &[(u32, u32)], usize, &str); 10] = [
+        // a round before each drop
+        (
+            SUM,
+            "--every 3 --capacity 1 --segments 2",
+            four,
+            1000,
+            "alert t 1 60 @2\nalert t 2 100 @2\nalert t 3 60 @3\nlive q @1..3 list 2: 1 2\nalert t 4 100 @4\n\
+             records 4\nwindow 2\nask q list 2: 2 3\nalert t 1 60\nalert t 2 100\nalert t 3 60\nalert t 4 100\n",
+        ),
+        // nodes run out in the middle of a read, while segments are free; and nothing is dropped for it
+        (
+            LONG,
+            "--nodes 30",
+            four,
+            1000,
+            "alert t 1 60 @1\nnodes: more than 30 nodes\n",
+        ),
+        (
+            LONG,
+            "--nodes 30 --capacity 1 --segments 1",
+            four,
+            8,
+            "alert t 1 60 @1\nnodes: more than 30 nodes\n",
+        ),
+        // beats, and once more at the end
+        (
+            LONG,
+            "--every 0 --beat 3",
+            four,
+            8,
+            "alert t 1 60 @1\nalert t 2 100 @2\nalert t 3 60 @3\nat 3 3\ntotal a count 3 sum 220\ntotal b count 1 sum 100\n\
+             alert t 4 100 @4\nat 4 4\ntotal a count 4 sum 320\ntotal b count 2 sum 200\n\
+             records 4\nwindow 0\nask q list 4: 0 1 2 3\nalert t 1 60\nalert t 2 100\nalert t 3 60\nalert t 4 100\n",
+        ),
+        (
+            SUM,
+            "--beat 1",
+            &[],
+            8,
+            "records 0\nwindow 0\nask q list 0:\n",
+        ),
+        // a bucket that is longer than the window is told once
+        (
+            COUNT,
+            "--every 0 --capacity 2 --segments 2",
+            &[(1, 9); 12],
+            1000,
+            "alert t 1 6 @6\nrecords 12\nwindow 8\nask g fired 1: 1=12\nalert t 1 12\n",
+        ),
+        // the part of a bucket that is left doesn't fire for it
+        (
+            LEAST,
+            "--capacity 1 --segments 1",
+            &[(1, 40), (1, 60), (1, 70), (2, 60), (3, 60)],
+            1000,
+            "records 5\nwindow 4\nask g fired 2: 2=60 3=60\nalert t 2 60\nalert t 3 60\n",
+        ),
+        // what more records may undo waits for two later buckets
+        (
+            FEW,
+            "--every 4",
+            &[(1, 9), (2, 9), (3, 9), (4, 9)],
+            8,
+            "alert t 1 1 @3\nalert t 2 1 @4\nlive g @0..4 fired 2: 1=1 2=1\nrecords 4\nwindow 0\n\
+             ask g fired 4: 1=1 2=1 3=1 4=1\nalert t 1 1\nalert t 2 1\nalert t 3 1\nalert t 4 1\n",
+        ),
+        // a mark that was undone and came again is told once
+        (
+            OTHER,
+            "--every 0",
+            &[(1, 9), (2, 9), (3, 9), (1, 9), (1, 9), (2, 9), (3, 9)],
+            8,
+            "alert t 1 9 @3\nalert t 2 9 @4\nalert t 3 9 @6\nrecords 7\nwindow 0\nask g fired 1: 1=27\nalert t 1 27\n",
+        ),
+        // later by their last records, and not by their numbers
+        (
+            FEW,
+            "--every 0",
+            &[(1, 9), (4_000_000_000, 9), (2, 9), (3, 9), (4, 9)],
+            8,
+            "alert t 1 1 @3\nalert t 4000000000 1 @4\nalert t 2 1 @5\nrecords 5\nwindow 0\n\
+             ask g fired 5: 1=1 2=1 3=1 4=1 4000000000=1\nalert t 1 1\nalert t 2 1\nalert t 3 1\nalert t 4 1\nalert t 4000000000 1\n",
+        ),
+    ];
+    for (setup, options, packets, most, text) in table {
+        let capture = records(alloc, packets)?;
+        let (number, found) = watched(&rt, alloc, setup, options, &capture, (most, 0, 0))?;
+        assert_eq!(rt; found.as_str(), text);
+        assert_eq!(rt; number, if text.contains("nodes:") { 7 } else { 0 });
     }
     Ok(())
 }
 
+// The first record ends with byte 40, and the second with byte 56.
 #[test]
-fn what_can_not_be_watched_is_refused_first(rt: HostRuntime) -> Result<(), Fail> {
-    for case in [
-        Case {
-            setup: "\nschema records ts:u64,n:u32\nask a list n==1\n",
-            number: 2,
-            text: &["setup: line 2 code 4\n"],
-            ..PLAIN
-        },
-        Case {
-            words: &["watch", "--setup", "x", "c"],
-            number: 9,
-            text: &[NO_FILE],
-            ..PLAIN
-        },
-        Case {
-            words: &["watch", "--setup", "s", "x"],
-            number: 9,
-            text: &[NO_FILE],
-            ..PLAIN
-        },
-        Case {
-            setup: "schema packet\n\tlive q\n",
-            number: 2,
-            text: &["setup: line 2 code 1\n"],
-            ..PLAIN
-        },
-        Case {
-            words: &["watch", "c"],
-            number: 1,
-            text: &["words: not a command\n"],
-            ..PLAIN
-        },
-        Case {
-            failing_reads: &[1],
-            number: 4,
-            text: &[],
-            ..PLAIN
-        },
-        Case {
-            words: &["watch", "--setup", "x", "c"],
-            failing_writes: &[1],
-            number: 5,
-            text: &[],
-            ..PLAIN
-        },
-    ] {
-        assert!(rt; 0 < case.most);
-        expect(&rt, rt.alloc(), &case)?;
+fn reads_of_any_size_give_the_same_end(rt: HostRuntime) -> Result<(), Fail> {
+    let alloc = rt.alloc();
+    let capture = records(alloc, TWO)?;
+    for most in 1..60usize {
+        let is_one = 39 / most == 55 / most;
+        let told = if is_one { ROUND } else { ROUNDS };
+        let text = format!(in alloc; "{told}{END}")?;
+        let (number, found) = watched(&rt, alloc, SUM, "--every 1", &capture, (most, 0, 0))?;
+        assert_eq!(rt; found.as_str(), text.as_str(), "by {most}");
+        assert_eq!(rt; number, 0);
     }
     Ok(())
 }
 
-// Two reads of the capture follow its opening: of the records, and of the end.
+// By reads of 40 bytes the shelf's calls are five for the setup, the open, a read of each record, and the read that finds the end.
 #[test]
 fn devices_fail_while_a_capture_is_watched(rt: HostRuntime) -> Result<(), Fail> {
-    for case in [
-        Case {
-            failing_reads: &[4],
-            number: 4,
-            text: &[],
-            ..PLAIN
-        },
-        Case {
-            failing_reads: &[5],
-            number: 4,
-            text: &[],
-            ..PLAIN
-        },
-        Case {
-            failing_reads: &[6],
-            number: 4,
-            text: &[ROUND],
-            ..PLAIN
-        },
-        // what would fail next is not read
-        Case {
-            failing_reads: &[6],
-            failing_writes: &[1],
-            number: 5,
-            text: &[],
-            ..PLAIN
-        },
-        Case {
-            failing_writes: &[2],
-            number: 5,
-            text: &[ROUND],
-            ..PLAIN
-        },
-    ] {
-        assert!(rt; 0 < case.most);
-        expect(&rt, rt.alloc(), &case)?;
-    }
-    Ok(())
-}
-
-const EACH: &str = "schema packet\nfilter f *\naggregate a f len\ntrigger t a count >= 1\n";
-
-// A capture in pcap of packets without bytes, one in each second from 1 to 5,000, or the other way round.
-fn seconds_of(alloc: Global, is_downward: bool) -> Result<Vec<u8>, Memory> {
-    let mut capture = CAPTURE.split_at(24).0.to_vec(alloc)?;
-    for k in 1..5001u32 {
-        let second = if is_downward { 5001 - k } else { k };
-        capture.extend_from_slice(&second.to_le_bytes())?;
-        capture.extend_from_slice(&[0; 12])?;
-    }
-    Ok(capture)
-}
-
-// How many lines of alerts there are while the watch runs, and at its end.
-fn alerts_in(text: &[u8]) -> (u64, u64) {
-    let mut counts = (0u64, 0u64);
-    for line in text.split(|byte| *byte == b'\n') {
-        if line.starts_with(b"alert t ") {
-            if line.contains(&b'@') {
-                counts.0 = counts.0.wrapping_add(1);
-            } else {
-                counts.1 = counts.1.wrapping_add(1);
-            }
-        }
-    }
-    counts
-}
-
-#[test]
-fn each_second_is_told_before_it_is_forgotten(rt: HostRuntime) -> Result<(), Fail> {
     let alloc = rt.alloc();
-    for is_downward in [false, true] {
-        let mut shelf = MemShelf::new(alloc, Vec::new(alloc), 65536);
-        shelf.put("s", EACH.as_bytes())?;
-        shelf.put("c", &seconds_of(alloc, is_downward)?)?;
-        let mut sink = MemSink::new(alloc, 250_000, Vec::new(alloc), 65536)?;
-        let outcome = run(&rt, alloc, NEVER, &mut shelf, &mut sink, &FreeGate);
-        assert_eq!(rt; outcome.status.number(), 0);
-        assert_eq!(rt; alerts_in(sink.held()), (5000, 4096));
+    let capture = records(alloc, TWO)?;
+    let first = "alert t 1 60 @1\n";
+    let both = "alert t 1 60 @1\nalert t 2 100 @2\n";
+    let beat = "alert t 1 60 @1\nat 1 1\ntotal a count 1 sum 60\n";
+    for (options, devices, number, text) in [
+        ("--every 0", (40, 1, 0), 4, ""),
+        ("--every 0", (40, 6, 0), 4, ""),
+        ("--every 0", (40, 7, 0), 4, ""),
+        ("--every 0", (40, 8, 0), 4, first),
+        ("--every 0", (40, 9, 0), 4, both),
+        ("--every 0 --beat 9", (40, 8, 0), 4, beat),
+        // what would fail next is not read
+        ("--every 0", (40, 8, 1), 5, ""),
+        ("--every 0", (40, 9, 2), 5, first),
+        ("--every 0", (40, 0, 3), 5, both),
+        // what a forced round says is written before the next record
+        (
+            "--every 0 --capacity 1 --segments 1",
+            (1000, 0, 2),
+            5,
+            first,
+        ),
+    ] {
+        let (status, found) = watched(&rt, alloc, SUM, options, &capture, devices)?;
+        assert_eq!(rt; found.as_str(), text, "{options} {devices:?}");
+        assert_eq!(rt; status, number);
     }
+    // A fault is told before what follows it is read.
+    let (status, found) = watched(&rt, alloc, "schema packet\n", "", &[0; 60], (20, 6, 0))?;
+    assert_eq!(rt; found.as_str(), "capture: record 0 code 1\n");
+    assert_eq!(rt; status, 3);
     Ok(())
 }

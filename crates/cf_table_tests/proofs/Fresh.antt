@@ -1,8 +1,6 @@
 -- Passes that were just dealt of an empty log.
-use Rattle.std.proofs.Common.{◌≡◌, ◌<◌, suc, List, [], ◌∷◌, ◌++◌, length, Option, Some, slice_get, refl, sym, ap, subst, ◌∙◌, arith}
-use Rattle.std.specs.Option.{option_to_list}
+use Rattle.std.proofs.Common.{◌≡◌, ◌<◌, suc, List, ◌∷◌, Some, slice_get, refl, sym, ap, ◌∙◌, arith}
 use Rattle.std.proofs.lemmas.Option.{slice_get_within}
-use Rattle.cf_lemmas.proofs.Lists.{get_push_same, has_left}
 use Rattle.cf_law.specs.Passes.{Book, Pass}
 use Rattle.cf_law.specs.Events.{tabulated, no_book}
 use Rattle.cf_law.proofs.Fronts.{table_length, table_at}
@@ -16,13 +14,6 @@ fresh_first log h hs all = all 0 h refl
 
 pub fresh_next : (log : LogValue) (h : PassValue) (hs : List PassValue) → AreFresh log (h ∷ hs) → AreFresh log hs
 fresh_next log h hs all k x at = all (suc k) x at
-
-pub fresh_last : (log : LogValue) (xs ys : List PassValue) (o : Option PassValue) (x : PassValue) → AreFresh log xs → xs ≡ ys ++ option_to_list o → o ≡ Some x
-    → IsFresh log x × AreFresh log ys
-fresh_last log xs ys o x all is last =
-    let end : xs ≡ ys ++ x ∷ [] = is ∙ ap (λ (q : Option PassValue). ys ++ option_to_list q) last in
-    let both : AreFresh log (ys ++ x ∷ []) = subst (AreFresh log) end all in
-    (both (length ys) x (get_push_same ys x), λ k h at. both k h (has_left ys (x ∷ []) k h at))
 
 pub dealt_fresh : (log : LogValue) (m n : PassValue) (hs : List PassValue) → m.view ≡ root_pass log.shape → AreDealt log m hs n → AreFresh log hs
 dealt_fresh log m n hs is dealt k h at =

@@ -1,11 +1,11 @@
 ghost use Rattle.std.specs.Prelude.{◌≡◌, ◌<◌};
 ghost use Rattle.cf_row.specs.Row.{Fits};
 ghost use Rattle.cf_table.specs.Values.{IsOf};
-ghost use Rattle.cf_table_tests.specs.Fresh.{IsFresh, AreFresh};
+ghost use Rattle.cf_table_tests.specs.Fresh.{IsFresh};
 ghost use Rattle.cf_append.specs.Appends.{Rests};
 
 use crate::tests::shape;
-use cf_append::{AppendFault, Settled, append, settle};
+use cf_append::{Settled, append, settle};
 use cf_row::{Memory, Row, Value, fits};
 use cf_table::{MultiLog, Pass, Steps, WriterPass};
 use std::alloc::Global;
@@ -18,99 +18,6 @@ fn row(alloc: Global, value: u64) -> Result<Row, Memory> {
     let mut values = Vec::new(alloc);
     values.push(Value::Num(value))?;
     Ok(Row::new(0, values))
-}
-
-// While there is room the row gets the next place, and is covered. Answers how many places are taken.
-fn append_next<L: Ledger, R: Abort>(
-    rt: &R,
-    log: &MultiLog,
-    row: &Row,
-    pass: &mut WriterPass,
-    next: u32,
-    steps: &mut Steps<L>,
-) -> u32
-    requires of { IsOf pass.old log.now }
-    requires fits { Fits log.now.shape.schema row.now }
-    requires rest { Rests pass.old.view }
-    ensures of { IsOf pass.new log.now }
-    ensures rest { Rests pass.new.view }
-{
-    let answer = append(log, pass, row, steps);
-    if next >= log.shape().capacity() {
-        assert!(rt; matches!(answer, Err(AppendFault::Full)));
-        assert!(rt; pass.over());
-        return next;
-    }
-    assert!(rt; matches!(answer, Ok(offset) if offset == next));
-    assert!(rt; matches!(settle(log, pass, next, steps), Settled::Covered));
-    assert!(rt; pass.covered() == next + 1);
-    next + 1
-}
-
-fn append_some<L: Ledger, R: Abort>(
-    rt: &R,
-    log: &MultiLog,
-    row: &Row,
-    mut pass: WriterPass,
-    rounds: u32,
-    first: u32,
-    steps: &mut Steps<L>,
-) -> u32
-    requires of { IsOf pass log.now }
-    requires fits { Fits log.now.shape.schema row.now }
-    requires rest { Rests pass.view }
-{
-    let mut next = first;
-    for _ in 0..rounds {
-        next = append_next(rt, log, row, &mut pass, next, steps);
-    }
-    next
-}
-
-// each writer appends so many times, one after another
-fn append_each<L: Ledger, R: Abort>(
-    rt: &R,
-    log: &MultiLog,
-    row: &Row,
-    passes: Vec<WriterPass>,
-    rounds: u32,
-    steps: &mut Steps<L>,
-)
-    requires fits { Fits log.now.shape.schema row.now }
-    requires fresh { AreFresh log.now passes.items }
-{
-    let mut next = 0;
-    for pass in passes {
-        next = append_some(rt, log, row, pass, rounds, next, steps);
-    }
-}
-
-fn appends<L: Ledger, R: Abort>(
-    rt: &R,
-    alloc: Global,
-    blank: Blank,
-    sizes: (u32, u8, u32),
-) -> Result<(), Fail>
-    requires { (blank.name ≡ L.name) × (blank.parts ≡ L.parts) × (0 < L.parts) }
-{
-    let (capacity, writers, rounds) = sizes;
-    let mut steps = Steps::<L>::new(blank);
-    let (log, mut root) = MultiLog::open(alloc, shape(rt, alloc, capacity, writers)?)?;
-    let row = row(alloc, 7)?;
-    assert!(rt; fits(log.shape().schema(), &row));
-    let passes = log.deal(alloc, &mut root)?;
-    append_each(rt, &log, &row, passes, rounds, &mut steps);
-    Ok(())
-}
-
-#[test]
-fn two_writers(rt: HostRuntime) -> Result<(), Fail> {
-    appends::<Brand, _>(&rt, rt.alloc(), Blank::new(1), (8, 2, 3))
-}
-
-#[test]
-fn full(rt: HostRuntime) -> Result<(), Fail> {
-    appends::<Brand, _>(&rt, rt.alloc(), Blank::new(1), (1, 1, 3))
 }
 
 // The writer takes the offset's ticket for the row, and stores nothing.

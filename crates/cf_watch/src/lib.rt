@@ -11,8 +11,6 @@ mod bucket;
 mod kept;
 mod laws;
 mod marks;
-#[cfg(test)]
-mod tests;
 
 use cf_plain::Fired;
 use cf_row::Memory;

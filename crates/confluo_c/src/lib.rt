@@ -4,5 +4,3 @@
 mod plain;
 mod pointers;
 mod raw;
-#[cfg(test)]
-mod tests;

@@ -1,5 +1,0 @@
-//! Files that are read, tried. There is no code here but tests.
-#![tactic(auto)]
-
-#[cfg(test)]
-mod tests;

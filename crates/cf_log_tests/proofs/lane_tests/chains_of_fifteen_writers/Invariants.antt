@@ -1,4 +1,0 @@
-use Rattle.cf_log_tests.proofs.lane_tests.chains_of_fifteen_writers.Given as goal
-
-abbrev pub ghosts-chains_of : goal.ghosts-chains_of
-ghosts-chains_of g a = record { name = a.blank.name; parts = a.blank.parts }

@@ -1,5 +1,0 @@
-//! Captures in pcap, tried. There is no code here but tests.
-#![tactic(auto)]
-
-#[cfg(test)]
-mod tests;

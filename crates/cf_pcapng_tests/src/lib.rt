@@ -1,5 +1,0 @@
-//! Captures in pcapng, tried. There is no code here but tests.
-#![tactic(auto)]
-
-#[cfg(test)]
-mod tests;

@@ -1,5 +1,0 @@
-//! Scans, tried. There is no code here but tests.
-#![tactic(auto)]
-
-#[cfg(test)]
-mod tests;

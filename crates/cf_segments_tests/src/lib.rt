@@ -1,5 +1,0 @@
-//! Logs of several segments, tried. There is no code here but tests.
-#![tactic(auto)]
-
-#[cfg(test)]
-mod tests;
