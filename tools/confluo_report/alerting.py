@@ -10,7 +10,7 @@ from collections import Counter, deque
 from dataclasses import dataclass
 from typing import Union
 
-from .outputs import Output, Silent, json_line, report_trouble
+from .outputs import Output, Silent, Stopper, json_line, report_trouble
 from .reports import RoundAlert, Told, told_text
 from .setups import Setup
 from .show import condition_text
@@ -39,9 +39,15 @@ class Commands(Output):
     def __init__(self, command: str, limit: int, seconds: float, setup: Setup | None) -> None:
         self.command, self.limit, self.seconds, self.setup = command, limit, seconds, setup
         self.waiting, self.running = deque[Event](), list[Job]()
+        self.stopper: Stopper | None = None
+        # (a copy: `os.environ` decodes all of itself each time that it is joined)
+        self.environment = dict(os.environ)
         # Since commands were last run for all alerts.
         self.passed_over = 0
         self.results: Counter[str] = Counter(dict.fromkeys(("done", "failed", "late", "passed_over"), 0))
+
+    def stop_at(self, stopper: Stopper) -> None:
+        self.stopper = stopper
 
     def told(self, it: Told) -> None:
         if isinstance(it, RoundAlert):
@@ -62,7 +68,9 @@ class Commands(Output):
 
     def pause(self) -> None:
         self.running = [it for it in self.running if not self._is_over(it)]
-        while self.waiting and len(self.running) < self.limit:
+        while (
+            self.waiting and len(self.running) < self.limit and not (self.stopper and self.stopper.is_stopped)
+        ):
             self._start(self.waiting.popleft())
         if self.passed_over and len(self.waiting) < MOST_WAITING // 2:
             report_trouble(f"{self.passed_over} alerts have had no command; further ones have theirs")
@@ -92,7 +100,7 @@ class Commands(Output):
                 shell=True,
                 stdin=subprocess.PIPE,
                 stdout=STDERR,
-                env=os.environ | environment_of(event, self.setup),
+                env=self.environment | environment_of(event, self.setup),
                 start_new_session=True,
             )
         except OSError as error:

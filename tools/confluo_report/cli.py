@@ -3,6 +3,7 @@
 from __future__ import annotations
 
 import argparse
+import contextlib
 import errno
 import os
 import pathlib
@@ -42,9 +43,10 @@ from .states import Again, Forgotten, Silence
 from .stream import OWN_TROUBLE, STATUSES, stream
 from .tables import style_for
 from .tcpdump import Notes
-from .textfile import Textfile
+from .textfile import Textfile, unread
 from .unparsed import notice
 from .version import version
+from .watchdog import watchdog_of
 
 DESCRIPTION = "Shows, explains and exports what confluo prints, and asks it questions without a setup."
 EPILOG = """\
@@ -285,16 +287,15 @@ def _stream(words: Words) -> int:
     if words.exec_limit < 1 or words.exec_seconds < 1:
         raise Complaint("--exec-limit and --exec-seconds are at least 1")
     notes = Notes(words.tcpdump) if words.tcpdump else None
-    output = _outputs(words, setup, notes)
     incoming = Incoming(_shown(words.report), setup, words.beats)
-    if words.report == "-":
-        return stream(sys.stdin.fileno(), incoming, output, notes)
-    with open(words.report, "rb", buffering=0) as file:
-        return stream(file.fileno(), incoming, output, notes)
+    with contextlib.ExitStack() as stack:
+        is_named = words.report != "-"
+        file = stack.enter_context(open(words.report, "rb", buffering=0)) if is_named else sys.stdin
+        return stream(file.fileno(), incoming, _outputs(words, setup, notes, file.fileno()), notes)
 
 
-def _outputs(words: Words, setup: Setup | None, notes: Notes | None) -> Output:
-    """Where the stream goes. Metrics count all alerts; the other outputs have those that are not held back."""
+def _outputs(words: Words, setup: Setup | None, notes: Notes | None, fd: int) -> Output:
+    """Where the stream goes that is read there. Metrics count all alerts; the other outputs have those that are not held back."""
     commands = Commands(words.exec, words.exec_limit, words.exec_seconds, setup) if words.exec else None
     outputs: list[Output] = [commands] if commands else []
     if words.json:
@@ -308,8 +309,12 @@ def _outputs(words: Words, setup: Setup | None, notes: Notes | None) -> Output:
         counts = notes.counts if notes else None
         file = Textfile(words.prometheus, labels_of(words.label), setup, commands, counts)
         file.seen.is_silent = False if words.silence else None
+        file.unread = lambda: unread(fd)
         outputs.append(file)
     outputs.append(Forgotten())
+    watchdog = watchdog_of()
+    if watchdog:
+        outputs.append(watchdog)
     return Silence(outputs, words.silence) if words.silence else Several(outputs)
 
 

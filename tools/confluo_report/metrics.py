@@ -56,6 +56,7 @@ HELP = {
     "confluo_window_record": "The first record that the answers are on, by its number.",
     "confluo_told_alert_value": "The value in a time bucket in which the trigger began to fire.",
     "confluo_stream_running": "1 while the stream is read, 0 after its end.",
+    "confluo_stream_unread_bytes": "Bytes of the stream that wait to be read; watch waits too once they are 65536.",
     "confluo_stream_alerts_total": "Alerts of the trigger since the start.",
     "confluo_stream_alert_bucket_number": "The time bucket of the trigger's last alert.",
     "confluo_stream_alert_seconds": "When the time bucket of the trigger's last alert begins, in seconds since 1970.",

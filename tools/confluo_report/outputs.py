@@ -2,6 +2,7 @@
 
 from __future__ import annotations
 
+import contextlib
 import json
 import os
 import select
@@ -133,6 +134,9 @@ def sooner(*rests: float | None) -> float | None:
 class Stopper:
     """Turns SIGTERM, SIGINT and the end of a command into a byte that can be waited for."""
 
+    # The one of the stream that is read.
+    current: Stopper | None = None
+
     def __init__(self) -> None:
         self.fd, self._write = os.pipe()
         os.set_blocking(self._write, False)
@@ -143,6 +147,7 @@ class Stopper:
         for number in (signal.SIGTERM, signal.SIGINT):
             self._before[number] = signal.signal(number, self._stop)
         self._before[signal.SIGCHLD] = signal.signal(signal.SIGCHLD, self._wake)
+        Stopper.current = self
         return self
 
     def _stop(self, number: int, frame: FrameType | None) -> None:
@@ -157,11 +162,16 @@ class Stopper:
             pass
 
     def drain(self) -> None:
-        """Takes the bytes that have come; after a stop they stay."""
-        if not self.is_stopped:
-            os.read(self.fd, PIECE)
+        """Takes the bytes that have come; after a stop there is one that stays."""
+        if self.is_stopped:
+            return
+        os.read(self.fd, PIECE)
+        if self.is_stopped:
+            # It came meanwhile.
+            os.write(self._write, b"!")
 
     def __exit__(self, *_: object) -> None:
+        Stopper.current = None
         for number, handler in self._before.items():
             signal.signal(number, handler)
         os.close(self.fd)
@@ -176,26 +186,33 @@ class Writer:
 
     def write(self, text: str) -> None:
         """The text goes out with the next `flush`."""
-        self.waiting += text.encode()
+        self.waiting += text.encode(errors="surrogateescape")
 
     def flush(self, stopper: Stopper | None = None) -> None:
         """All that waits goes out. After a stop only what has room at once does."""
         try:
             fd = self.out.fileno()
         except OSError:
-            self.out.write(self.waiting.decode())
+            self.out.write(self.waiting.decode(errors="surrogateescape"))
             self.out.flush()
             self.waiting.clear()
             return
-        while self.waiting:
-            stops = [stopper.fd] if stopper and not stopper.is_stopped else []
-            wait = 0 if stopper and stopper.is_stopped else None
-            _, ready, _ = select.select(stops, [fd], [], wait)
-            if ready:
-                # A pipe that has room takes so many bytes without waiting.
-                del self.waiting[: os.write(fd, self.waiting[: select.PIPE_BUF])]
-            elif stopper and stopper.is_stopped:
-                return
+        while self.waiting and _has_room(fd, stopper):
+            # A pipe that has room takes so many bytes without waiting.
+            del self.waiting[: os.write(fd, self.waiting[: select.PIPE_BUF])]
+
+
+def _has_room(fd: int, stopper: Stopper | None) -> bool:
+    """Waits for room, or for the stop: then whether there is room at once."""
+    while True:
+        is_stopped = stopper is not None and stopper.is_stopped
+        stops = [stopper.fd] if stopper and not is_stopped else []
+        woken, ready, _ = select.select(stops, [fd], [], 0 if is_stopped else None)
+        if ready or is_stopped:
+            return bool(ready)
+        if woken and stopper:
+            # A command that ended does not make room.
+            stopper.drain()
 
 
 class TextOutput(Output):
@@ -209,6 +226,11 @@ class TextOutput(Output):
 
     def pause(self) -> None:
         self.writer.flush(self.stopper)
+
+    def close(self) -> None:
+        # What came before a stop, or before a line that is none of `watch`.
+        with contextlib.suppress(OSError):
+            self.writer.flush(self.stopper)
 
 
 class WordLines(TextOutput):
@@ -313,5 +335,7 @@ def json_line(it: Told | Silent, setup: Setup | None = None) -> str:
 
 
 def report_trouble(text: str) -> None:
-    """Says on standard error what ends nothing."""
-    print(f"confluo-report: {text}", file=sys.stderr, flush=True)
+    """Says on standard error what ends nothing. A stream that is stopped does not wait for room there."""
+    writer = Writer(sys.stderr)
+    writer.write(f"confluo-report: {text}\n")
+    writer.flush(Stopper.current)

@@ -70,15 +70,18 @@ def _behind(
     data: mmap.mmap, at: int, count: int, length_at: Callable[[mmap.mmap, int], tuple[int, ...]]
 ) -> int:
     """Where so many records end that begin there, or the end of the file if there are fewer."""
-    last = len(data) - 16
-    for _ in range(count):
-        if at > last:
-            return len(data)
-        (length,) = length_at(data, at + 8)
-        if length > MOST_CAPTURED:
-            return len(data)
-        at += 16 + length
-    return min(at, len(data))
+    # (this is one thread's work beside that of all others: each step counts)
+    at += 8
+    try:
+        for _ in range(count):
+            (length,) = length_at(data, at)
+            if length > MOST_CAPTURED:
+                return len(data)
+            at += 16 + length
+    except struct.error:
+        # The file ends before the length.
+        return len(data)
+    return min(at - 8, len(data))
 
 
 def _blocks(data: mmap.mmap, each: int) -> Iterator[tuple[int, int, bytes, int]]:

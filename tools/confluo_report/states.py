@@ -67,11 +67,18 @@ class Again(Several):
         return sooner(super().rest(), *(it.came + self.seconds - now for it in self.states.values()))
 
     def end(self, ending: Ending) -> None:
+        self._tell_all()
+        super().end(ending)
+
+    def close(self) -> None:
+        self._tell_all()
+        super().close()
+
+    def _tell_all(self) -> None:
         for state in self.states.values():
             if state.count:
                 self._tell(state, False)
         self.states.clear()
-        super().end(ending)
 
 
 class Silence(Several):

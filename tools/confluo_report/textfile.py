@@ -2,6 +2,9 @@
 
 from __future__ import annotations
 
+import array
+import fcntl
+import termios
 import time
 from collections import Counter
 from dataclasses import dataclass, field
@@ -50,6 +53,8 @@ class Textfile(Output):
         self.path, self.labels, self.setup, self.commands, self.counts = path, labels, setup, commands, counts
         self.keys, self.now = keys_of(setup), now
         self.seen, self.running, self.ending = Seen(), 1, Ending()
+        # How many bytes of the stream wait to be read, if it is known.
+        self.unread: Callable[[], int] | None = None
         self.seen.alerts.update(dict.fromkeys((it.name for it in setup.triggers) if setup else (), 0))
         self.is_new, self.written, self.is_failing = True, now() - LEAST, False
 
@@ -105,6 +110,8 @@ class Textfile(Output):
         families.add("confluo_stream_running", self.running)
         families.add("confluo_records_total", seen.records)
         families.add("confluo_window_record", seen.first)
+        if self.unread:
+            families.add("confluo_stream_unread_bytes", self.unread())
         if seen.beat:
             add_beat(families, seen.beat, seen.totals.values(), self.setup)
         if seen.is_silent is not None:
@@ -131,6 +138,16 @@ class Textfile(Output):
             for part, value in values.items():
                 if value <= EXACT:
                     families.add(f"confluo_stream_{part}", value, trigger=name)
+
+
+def unread(fd: int) -> int:
+    """How many bytes of the pipe wait to be read; 0 of what cannot say it."""
+    found = array.array("i", [0])
+    try:
+        fcntl.ioctl(fd, termios.FIONREAD, found)
+    except OSError:
+        return 0
+    return found[0]
 
 
 def _is_exact(live: RoundLive) -> bool:

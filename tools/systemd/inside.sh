@@ -24,6 +24,11 @@ await() {
 of() { systemctl show -P "$2" "$1"; }
 value() { sed -n "s/^$1{[^}]*interface=\"$name\"[^}]*} //p" "$metrics" 2> /dev/null; }
 has_more() { v=$(value "$1"); [ -n "$v" ] && [ "$v" -gt "$2" ]; }
+stream() {
+    for it in /proc/[0-9]*; do
+        grep -zqx stream "$it/cmdline" 2> /dev/null && echo "${it#/proc/}"
+    done | head -n 1
+}
 pid_of() { pgrep -x "$1" | head -n 1; }
 # The processes of this kernel without procps: by their names.
 pgrep() {
@@ -87,6 +92,19 @@ for killed in tcpdump confluo; do
     await "no packet comes after $killed was killed" '[ "$(value confluo_stream_running)" = 1 ] && has_more confluo_records_total 0'
 done
 say "both come back when one is killed"
+
+mkdir -p "/run/systemd/system/$watch.d"
+printf '[Service]\nWatchdogSec=4\n' > "/run/systemd/system/$watch.d/short.conf"
+systemctl daemon-reload
+systemctl restart $watch
+await "no packet comes after a restart" '[ "$(value confluo_stream_running)" = 1 ] && has_more confluo_records_total 0'
+old=$(stream)
+sleep 9
+[ "$(stream)" = "$old" ] || fail "a stream that goes on is begun anew"
+kill -STOP "$old"
+await "a stream that stands still is not begun anew" '[ -n "$(stream)" ] && [ "$(stream)" != "$old" ]'
+await "no packet comes behind a stream that stood still" '[ "$(value confluo_stream_running)" = 1 ] && has_more confluo_records_total 0'
+say "a stream that stands still is begun anew"
 
 ip link delete $name
 await "the capture of an interface that is gone goes on" '[ "$(of $capture ActiveState)" != active ]'

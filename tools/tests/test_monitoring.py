@@ -43,6 +43,7 @@ ALERTS = {
     # In minute 46 there is no metric any more.
     "ConfluoStopped": ((31, 38, 46), (29,)),
     "ConfluoStuck": ((33, 38), (10, 24, 29)),
+    "ConfluoBehind": ((18, 19), (10, 17, 20)),
     "ConfluoDrops": ((16, 24), (14, 28)),
     "ConfluoCommands": ((), (10, 30)),
 }
@@ -88,6 +89,8 @@ def recording(folder: str) -> Iterator[tuple[int, str]]:
             report = parse(f"records {packets}\nwindow 0\nask most top 0:\nalert busy 1700000730 10000001\n")
             silence.end(Ending(report))
             file.running = 0
+        behind = 65536 * (70 <= step < 78)
+        file.unread = lambda: behind
         dropped = 5 * (step >= 62)
         counts.take(
             f"tcpdump: {packets} packets captured, {packets} packets received by filter, {dropped} packets dropped by kernel"

@@ -10,24 +10,28 @@ import pathlib
 import re
 import select
 import signal
+import socket
 import subprocess
 import tempfile
 import termios
 import time
 import unittest
+from typing import IO
+from unittest import mock
 
 from support import REPORT, ROOT, SNAPSHOT, TOOLS, tool
 
 from confluo_report.commands import WordsFault, parse_words
 from confluo_report.errors import Complaint
 from confluo_report.incoming import Ending, Incoming
-from confluo_report.outputs import Held, Output, Silent, WordLines, json_line
+from confluo_report.outputs import Held, Output, Silent, Stopper, WordLines, json_line
 from confluo_report.reports import RoundAlert, RoundBeat, RoundTotal, lines_of, parse
 from confluo_report.setups import parse_setup
 from confluo_report.show import Viewer
 from confluo_report.states import Again, Forgotten, Silence
 from confluo_report.tcpdump import Notes
-from confluo_report.textfile import Textfile
+from confluo_report.textfile import Textfile, unread
+from confluo_report.watchdog import Watchdog, watchdog_of
 
 SETUP = """\
 schema packet
@@ -315,6 +319,10 @@ class Streams(Folder):
         self.assertEqual(self.stream("", "--setup", faulty)[0], 2)
         self.assertEqual(self.stream("", "--setup", "/no/such")[0], 9)
 
+    def test_what_came_before_a_fault_is_shown(self) -> None:
+        status, out, _ = self.stream("alert t 1 60 @1\nnothing\n")
+        self.assertEqual((status, out), (11, "alert t  bucket 1: 60, after 1 packets\n"))
+
     def test_pieces_change_nothing(self) -> None:
         whole = list(Incoming("w").feed(TWO.encode()))
         for size in range(1, 40):
@@ -450,12 +458,15 @@ class Holding(unittest.TestCase):
         self.assertIsNone(again.rest())
 
     def test_what_is_held_at_the_end_is_told(self) -> None:
-        shown = Shown()
-        again = Again([shown], 10, lambda: 0.0)
-        for bucket in (1, 2):
-            again.told(RoundAlert("t", bucket, 60, bucket))
-        again.end(Ending())
-        self.assertEqual(shown.found, [1, ("t", 1, 2, False)])
+        for has_ended in (True, False):
+            shown = Shown()
+            again = Again([shown], 10, lambda: 0.0)
+            for bucket in (1, 2):
+                again.told(RoundAlert("t", bucket, 60, bucket))
+            if has_ended:
+                again.end(Ending())
+            again.close()
+            self.assertEqual(shown.found, [1, ("t", 1, 2, False)])
 
 
 class Watching(Folder):
@@ -523,6 +534,27 @@ class Watching(Folder):
             forgotten.told(RoundAlert("t", at, 60, at))
         self.assertEqual(len(forgotten.seen["t"]), 8192)
 
+    def test_systemd_is_told_that_the_stream_goes_on(self) -> None:
+        now, path = [0.0], f"{self.place.name}/notify"
+        with socket.socket(socket.AF_UNIX, socket.SOCK_DGRAM) as heard:
+            heard.bind(path)
+            heard.setblocking(False)
+            watchdog = Watchdog(path, 10, lambda: now[0])
+            for moment, count in ((0, 1), (4.9, 0), (5, 1), (20, 1), (21, 0)):
+                now[0] = moment
+                watchdog.pause()
+                if count:
+                    self.assertEqual(heard.recv(99), b"WATCHDOG=1")
+                self.assertRaises(BlockingIOError, heard.recv, 99)
+            self.assertEqual(watchdog.rest(), 4)
+        now[0] = 99
+        watchdog.pause()
+        for environment in ({}, {"NOTIFY_SOCKET": path}, {"NOTIFY_SOCKET": path, "WATCHDOG_USEC": "0"}):
+            self.assertIsNone(watchdog_of(environment))
+        made = watchdog_of({"NOTIFY_SOCKET": "@name", "WATCHDOG_USEC": "180000000", "WATCHDOG_PID": "1"})
+        assert made
+        self.assertEqual((made.address, made.step), ("\0name", 90))
+
     def test_counts_of_tcpdump(self) -> None:
         line = "{} packets captured, {} packets received by filter, {} packet dropped by kernel"
         text = (
@@ -554,12 +586,12 @@ class Watching(Folder):
 class AsAProcess(Folder):
     """What needs a pipe, signals and commands."""
 
-    def start(self, *words: str) -> subprocess.Popen:
+    def start(self, *words: str, stderr: int = subprocess.PIPE) -> subprocess.Popen:
         process = subprocess.Popen(
             [TOOLS / "confluo-report", "stream", *words],
             stdin=subprocess.PIPE,
             stdout=subprocess.PIPE,
-            stderr=subprocess.PIPE,
+            stderr=stderr,
         )
         self.addCleanup(self.finish, process)
         return process
@@ -568,7 +600,8 @@ class AsAProcess(Folder):
         process.kill()
         process.wait()
         for it in (process.stdin, process.stdout, process.stderr):
-            it.close()
+            if it:
+                it.close()
 
     def line(self, process: subprocess.Popen, seconds: float = 20) -> str:
         ready, _, _ = select.select([process.stdout], [], [], seconds)
@@ -609,6 +642,31 @@ class AsAProcess(Folder):
         self.assertIn("silence  over: packets come again, after 5 packets and ", self.line(process))
         self.until(lambda: out.exists() and len(out.read_text().splitlines()) == 2)
         self.assertEqual(out.read_text().splitlines(), ["silence 0 5", "silence 1 5"])
+
+    def test_a_stop_while_its_bytes_are_taken_can_be_waited_for(self) -> None:
+        take = os.read
+        with Stopper() as stopper:
+
+            def read(fd: int, size: int) -> bytes:
+                os.kill(os.getpid(), signal.SIGTERM)
+                return take(fd, size)
+
+            with mock.patch("os.read", read):
+                os.kill(os.getpid(), signal.SIGCHLD)
+                stopper.drain()
+            self.assertTrue(stopper.is_stopped)
+            self.assertTrue(select.select([stopper.fd], [], [], 0)[0])
+
+    def test_what_waits_to_be_read_is_a_metric(self) -> None:
+        read, write = os.pipe()
+        os.write(write, b"alert t 1")
+        self.assertEqual((unread(read), unread(os.open("/dev/null", os.O_RDONLY))), (9, 0))
+        os.close(write)
+        os.close(read)
+        path = pathlib.Path(self.place.name, "m.prom")
+        process = self.start("--quiet", "--prometheus", str(path))
+        self.send(process, "alert t 1 60 @1\n")
+        self.until(lambda: path.exists() and "confluo_stream_unread_bytes 0\n" in path.read_text())
 
     def test_a_pipe_of_tcpdump(self) -> None:
         pipe, path = pathlib.Path(self.place.name, "n"), pathlib.Path(self.place.name, "m.prom")
@@ -685,14 +743,45 @@ class AsAProcess(Folder):
         process = self.start("--setup", self.setup)
         self.send(process, "".join(f"alert t {at} 60 @{at}\n" for at in range(1, 3000)))
         # What it has read makes more text than a pipe holds.
-        self.until(lambda: self.is_waiting(process))
+        self.until(lambda: self.is_waiting(process.stdout))
         process.send_signal(signal.SIGTERM)
         self.assertEqual(process.wait(20), 0)
 
-    def is_waiting(self, process: subprocess.Popen) -> bool:
+    def test_sigterm_ends_it_while_nobody_reads_its_troubles(self) -> None:
+        ended = pathlib.Path(self.place.name, "ended")
+        read, write = os.pipe()
+        os.set_blocking(write, False)
+        with contextlib.suppress(BlockingIOError):
+            while True:
+                os.write(write, bytes(select.PIPE_BUF))
+        os.set_blocking(write, True)
+        process = self.start("--quiet", "--exec", f"echo > {ended}; exit 3", stderr=write)
+        self.send(process, "".join(f"alert t {at} 60 @{at}\n" for at in range(1, 1000)))
+        self.until(ended.exists)
+        time.sleep(0.3)
+        process.send_signal(signal.SIGTERM)
+        self.assertEqual(process.wait(20), 0)
+        os.close(read)
+        os.close(write)
+
+    def test_it_sleeps_while_nobody_reads(self) -> None:
+        ended = pathlib.Path(self.place.name, "ended")
+        process = self.start("--exec", f"sleep 2; echo >> {ended}", "--exec-limit", "1")
+        self.send(process, "".join(f"alert t {at} 60 @{at}\n" for at in range(1, 3000)))
+        self.until(lambda: self.is_waiting(process.stdout) and ended.exists())
+        before = self.spent(process)
+        time.sleep(1)
+        self.assertLess(self.spent(process) - before, 5)
+
+    def spent(self, process: subprocess.Popen) -> int:
+        """How long it has run on a processor, in hundredths of a second."""
+        fields = pathlib.Path(f"/proc/{process.pid}/stat").read_text().rpartition(")")[2].split()
+        return int(fields[11]) + int(fields[12])
+
+    def is_waiting(self, pipe: IO[bytes]) -> bool:
         """Whether as much waits to be read as a pipe holds, less one write."""
         found = array.array("i", [0])
-        fcntl.ioctl(process.stdout, termios.FIONREAD, found)
+        fcntl.ioctl(pipe, termios.FIONREAD, found)
         return found[0] > 65536 - 2 * select.PIPE_BUF
 
     def test_a_burst_has_all_its_commands(self) -> None:
