@@ -6,7 +6,7 @@
 A generator writes SECONDS (86,400) seconds with RATE (50) packets each into a pipe. At FAULTS (24) even distances there is a burst of
 thrice as many, a second of resets, a second with one packet and a second without any. The plain reading adds up each second. Told
 must be: each second that meets a trigger, once; at the end the marks of the last 4,096 seconds with packets; and at the last beat the
-totals of all packets. The memory of `watch` is sampled, and must be flat behind the first tenth. CONFLUO may name the program. It ends
+totals of all packets. The memory of `watch` is sampled, and must be flat once its window is full. CONFLUO may name the program. It ends
 with 1 if something is not so. It is not part of the gate.
 """
 
@@ -26,6 +26,8 @@ ROOT = pathlib.Path(__file__).resolve().parent.parent
 PROGRAM = os.environ.get("CONFLUO", str(ROOT / "crates/confluo/out/confluo"))
 BEGIN = 1_700_000_000
 KEPT = 4096
+# Packets that fill the window, and a little more.
+FULL = 4 * 65536 + 50000
 SETUP = """\
 schema packet
 filter every *
@@ -109,7 +111,7 @@ def feed(plain, pipe, sizes, pid):
         pipe.write(written(second, count, resets))
         plain.take(second, count, resets)
         if second % max(words.seconds // 40, 1) == 0:
-            sizes.append(memory_of(pid))
+            sizes.append((plain.totals["sent"][0], memory_of(pid)))
     pipe.close()
 
 
@@ -138,8 +140,9 @@ def compare(plain, lines, sizes):
         yield f"totals {totals}, wanted {plain.totals}"
     if report["records"] != plain.totals["sent"][0]:
         yield f"{report['records']} packets, {plain.totals['sent'][0]} wanted"
-    early, late = sizes[len(sizes) // 10 :][:3], sizes[-3:]
-    if max(late) > 1.05 * max(early) + 2:
+    full = [it for count, it in sizes if count > FULL]
+    early, late = full[:3], full[-3:]
+    if full and max(late) > 1.05 * max(early) + 2:
         yield f"memory grows from {max(early):.0f} to {max(late):.0f} MB"
 
 
@@ -177,7 +180,7 @@ def main():
         print(f"wrong: {it}")
     count, spent = plain.totals["sent"][0], time.monotonic() - begun
     print(
-        f"{count:,} packets, {len(plain.told(plain.seconds)):,} alerts, {spent:.0f} seconds, at most {max(sizes):.0f} MB"
+        f"{count:,} packets, {len(plain.told(plain.seconds)):,} alerts, {spent:.0f} seconds, at most {max(it for _, it in sizes):.0f} MB"
     )
     return 1 if wrong else 0
 

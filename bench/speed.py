@@ -3,7 +3,7 @@
 
 Run it from anywhere after `make run` has built the program:
 
-    bench/speed.py [--rounds N] [--table FILE] [--plot FILE.svg]
+    bench/speed.py [--rounds N] [--short] [--alone] [--table FILE] [--plot FILE.svg]
 
 It writes the generated capture to a temporary file, the same bytes that `confluo synth --seed 1` draws, and times whole commands:
 
@@ -12,7 +12,10 @@ It writes the generated capture to a temporary file, the same bytes that `conflu
    where they are installed, with and without a filter that a fifth of the packets pass, the file read once by this script, and the
    plain twin of the log's own steps (bench/plain_twin.c) if there is a C compiler;
  - live questions beside two writers, each by the time of a run that asks it 1,024 times less that of the same run without;
- - final questions by one, two and four processors, each by the time of a run that asks it 32 times less that of one that asks it once.
+ - final questions by one, two and four processors, each by the time of a run that asks it 32 times less that of one that asks it once;
+ - with --alone nothing but this: one final list or total by itself. The capture comes through a pipe, and the time from its end to the
+   report without the question is taken from that with it. So it is what a reader waits for one question, which threads share. It takes
+   some 30 rounds and a machine with nothing else to do.
 
 Each command runs N times (default 5), and the shortest time counts, as other work on the machine only lengthens a
 run. The peak of memory is the least of the runs'. Captures have 65,536 packets, and 1,048,576 over 16 segments unless --short is
@@ -75,6 +78,10 @@ READERS = {
 ROUNDS_A_BATCH = 64
 BATCH = 4096
 ASKED = 32
+ALONE = {"a list": "list len>1080", "a total": "total len len>1080"}
+# What comes last through the pipe, and how long the rest may take to be loaded.
+END = 64
+SETTLED = 0.5
 # What two runs of one command may differ by, in seconds.
 NOISE = 0.02
 
@@ -281,6 +288,46 @@ def time_finals(sitting, most):
     return table("Final questions, in milliseconds each", ["question", "records", "1 processor", "2 processors", "4 processors"], rows)
 
 
+def seconds_to_report(command, pipe, capture):
+    """The seconds from the end of the capture, of which all but the end was read before, to the first byte of the report."""
+    process = subprocess.Popen([*command, pipe], stdout=subprocess.PIPE, stderr=subprocess.DEVNULL)
+    with open(pipe, "wb") as file:
+        file.write(capture[:-END])
+        file.flush()
+        time.sleep(SETTLED)
+        file.write(capture[-END:])
+        file.flush()
+        start = time.perf_counter()
+    process.stdout.read(1)
+    seconds = time.perf_counter() - start
+    process.communicate()
+    if process.returncode != 0:
+        sys.exit(f"{' '.join(command)}: ended with {process.returncode}")
+    return seconds
+
+
+def time_alone(sitting):
+    """One final question by itself, by how many processors the run may use."""
+    capture = pathlib.Path(sitting.file(COUNT)).read_bytes()
+    pipe = str(sitting.folder / "pipe")
+    os.mkfifo(pipe)
+    rows = []
+    for name, question in ALONE.items():
+        costs = []
+        for processors in ("0", "0,1", "0-3"):
+            seconds = {"": [], f"ask q {question}\n": []}
+            for _ in range(sitting.rounds):
+                for ask, times in seconds.items():
+                    *words, _file = sitting.words("run", "schema packet\n" + ask, COUNT, 1)
+                    times.append(seconds_to_report(["taskset", "-c", processors, *words], pipe, capture))
+            without, with_one = seconds.values()
+            costs.append(f"{(min(with_one) - min(without)) * 1000:,.2f} of {min(with_one) * 1000:,.2f}")
+        rows.append([name, *costs])
+        print(*rows[-1], flush=True)
+    heads = ["question", "1 processor", "2 processors", "4 processors"]
+    return table(f"One final question alone on {COUNT:,} records, in milliseconds, of the time to the report", heads, rows)
+
+
 def plot(times, count, out):
     """Bars of the readers' speeds, on a scale of powers of ten."""
     import matplotlib
@@ -305,20 +352,24 @@ def main():
     parser.add_argument("--table")
     parser.add_argument("--plot")
     parser.add_argument("--short", action="store_true")
+    parser.add_argument("--alone", action="store_true")
     given = parser.parse_args()
     built = pathlib.Path(__file__).parent.parent / "crates/confluo/out/confluo"
     program = os.environ.get("CONFLUO", str(built))
     with tempfile.TemporaryDirectory() as folder:
         sitting = Sitting(program, folder, given.rounds)
         count = COUNT if given.short else LONG
-        times = time_readers(sitting, count)
-        tables = [reader_table(times, count)]
-        tables += [time_loads(sitting, it) for it in sorted({COUNT, count})]
-        tables += [time_finals(sitting, count), time_questions(sitting)]
+        if given.alone:
+            times, tables = {}, [time_alone(sitting)]
+        else:
+            times = time_readers(sitting, count)
+            tables = [reader_table(times, count)]
+            tables += [time_loads(sitting, it) for it in sorted({COUNT, count})]
+            tables += [time_finals(sitting, count), time_questions(sitting)]
     if given.table:
         text = f"{os.cpu_count()} processors; each time is the shortest of {given.rounds} runs.\n\n" + "\n".join(tables)
         pathlib.Path(given.table).write_text(text)
-    if given.plot:
+    if given.plot and times:
         plot(times, count, given.plot)
 
 

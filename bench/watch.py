@@ -9,7 +9,8 @@ Run it from anywhere after `make run` has built the program; CONFLUO may name an
    must have come, so that a line which is written after the next read is found.
  - cuts: one small capture of each format, cut into two reads at every byte.
  - window: 200,000 packets of seed 7, capacity 4096, three segments: the end is plain_watch.py's.
- - long: N packets (10 million) on a pipe, the program's memory sampled: it must be flat behind the first tenth.
+ - long: N packets (10 million) on a pipe with a beat each thousand, the program's memory sampled: it must be flat behind the first
+   tenth, and the last beat must count all packets.
  - latency: from a packet's write to its alert's line, 500 packets one after another.
  - turns: the same about the turns of segments of 65,536 packets, the one that begins a segment beside the 39 around it.
  - ends: SIGTERM, a reader that goes away, a reader that stops reading for a while, a disk without room.
@@ -176,6 +177,7 @@ def drawn(given, folder):
         data = draw.choice([damage.pcap, damage.pcapng])(draw)
         data = damage.damaged(draw, data) if draw.random() < 0.4 else data
         words = {"capacity": draw.choice([1, 2, 5, 65536]), "segments": draw.choice([1, 2, 4]), "every": draw.randrange(5)}
+        words |= {"beat": draw.randrange(5)}
         words |= {"nodes": draw.choice([65536, 65536, 60, 90, 200]), "truncated": draw.random() < 0.5}
         sizes = [draw.choice([1, 16, 60, 200, 4000]) for _ in range(60)]
         try:
@@ -214,15 +216,16 @@ def window(given, folder):
 
 
 def many(count):
-    """The bytes of so many packets of seed 1, by pieces."""
-    parts = [HEADER]
+    """The bytes of so many packets of seed 1, by pieces, each with the lengths of its packets together."""
+    parts, length = [HEADER], 0
     for num, draw in zip(range(count), speed.draws(1)):
-        frame, length = speed.packet(num % 2**32, draw)
-        parts.append(struct.pack("<IIII", 1 + num // 1000, num % 1000 * 1000, len(frame), length) + frame)
+        frame, its = speed.packet(num % 2**32, draw)
+        parts.append(struct.pack("<IIII", 1 + num // 1000, num % 1000 * 1000, len(frame), its) + frame)
+        length += its
         if len(parts) == 900:
-            yield b"".join(parts)
-            parts = []
-    yield b"".join(parts)
+            yield b"".join(parts), length
+            parts, length = [], 0
+    yield b"".join(parts), length
 
 
 def memory_of(pid):
@@ -235,24 +238,32 @@ def memory_of(pid):
 
 def long(given, folder):
     """Memory of a stream that is far longer than the window."""
-    sizes, sent, begun = [], 0, time.monotonic()
+    sizes, sent, length, begun = [], 0, 0, time.monotonic()
     step = max(given.records // 100, 900)
-    setup = speed.USUAL.encode()
-    with Watched(folder, setup, "--every", 0, stdout=subprocess.DEVNULL) as it:
-        for piece in many(given.records):
+    out = pathlib.Path(folder, "out")
+    with out.open("wb") as file, Watched(folder, speed.USUAL.encode(), "--every", 0, "--beat", 1000, stdout=file) as it:
+        for piece, its in many(given.records):
             it.write(piece)
-            sent += 900
+            sent, length = sent + 900, length + its
             if sent % step < 900:
                 sizes.append(memory_of(it.process.pid))
         it.process.stdin.close()
         status = it.process.wait(600)
     seconds = time.monotonic() - begun
+    lines = out.read_text().splitlines()
+    beats = [at for at, line in enumerate(lines) if line.startswith("at ")]
     # The window of 4 segments of 65,536 is full after 262,144 packets. While a segment is replaced, memory is less for a moment.
     full = sizes[len(sizes) // 10 :]
-    print(f"long: {given.records:,} packets in {seconds:.0f} seconds; {min(full) / 1e6:.1f} to {max(full) / 1e6:.1f} MB")
+    print(
+        f"long: {given.records:,} packets in {seconds:.0f} seconds, {len(beats):,} beats; "
+        f"{min(full) / 1e6:.1f} to {max(full) / 1e6:.1f} MB"
+    )
     half = len(full) // 2
     if status or max(full[half:]) > max(full[:half]) * 1.01 + 1e6:
         raise Wrong(f"status {status}; memory after every hundredth, in MB: {[round(it / 1e6, 1) for it in sizes]}")
+    last = lines[beats[-1] : beats[-1] + 2]
+    wanted = [f"at {given.records} {1 + (given.records - 1) // 1000}", f"total bytes count {given.records} sum {length}"]
+    must(last == wanted, f"the last beat is {last}, wanted {wanted}")
 
 
 def latency(given, folder):
