@@ -42,6 +42,7 @@ attr_few (Some attr) = kind_few attr.kind
 key_few : (attrs : List Attr) (key : Key) → nibbles_of_key attrs key ≤ 16
 key_few attrs (keys.Attr attr) = attr_few (slice_get attrs attr)
 key_few attrs keys.Bucket = omega arith
+key_few attrs (keys.BucketBy attr) = omega arith
 
 pub levels_few : (s : ShapeValue) (l : ℕ) → levels_of s l ≤ 16
 levels_few s l = key_few s.schema (lane_at s l).key

@@ -39,6 +39,7 @@ attr_levels (Some attr) h = kind_levels attr.kind h
 key_levels : (attrs : List Attr) (key : Key) → is_lawful_key attrs key ≡ true → 1 < nibbles_of_key attrs key
 key_levels attrs (keys.Attr attr) h = attr_levels (slice_get attrs attr) h
 key_levels attrs keys.Bucket h = omega arith
+key_levels attrs (keys.BucketBy attr) h = omega arith
 
 pub levels_two : (s : ShapeValue) (l : ℕ) → IsShape s → l < length s.lanes → 1 < levels_of s l
 levels_two s l is lt =

@@ -21,6 +21,7 @@ any_kind kind = true
 abbrev pub key_exists : List Attr → Key → Bool
 key_exists attrs (keys.Attr attr) = option_passes any_kind (slice_get attrs attr)
 key_exists attrs keys.Bucket = true
+key_exists attrs (keys.BucketBy attr) = option_passes any_kind (slice_get attrs attr)
 
 -- the attribute that is measured, by its place in the schema, exists; None measures nothing
 abbrev pub measure_exists : List Attr → Option ℕ → Bool

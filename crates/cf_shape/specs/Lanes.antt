@@ -1,5 +1,5 @@
 -- Lanes: which rows each takes, by which key, and what it measures.
-use Rattle.std.specs.Prelude.{◌≡◌, ℕ, ◌/◌, ◌≤◌, ◌^◌, Bool, true, false, ◌&&◌, List, [], length, slice_get, slice_index_or}
+use Rattle.std.specs.Prelude.{◌≡◌, ℕ, ◌+◌, ◌*◌, ◌/◌, ◌≤◌, ◌^◌, Bool, true, false, ◌&&◌, List, [], length, slice_get, slice_index_or}
 use Rattle.std.specs.List.{list_all}
 use Rattle.std.specs.declared.option.Option.{Option}
 use Rattle.std.specs.declared.option.Option.TheVariants.{Some, None}
@@ -43,10 +43,37 @@ bucket_of shape row = time_of shape.schema row / shape.width
 abbrev pub key_by : ShapeValue → Key → RowValue → ℕ
 key_by shape (keys.Attr attr) row = number_at row attr
 key_by shape keys.Bucket row = bucket_of shape row
+key_by shape (keys.BucketBy attr) row = bucket_of shape row
 
 -- what a row is filed under in the lane of that number
 abbrev pub key_of : ShapeValue → ℕ → RowValue → ℕ
 key_of shape lane row = key_by shape (lane_at shape lane).key row
+
+-- the key is the bucket with an attribute beside it
+abbrev pub has_by : Key → Bool
+has_by (keys.Attr attr) = false
+has_by keys.Bucket = false
+has_by (keys.BucketBy attr) = true
+
+-- the row's number at the attribute beside the bucket, if the key has one
+abbrev pub by_in : Key → RowValue → Option ℕ
+by_in (keys.Attr attr) row = None
+by_in keys.Bucket row = None
+by_in (keys.BucketBy attr) row = Some (number_at row attr)
+
+-- the same of the lane of that number
+abbrev pub by_of : ShapeValue → ℕ → RowValue → Option ℕ
+by_of shape lane row = by_in (lane_at shape lane).key row
+
+-- A key, with another number beside it if there is one, as one number. These ascend by the key and then by the other; the key alone
+-- is below 2^64, and with another number it is not.
+abbrev pub both_keys : ℕ → Option ℕ → ℕ
+both_keys key None = key
+both_keys key (Some by) = (key + 1) * 2 ^ 64 + by
+
+-- what the lane's groups go by: the row's key, with the number beside it if there is one
+abbrev pub group_key : ShapeValue → ℕ → RowValue → ℕ
+group_key shape lane row = both_keys (key_of shape lane row) (by_of shape lane row)
 
 -- the row's number at the attribute that is measured, by its place in the schema; 0 where nothing is measured (None)
 abbrev pub measure_by : Option ℕ → RowValue → ℕ
@@ -78,10 +105,11 @@ is_narrow U16 = true
 is_narrow U32 = true
 is_narrow U64 = false
 
--- the key is a number of the schema, by the place of its attribute, or the bucket
+-- the key is a number of the schema, by the place of its attribute, or the bucket, or the bucket with such a number
 abbrev pub is_lawful_key : List Attr → Key → Bool
 is_lawful_key attrs (keys.Attr attr) = option_passes is_number (slice_get attrs attr)
 is_lawful_key attrs keys.Bucket = true
+is_lawful_key attrs (keys.BucketBy attr) = option_passes is_number (slice_get attrs attr)
 
 -- what is measured is an attribute of numbers below 2^32, by its place in the schema, or nothing (None)
 abbrev pub is_lawful_measure : List Attr → Option ℕ → Bool

@@ -1,7 +1,7 @@
 // What a lane says of a row.
 ghost use Rattle.std.specs.Prelude.{◌≡◌, ◌<◌, length};
 ghost use Rattle.cf_row.specs.Row.{Fits};
-ghost use Rattle.cf_shape.specs.Lanes.{key_of, lane_at, selected_by, measure_of};
+ghost use Rattle.cf_shape.specs.Lanes.{key_of, lane_at, selected_by, measure_of, by_of, has_by};
 ghost use Rattle.cf_shape.specs.Nodes.{levels_of};
 ghost use Rattle.cf_shape.specs.Uses.{cell_words, is_measured};
 
@@ -26,7 +26,30 @@ pub fn key(shape: &Shape, lane: u8, row: &Row) -> u64
 {
     match shape.lane(lane).key {
         Key::Attr(attr) => row.number(attr),
-        Key::Bucket => row.time(shape.schema()) / shape.width(),
+        Key::Bucket | Key::BucketBy(_) => row.time(shape.schema()) / shape.width(),
+    }
+}
+
+/// The row's number at the attribute by which the lane keeps the rows of a bucket apart, if its key names one.
+pub fn by(shape: &Shape, lane: u8, row: &Row) -> Option<u64>
+    requires exists { lane < length shape.now.lanes }
+    requires fits { Fits shape.now.schema row.now }
+    ensures { result ≡ by_of shape.now lane row.now }
+{
+    match shape.lane(lane).key {
+        Key::Attr(_) | Key::Bucket => None,
+        Key::BucketBy(attr) => Some(row.number(attr)),
+    }
+}
+
+/// Whether the lane keeps the rows of a bucket apart by an attribute.
+pub fn keeps_apart(shape: &Shape, lane: u8) -> bool
+    requires exists { lane < length shape.now.lanes }
+    ensures { result ≡ has_by (lane_at shape.now lane).key }
+{
+    match shape.lane(lane).key {
+        Key::Attr(_) | Key::Bucket => false,
+        Key::BucketBy(_) => true,
     }
 }
 

@@ -26,12 +26,12 @@ pub fn is_narrow(kind: Kind) -> bool
     }
 }
 
-// Whether the key is a bucket or an attribute with numbers.
+// Whether the key is a bucket or an attribute with numbers, or both.
 pub(crate) fn is_lawful_key(attrs: &[Attr], key: Key) -> bool
     ensures { result ≡ is_lawful_key_of attrs.now key }
 {
     match key {
-        Key::Attr(attr) => match attrs.get(attr as usize) {
+        Key::Attr(attr) | Key::BucketBy(attr) => match attrs.get(attr as usize) {
             Some(attr) => is_number(attr.kind),
             None => false,
         },
@@ -73,6 +73,6 @@ pub(crate) fn key_nibbles(attrs: &[Attr], key: Key) -> u8
             Some(attr) => kind_nibbles(attr.kind),
             None => 0,
         },
-        Key::Bucket => 16,
+        Key::Bucket | Key::BucketBy(_) => 16,
     }
 }

@@ -6,11 +6,15 @@ ghost use Rattle.cf_shape.specs.Uses.{cell_words as cell_words_of, cell_count as
 use cf_row::{Attr, Expr, Memory, Schema, is_of_schema};
 use std::alloc::Global;
 
-/// What a lane files its rows under: the value of an attribute, or the row's time in whole widths.
+/// What a lane files its rows under.
 #[derive(Clone, Copy, Debug, PartialEq, Eq)]
 pub enum Key {
+    /// The value of the attribute at that place of the schema.
     Attr(u8),
+    /// The row's time in whole widths.
     Bucket,
+    /// The same. What is asked of the whole lane goes by the bucket and by the value of the attribute at that place of the schema.
+    BucketBy(u8),
 }
 
 /// A lane takes the rows of which `select` holds, files them under `key`, and adds up the attribute `measure`.
@@ -75,7 +79,7 @@ fn has_key(attrs: &[Attr], key: Key) -> bool
     ensures { result ≡ key_exists attrs.now key }
 {
     match key {
-        Key::Attr(attr) => attrs.get(attr as usize).is_some(),
+        Key::Attr(attr) | Key::BucketBy(attr) => attrs.get(attr as usize).is_some(),
         Key::Bucket => true,
     }
 }

@@ -11,7 +11,7 @@ mod laws;
 mod places;
 mod shape;
 
-pub use keys::{cell_size, key, levels, measure, measures, selects};
+pub use keys::{by, cell_size, keeps_apart, key, levels, measure, measures, selects};
 pub use kinds::{is_lawful_measure, is_narrow, is_number};
 pub use lane::{Key, Lane, belongs, copy_lanes};
 pub use laws::places_differ;
