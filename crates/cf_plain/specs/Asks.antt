@@ -10,7 +10,7 @@ use Rattle.cf_fold.specs.declared.trigger.Trigger.{Trigger}
 use Rattle.cf_shape.specs.Lanes.{ShapeValue, lane_at, selected_by, key_of, measure_of, option_passes, is_narrow}
 use Rattle.cf_shape.specs.declared.lane.Key.{Key}
 use Rattle.cf_shape.specs.declared.lane.Key.TheVariants as keys
-use Rattle.cf_plain.specs.Groups.{groups}
+use Rattle.cf_plain.specs.Groups.{groups, fired_at}
 use Rattle.cf_plain.specs.Tops.{top_over}
 use Rattle.cf_plain.specs.Totals.{total}
 use Rattle.cf_plain.specs.declared.ask.Ask.{Ask}
@@ -58,9 +58,9 @@ counts_for shape (asks.Total attr expr) row = holds_of expr row
 abbrev pub total_over : ShapeValue → ℕ → (RowValue → Bool) → List RowValue → QuadValue
 total_over shape lane passes rows = quad_of (map (measure_of shape lane) (filter passes rows))
 
--- the bucket of a group, with the part of its quad that a trigger looks at
+-- the key of a group, with the part of its quad that a trigger looks at
 abbrev pub mark_of : Trigger → ℕ × QuadValue → Fired
-mark_of trigger group = record { bucket = group.0; value = part_of trigger.part group.1 }
+mark_of trigger group = fired_at group.0 (part_of trigger.part group.1)
 
 -- the groups in which a trigger fires
 abbrev pub marks_in : Trigger → List (ℕ × QuadValue) → List Fired
@@ -89,6 +89,7 @@ eval shape ask entries = eval_rows shape ask (rows_in entries)
 abbrev pub is_attr : Key → Bool
 is_attr (keys.Attr attr) = true
 is_attr keys.Bucket = false
+is_attr (keys.BucketBy attr) = false
 
 -- there is such a lane
 abbrev pub exists : ShapeValue → ℕ → Bool

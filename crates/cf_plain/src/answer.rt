@@ -2,20 +2,25 @@
 use cf_fold::Quad;
 use std::marker::Model;
 
-/// A bucket in which a trigger fired, or a key of a heavy group, and the part of its quad that was asked for.
+/// A group in which a trigger fired, or a heavy one, and the part of its quad that was asked for.
 #[derive(Clone, Copy, Debug, PartialEq, Eq)]
 pub struct Fired {
     /// The bucket's number, a time divided by the width of the buckets; in an answer to `Top`, the key.
     pub bucket: u64,
+    /// The value of the attribute by which the lane keeps the rows of a bucket apart, if it does.
+    pub key: Option<u64>,
     /// The part of the quad: a count, a sum, a least or a greatest number.
     pub value: u64,
 }
 
-/// The rows of a lane that have one key, as the quad of what the lane measures of them.
+/// The rows of a lane that have one key, as the quad of what the lane measures of them. Where the lane keeps the rows of a bucket
+/// apart by an attribute, they are those of one bucket and one value.
 #[derive(Clone, Copy, Debug, PartialEq, Eq)]
 pub struct Group {
     /// The key: a value of the lane's attribute, or the number of a bucket.
     pub key: u64,
+    /// The value by which the rows of the bucket are kept apart, if they are.
+    pub by: Option<u64>,
     /// The count, the sum, the least and the greatest of what the lane measures.
     pub quad: Quad,
 }
@@ -59,8 +64,8 @@ impl Places {
     }
 }
 
-/// Marks of a trigger, or of heavy groups. Those of an answer to `Fired` ascend by bucket; those of an answer to `Top` stand
-/// with the heaviest first.
+/// Marks of a trigger, or of heavy groups. Those of an answer to `Fired` ascend by bucket, and in a bucket by the value that keeps
+/// its rows apart; those of an answer to `Top` stand with the heaviest first.
 #[derive(Debug, Drop)]
 pub struct Marks {
     items: Vec<Fired>,
@@ -100,7 +105,7 @@ impl Marks {
     }
 }
 
-/// The groups of a lane's rows. Those that a question finds ascend by key.
+/// The groups of a lane's rows. Those that a question finds ascend by key, and in a bucket by the value that keeps its rows apart.
 #[derive(Debug, Drop)]
 pub struct Groups {
     items: Vec<Group>,

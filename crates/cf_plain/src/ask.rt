@@ -20,12 +20,13 @@ pub enum Ask {
     Between(u8, u64, u64),
     /// The quad of what the lane measures of its rows whose bucket is in the range.
     Measure(u8, u64, u64),
-    /// The buckets in which the trigger fires.
+    /// The buckets in which the trigger fires; where its lane keeps the rows of a bucket apart, the buckets and values.
     Fired(Trigger),
     /// The lane's heaviest keys by that part of what it measures of their rows, and at most so many of them. The greater part
     /// goes first, and of equal ones the lower key.
     Top(u8, Part, u32),
-    /// All groups of the lane's rows, ascending by key: for each the quad of what the lane measures of its rows.
+    /// All groups of the lane's rows, ascending by key: for each the quad of what the lane measures of its rows. Where the lane
+    /// keeps the rows of a bucket apart, a group has those of one bucket and one value.
     Groups(u8),
     /// The quad of the attribute over the rows of which the expression holds.
     Total(u8, Expr),
@@ -65,7 +66,7 @@ fn is_attr(key: Key) -> bool
 {
     match key {
         Key::Attr(_) => true,
-        Key::Bucket => false,
+        Key::Bucket | Key::BucketBy(_) => false,
     }
 }
 
