@@ -177,8 +177,10 @@ fn groups_by_entry<P: Pass, L: Ledger>(
     merge_groups(alloc, &each)
 }
 
-// The groups of the lane: by its tree and chains, and where it keeps the rows of a bucket apart by all entries.
-pub(crate) fn lane_groups<P: Pass, L: Ledger>(
+/// The groups of a lane that measures something, as for `groups`, in the entries that the pass has seen. The read tail is not
+/// loaded, no ask is noted, and the pass only walks. The lane's tree and chains are walked, or all entries are gone over where
+/// it keeps the rows of a bucket apart. If memory runs out, there is no answer, and the pass has only walked.
+pub fn groups_seen<P: Pass, L: Ledger>(
     log: &MultiLog,
     alloc: Global,
     pass: &mut P,

@@ -15,6 +15,7 @@ mod scans;
 mod selection;
 mod tags;
 
+pub use apart::groups_seen;
 pub use asks::{ask, ask_seen, groups, measure, tail};
 pub use findings::{finding, finding_seen};
 pub use history::{questions_keep_their_place, seals_are_histories};
