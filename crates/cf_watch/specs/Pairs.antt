@@ -70,8 +70,8 @@ abbrev pub forgotten_at : List ApartValue → ℕ → ℕ → Option ℕ
 forgotten_at kept b k =
     if has_pair kept b k then None
     else
-      (if nat_le most_pairs (pair_count kept) then position (is_elsewhere b) kept
-      else (if nat_le most_apart (length kept) && not (has_bucket kept b) then Some 0 else None))
+    (if nat_le most_pairs (pair_count kept) then position (is_elsewhere b) kept
+    else (if nat_le most_apart (length kept) && not (has_bucket kept b) then Some 0 else None))
 
 -- without the bucket at that place
 abbrev pub without : List ApartValue → Option ℕ → List ApartValue
@@ -88,8 +88,8 @@ abbrev pub with_key : ℕ → ℕ → ApartValue → ApartValue
 with_key k n apart =
     if is_kept apart.pairs k then record apart { pairs = map (if_of k n) apart.pairs }
     else
-      (if nat_le most_pairs (length apart.pairs) then record apart { crowded = true }
-      else record apart { pairs = apart.pairs ++ begun k n ∷ [] })
+    (if nat_le most_pairs (length apart.pairs) then record apart { crowded = true }
+    else record apart { pairs = apart.pairs ++ begun k n ∷ [] })
 
 -- a bucket of one record alone
 abbrev pub begun_apart : ℕ → ℕ → ℕ → ApartValue
@@ -134,10 +134,10 @@ pub record IsIndexed (places : BTreeMap ℕ ℕ) (pairs : List BucketValue) : Ty
   pub apart : AreApart pairs
 
 -- in the bucket each key is kept once, there is one, and none has more records than came
-pub record IsApart (count : ℕ) (apart : ApartValue) : Type 0 where
-  pub some : 0 < length apart.pairs
-  pub apart : AreApart apart.pairs
-  pub counted : All (λ pair. pair.quad.count ≤ count) apart.pairs
+pub record IsApart (count : ℕ) (bucket : ApartValue) : Type 0 where
+  pub some : 0 < length bucket.pairs
+  pub different : AreApart bucket.pairs
+  pub counted : All (λ pair. pair.quad.count ≤ count) bucket.pairs
 
 -- what is true of the kept buckets of an aggregate by key of which so many records came
 pub record IsKeptApart (kept : List ApartValue) (count : ℕ) : Type 0 where

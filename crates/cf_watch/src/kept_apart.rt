@@ -8,7 +8,9 @@ ghost use Rattle.cf_watch.specs.PairMarks.{apart_forgets, apart_fresh, apart_mar
 
 use crate::apart::Apart;
 use crate::marks::settled_count;
-use crate::pair_marks::{crowded_in, is_key_untold_for_any, marks_in, tell_first_buckets, untold_marks_in};
+use crate::pair_marks::{
+    crowded_in, is_key_untold_for_any, marks_in, tell_crowds, tell_first_buckets, untold_marks_in,
+};
 use crate::{MOST_APART, MOST_PAIRS, MOST_TRIGGERS};
 use cf_fold::Trigger;
 use cf_plain::Fired;
@@ -107,7 +109,13 @@ fn take_at(buckets: &mut [Apart], place: usize, key: u64, value: u32) -> Result<
 }
 
 // A record comes for which there is room. Without memory nothing has changed.
-fn place_in(alloc: Global, buckets: &mut Vec<Apart>, number: u64, key: u64, value: u32) -> Result<(), Memory>
+fn place_in(
+    alloc: Global,
+    buckets: &mut Vec<Apart>,
+    number: u64,
+    key: u64,
+    value: u32,
+) -> Result<(), Memory>
     requires separate { AreSeparate buckets.old.items }
     requires apart { All (IsApart (2 ^ 53 - 1)) buckets.old.items }
     ensures ok { OnOk result (buckets.new.items ≡ placing buckets.old.items number key value) }
@@ -172,7 +180,13 @@ impl KeptApart {
     }
 
     /// Takes a record, of which nothing is kept unless the lane selects it.
-    pub fn take_row(&mut self, alloc: Global, shape: &Shape, lane: u8, row: &Row) -> Result<(), Memory>
+    pub fn take_row(
+        &mut self,
+        alloc: Global,
+        shape: &Shape,
+        lane: u8,
+        row: &Row,
+    ) -> Result<(), Memory>
         requires exists { lane < length shape.now.lanes }
         requires fits { Fits shape.now.schema row.now }
         requires few { self.old.count < 2 ^ 53 }
@@ -192,7 +206,8 @@ impl KeptApart {
         requires few { length triggers.now ≤ MOST_TRIGGERS }
         ensures { result ≡ is_untold_at_of lane triggers.now self.now.buckets (Some place) }
     {
-        self.buckets[place].is_crowd_untold() || is_key_untold_for_any(&self.buckets, place, lane, triggers)
+        self.buckets[place].is_crowd_untold()
+            || is_key_untold_for_any(&self.buckets, place, lane, triggers)
     }
 
     /// Whether a record of that bucket and key makes a bucket forgotten that is crowded or has a mark of one of the triggers, not yet told;
@@ -208,7 +223,13 @@ impl KeptApart {
     }
 
     /// The same of a record: false unless the lane selects it.
-    pub fn row_forgets_untold(&self, shape: &Shape, lane: u8, triggers: &[Trigger], row: &Row) -> bool
+    pub fn row_forgets_untold(
+        &self,
+        shape: &Shape,
+        lane: u8,
+        triggers: &[Trigger],
+        row: &Row,
+    ) -> bool
         requires exists { lane < length shape.now.lanes }
         requires fits { Fits shape.now.schema row.now }
         requires few { length triggers.now ≤ MOST_TRIGGERS }
@@ -223,7 +244,12 @@ impl KeptApart {
 
     /// The marks of a trigger, ascending by bucket and then by key: those of the kept keys in which it fires. If more records may undo its
     /// marks, then only those of buckets behind which two or more stand, but in the final part all.
-    pub fn marks(&self, alloc: Global, trigger: &Trigger, is_final: bool) -> Result<Vec<Fired>, Memory>
+    pub fn marks(
+        &self,
+        alloc: Global,
+        trigger: &Trigger,
+        is_final: bool,
+    ) -> Result<Vec<Fired>, Memory>
         ensures { IfOk result (λ marks. marks.items ≡ apart_marks trigger.now is_final self.now.buckets) }
     {
         let count = settled_count(trigger, is_final, self.buckets.len());
@@ -231,7 +257,12 @@ impl KeptApart {
     }
 
     /// The marks of the trigger at a place of the setup that were not told yet, which are told with this. Without memory nothing has changed.
-    pub fn tell(&mut self, alloc: Global, trigger: &Trigger, place: u8) -> Result<Vec<Fired>, Memory>
+    pub fn tell(
+        &mut self,
+        alloc: Global,
+        trigger: &Trigger,
+        place: u8,
+    ) -> Result<Vec<Fired>, Memory>
         requires { place < MOST_TRIGGERS }
         ensures marks { IfOk result (λ marks. marks.items ≡ apart_fresh trigger.now place self.old.buckets) }
         ensures told { OnOk result (self.new ≡ record self.old { buckets = apart_telling trigger.now place self.old.buckets }) }
@@ -251,9 +282,7 @@ impl KeptApart {
         ensures err { OnErr result (self.new ≡ self.old) }
     {
         let crowded = crowded_in(alloc, &self.buckets)?;
-        for apart in &mut self.buckets {
-            apart.tell_crowd();
-        }
+        tell_crowds(&mut self.buckets);
         Ok(crowded)
     }
 }
