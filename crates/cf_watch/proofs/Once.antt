@@ -11,7 +11,7 @@ use Rattle.cf_plain.specs.declared.answer.Fired.{Fired}
 use Rattle.cf_watch.specs.Kept.{AreApart, BucketValue, is_kept, is_of, most_triggers}
 use Rattle.cf_watch.specs.Laws.{HasMarkOf, Step, told, after_step, after_steps}
 use Rattle.cf_watch.specs.Marks.{fresh_on, is_told, is_untold, mark_in, meets, put_mark, settled, settled_count, telling, with_told}
-use Rattle.cf_watch.proofs.Apart.{kept_same}
+use Rattle.cf_watch.proofs.Distinct.{kept_same}
 use Rattle.cf_watch.proofs.Since.{few_kept}
 use Rattle.cf_watch.proofs.Steps.{origin}
 use Rattle.cf_watch.proofs.Told.{numbers_first, told_number}

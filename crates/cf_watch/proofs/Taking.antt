@@ -8,7 +8,7 @@ use Rattle.std.proofs.lemmas.List.Folds.{Any-from_list_any, list_any_at}
 use Rattle.std.specs.List.{remove}
 use Rattle.cf_fold.specs.Quads.{QuadValue, plus}
 use Rattle.cf_watch.specs.Kept.{AreApart, BucketValue, IsKept, begun, is_kept, is_of, is_other, most_kept, taking, with_record, with_room}
-use Rattle.cf_watch.proofs.Apart.{apart_push, apart_rest, one_of, other_apart, others_lack, rest_fewer}
+use Rattle.cf_watch.proofs.Distinct.{apart_push, apart_rest, one_of, other_apart, others_lack, rest_fewer}
 
 -- a bucket that was changed at its place and then moved to the end
 pub moved : (kept : List BucketValue) (i : ℕ) (k d : BucketValue) → i < length kept

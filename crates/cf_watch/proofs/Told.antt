@@ -8,7 +8,7 @@ use Rattle.std.specs.Option.{MatchOption, is_some}
 use Rattle.cf_fold.specs.declared.trigger.Trigger.{Trigger}
 use Rattle.cf_watch.specs.Kept.{BucketValue, IsKept, is_kept, most_kept}
 use Rattle.cf_watch.specs.Marks.{forgets_untold, grows, is_bucket_untold, is_first_untold, is_untold, meets, no_trigger, settled, settled_count, telling, with_told}
-use Rattle.cf_watch.proofs.Apart.{apart_same, numbers}
+use Rattle.cf_watch.proofs.Distinct.{apart_same, numbers}
 
 -- one more of them is changed in its place
 pub told_more : (f : BucketValue → BucketValue) (xs ys : List BucketValue) (i : ℕ) (d x : BucketValue) → i < length xs → ys ≡ map f (take i xs) ++ drop i xs

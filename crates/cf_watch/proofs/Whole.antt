@@ -20,7 +20,7 @@ use Rattle.cf_plain.proofs.Rising.{rising_is_one}
 use Rattle.cf_watch.specs.Kept.{BucketValue, begun, is_full, is_kept, is_of, is_other, kept_after, most_kept, taking, with_record}
 use Rattle.cf_watch.specs.Laws.{Step, took, told, after_step, after_steps, shown_mark, value_in, values_of}
 use Rattle.cf_watch.specs.Marks.{by_bucket, mark_in, marks_on, meets, put_mark, settled_count, telling}
-use Rattle.cf_watch.proofs.Apart.{kept_same, numbers}
+use Rattle.cf_watch.proofs.Distinct.{kept_same, numbers}
 use Rattle.cf_watch.proofs.Since.{all_since}
 use Rattle.cf_watch.proofs.Told.{numbers_first}
 use Rattle.cf_watch.proofs.Totals.{row_step, rows_are_steps, selected}
