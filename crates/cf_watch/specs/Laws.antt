@@ -1,7 +1,7 @@
 -- What is so of kept buckets, whatever records come and whenever marks are told.
 use Rattle.std.specs.Prelude.{◌≡◌, ℕ, ◌<◌, ◌≤◌, ◌%◌, ◌^◌, true, false, ◌==◌, List, [], ◌∷◌, ◌++◌, length, take, map, filter, fold, sum, min, ◌-◌, All, if◌then◌else◌}
 use Rattle.std.specs.List.{flat_map, list_any}
-use Rattle.cf_row.specs.Row.{RowValue}
+use Rattle.cf_row.specs.Row.{Fits, RowValue}
 use Rattle.cf_fold.specs.Quads.{quad_of}
 use Rattle.cf_fold.specs.declared.trigger.Trigger.{Trigger}
 use Rattle.cf_shape.specs.Lanes.{ShapeValue, has_by, lane_at, selected_by, key_of, measure_of}
@@ -85,10 +85,10 @@ RowsAreSteps =
 abbrev pub shown_mark : Fired → Fired
 shown_mark mark = record { bucket = mark.bucket; key = mark.key; value = min mark.value (2 ^ 64 - 1) }
 
--- If the records of an aggregate that keeps no keys apart are in no more buckets than are kept, then its triggers' marks in the final
--- part are what they mean on all of them.
+-- If the records of an aggregate that keeps no keys apart fit the schema and are in no more buckets than are kept, then its triggers'
+-- marks in the final part are what they mean on all of them.
 abbrev pub WholeStreams : Type 0
 WholeStreams =
-    (shape : ShapeValue) (trigger : Trigger) (rows : List RowValue) → has_by (lane_at shape trigger.agg).key ≡ false
+    (shape : ShapeValue) (trigger : Trigger) (rows : List RowValue) → has_by (lane_at shape trigger.agg).key ≡ false → All (Fits shape.schema) rows
     → length (keys_in shape trigger.agg rows) ≤ most_kept
     → marks_on trigger true (kept_after shape trigger.agg rows).buckets ≡ map shown_mark (marks_over shape trigger rows)

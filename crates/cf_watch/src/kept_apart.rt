@@ -1,9 +1,9 @@
 // What is kept of an aggregate by key.
-ghost use Rattle.std.specs.Prelude.{◌≡◌, ℕ, ◌+◌, ◌<◌, ◌≤◌, ◌^◌, ◌&&◌, ◌↔◌, [], ◌∷◌, ◌++◌, length, false, slice_index_or, All, IsTrue, MatchOption, IfOk, OnOk, OnErr};
-ghost use Rattle.std.specs.List.{remove};
+ghost use Rattle.std.specs.Prelude.{◌≡◌, ℕ, ◌+◌, ◌-◌, ◌<◌, ◌≤◌, ◌^◌, ◌&&◌, ◌∷◌, ◌++◌, [], length, false, slice_index_or, All, MatchOption, IfOk, OnOk, OnErr};
+ghost use Rattle.std.specs.List.{position, remove};
 ghost use Rattle.cf_row.specs.Row.{Fits};
 ghost use Rattle.cf_shape.specs.Lanes.{key_of, selected_by};
-ghost use Rattle.cf_watch.specs.Pairs.{AreSeparate, IsApart, apart_by, begun_apart, forgotten_at, has_bucket, has_pair, most_apart, most_pairs, no_bucket, nothing_apart, pair_count as pair_count_of, placing, with_key, with_one_apart, with_row_apart, without};
+ghost use Rattle.cf_watch.specs.Pairs.{AreSeparate, IsApart, apart_by, begun_apart, forgotten_at, has_bucket, has_pair, is_elsewhere, most_pairs, no_bucket, nothing_apart, pair_count as pair_count_of, placing, with_key, with_one_apart, with_row_apart, without};
 ghost use Rattle.cf_watch.specs.PairMarks.{apart_forgets, apart_fresh, apart_marks, apart_telling, crowds_on, crowds_told, is_untold_at as is_untold_at_of};
 
 use crate::apart::Apart;
@@ -75,23 +75,52 @@ fn has(buckets: &[Apart], number: u64, key: u64) -> bool
     }
 }
 
+// The place of the first bucket of another number.
+fn place_of_other(buckets: &[Apart], number: u64) -> Option<usize>
+    ensures { result ≡ position (is_elsewhere number) buckets.now }
+{
+    buckets.iter().position(|apart| apart.number() != number)
+}
+
+// The place of the bucket that is forgotten when a record of the pair comes and there are as many pairs as may be.
+fn other(buckets: &[Apart], number: u64, key: u64) -> Option<usize>
+    requires separate { AreSeparate buckets.now }
+    requires full { most_pairs ≤ pair_count_of buckets.now }
+    ensures { result ≡ forgotten_at buckets.now number key }
+{
+    if has(buckets, number, key) {
+        None
+    } else {
+        place_of_other(buckets, number)
+    }
+}
+
 // The place of the bucket that is forgotten when a record of the pair comes. Mostly that is clear without a look at the keys.
 fn forgotten(buckets: &[Apart], number: u64, key: u64) -> Option<usize>
     requires separate { AreSeparate buckets.now }
     requires bounded { pair_count_of buckets.now ≤ most_pairs }
     ensures { result ≡ forgotten_at buckets.now number key }
 {
-    let is_full = pair_count(buckets) >= MOST_PAIRS;
-    if !is_full && (buckets.len() < MOST_APART || place_of(buckets, number).is_some()) {
+    if pair_count(buckets) >= MOST_PAIRS {
+        return other(buckets, number, key);
+    }
+    if buckets.len() < MOST_APART {
         return None;
     }
-    if has(buckets, number, key) {
-        return None;
+    match place_of(buckets, number) {
+        Some(_) => None,
+        None => Some(0),
     }
-    if is_full {
-        buckets.iter().position(|apart| apart.number() != number)
-    } else {
-        Some(0)
+}
+
+// The bucket that has to go for a record of the pair is forgotten.
+fn forget(buckets: &mut Vec<Apart>, number: u64, key: u64)
+    requires separate { AreSeparate buckets.old.items }
+    requires bounded { pair_count_of buckets.old.items ≤ most_pairs }
+    ensures { buckets.new.items ≡ without buckets.old.items (forgotten_at buckets.old.items number key) }
+{
+    if let Some(place) = forgotten(buckets, number, key) {
+        let _ = buckets.remove(place);
     }
 }
 
@@ -122,12 +151,10 @@ fn place_in(
     ensures err { OnErr result (buckets.new.items ≡ buckets.old.items) }
 {
     match place_of(buckets, number) {
-        Some(place) => take_at(buckets, place, key, value),
-        None => {
-            buckets.push(Apart::new(alloc, number, key, value)?)?;
-            Ok(())
-        }
+        Some(place) => take_at(buckets, place, key, value)?,
+        None => buckets.push(Apart::new(alloc, number, key, value)?)?,
     }
+    Ok(())
 }
 
 impl KeptApart {
@@ -156,15 +183,6 @@ impl KeptApart {
         self.sum
     }
 
-    // The bucket that has to go for a record of the pair is forgotten.
-    fn forget(&mut self, bucket: u64, key: u64)
-        ensures { self.new ≡ record self.old { buckets = without self.old.buckets (forgotten_at self.old.buckets bucket key) } }
-    {
-        if let Some(place) = forgotten(&self.buckets, bucket, key) {
-            let _ = self.buckets.remove(place);
-        }
-    }
-
     /// Takes a record that the aggregate's filter selects, by the number of its bucket, its key and what is measured of it. Without memory
     /// the totals are as they were, and a bucket may have been forgotten.
     pub fn take(&mut self, alloc: Global, bucket: u64, key: u64, value: u32) -> Result<(), Memory>
@@ -172,7 +190,7 @@ impl KeptApart {
         ensures ok { OnOk result (self.new ≡ with_one_apart self.old bucket key value) }
         ensures count { self.new.count ≤ self.old.count + 1 }
     {
-        self.forget(bucket, key);
+        forget(&mut self.buckets, bucket, key);
         place_in(alloc, &mut self.buckets, bucket, key, value)?;
         self.count += 1;
         self.sum = self.sum.wrapping_add(u64::from(value));

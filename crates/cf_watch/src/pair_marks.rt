@@ -29,8 +29,9 @@ fn put(
 ) -> Result<(), Memory>
     ensures { OnOk result (map pair_fired values.new.entries ≡ put_mark (map pair_fired values.old.entries) (pair_mark trigger.now bucket pair.now)) }
 {
-    let number = u128::from(bucket) * BASE + u128::from(pair.number());
-    values.insert(number, pair.mark(trigger).value)?;
+    let key = pair.number();
+    let mark = pair.mark(trigger);
+    values.insert(u128::from(bucket) * BASE + u128::from(key), mark.value)?;
     Ok(())
 }
 
