@@ -14,6 +14,7 @@ mod laws;
 mod marks;
 mod pair_marks;
 mod pairs;
+mod watched;
 
 use cf_plain::Fired;
 use cf_row::Memory;
@@ -25,6 +26,7 @@ pub use laws::{
 };
 use std::alloc::Global;
 use std::collections::BTreeSet;
+pub use watched::Watched;
 
 /// How many buckets are kept of an aggregate.
 pub const MOST_KEPT: usize = 4096;
