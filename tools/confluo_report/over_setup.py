@@ -8,8 +8,8 @@ from __future__ import annotations
 
 import operator
 from dataclasses import dataclass, field
-from itertools import accumulate
-from typing import Callable, Iterator, Mapping, TypeVar
+from itertools import accumulate, chain
+from typing import Callable, Iterator, Mapping, Tuple, TypeVar
 
 from .matching import must_match
 from .merge import joined_group, joined_quad
@@ -17,6 +17,8 @@ from .reports import Alert, Ask, Body, Fired, Found, Group, Groups, Pair, Quad, 
 from .setups import Question, Setup, Trigger, parse_setup
 
 FINDING = ("list", "find", "between")
+# A capture's place, and that of a piece in it.
+Key = Tuple[int, int]
 Joined = TypeVar("Joined", int, Group)
 # Below this no bucket with a record has a part of that kind.
 LEAST = {"count": 1, "sum": 0, "least": 0, "greatest": 0}
@@ -75,14 +77,14 @@ def _part_lines(setup: Setup, data: bytes, telling: set[str]) -> Iterator[str]:
 
 @dataclass
 class Sum:
-    """What reports of parts say together. Parts are known by their places; they may be added in any order.
+    """What reports of parts say together. Parts are known by their keys; they may be added in any order.
 
     `values` are of the triggers of parts by bucket, `groups` of the questions for a top or for groups by key or bucket.
     """
 
-    records: dict[int, int] = field(default_factory=dict)
-    cuts: dict[int, int] = field(default_factory=dict)
-    found: dict[str, dict[int, tuple[int, ...]]] = field(default_factory=dict)
+    records: dict[Key, int] = field(default_factory=dict)
+    cuts: dict[Key, int] = field(default_factory=dict)
+    found: dict[str, dict[Key, tuple[int, ...]]] = field(default_factory=dict)
     quads: dict[str, Quad] = field(default_factory=dict)
     values: dict[str, dict[int, int]] = field(default_factory=dict)
     groups: dict[str, dict[int, Group]] = field(default_factory=dict)
@@ -113,23 +115,23 @@ def _join(
         there[key] = join(there[key], value) if key in there else value
 
 
-def sum_of(plan: Plan, place: int, text: str, source: str) -> Sum:
+def sum_of(plan: Plan, part: Key, text: str, source: str) -> Sum:
     """What a part's report says; a Complaint where it is none."""
     report = parse_report(text, source)
     must_match(report, plan.part, source)
-    total = Sum({place: report.records})
+    total = Sum({part: report.records})
     if report.truncated is not None:
-        total.cuts[place] = report.truncated
+        total.cuts[part] = report.truncated
     for question, ask in zip(plan.part.asks, report.asks):
-        _take(total, place, question, ask.body)
+        _take(total, part, question, ask.body)
     for alert in report.alerts:
         total.values.setdefault(alert.trigger, {})[alert.bucket] = alert.value
     return total
 
 
-def _take(total: Sum, place: int, question: Question, body: Body) -> None:
+def _take(total: Sum, part: Key, question: Question, body: Body) -> None:
     if isinstance(body, Found):
-        total.found[question.name] = {place: body.rows} if body.rows else {}
+        total.found[question.name] = {part: body.rows} if body.rows else {}
     elif isinstance(body, Quad):
         total.quads[question.name] = body
     elif isinstance(body, Groups):
@@ -137,9 +139,9 @@ def _take(total: Sum, place: int, question: Question, body: Body) -> None:
 
 
 def report_of(plan: Plan, total: Sum) -> Report:
-    """The report over all parts in the order of their places; records are numbered through all of them."""
-    places = sorted(total.records)
-    starts = dict(zip(places, accumulate((total.records[it] for it in places), initial=0)))
+    """The report over all parts in the order of their keys; records are numbered through all of them."""
+    parts = sorted(total.records)
+    starts = dict(zip(parts, accumulate((total.records[it] for it in parts), initial=0)))
     marks = {it.name: _marks(plan, total, it) for it in plan.setup.triggers}
     asks = [Ask(it.name, _body(it, total, starts, marks)) for it in plan.setup.asks]
     alerts = [Alert(name, it.key, it.value) for name, its in marks.items() for it in its]
@@ -153,12 +155,13 @@ def _marks(plan: Plan, total: Sum, trigger: Trigger) -> tuple[Pair, ...]:
 
 
 def _body(
-    question: Question, total: Sum, starts: Mapping[int, int], marks: Mapping[str, tuple[Pair, ...]]
+    question: Question, total: Sum, starts: Mapping[Key, int], marks: Mapping[str, tuple[Pair, ...]]
 ) -> Body:
     name = question.name
     if question.kind in FINDING:
-        by_place = sorted(total.found[name].items())
-        return Found(question.kind, tuple(starts[place] + it for place, rows in by_place for it in rows))
+        by_part = sorted(total.found[name].items())
+        rows = (map(starts[part].__add__, its) for part, its in by_part)
+        return Found(question.kind, tuple(chain.from_iterable(rows)))
     if question.kind == "top":
         pairs = [Pair(it.key, getattr(it, question.part)) for it in total.groups[name].values()]
         ranked = sorted(pairs, key=lambda it: (-it.value, it.key))

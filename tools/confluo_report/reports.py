@@ -6,6 +6,8 @@ names the line and quotes it.
 
 from __future__ import annotations
 
+import itertools
+import operator
 import re
 from dataclasses import dataclass
 from typing import Callable, Iterator, Union
@@ -245,7 +247,8 @@ FORMS = {
 QUAD = re.compile(
     rf"(measure|total) count ({NUMBER}) sum ({NUMBER}) least ({NUMBER}|-) greatest ({NUMBER}|-)"
 )
-LISTED = re.compile(rf"(list|find|between) ({NUMBER}):((?: {NUMBER})*)")
+LISTED = re.compile(rf"(list|find|between) ({NUMBER}):([0-9 ]*)")
+LEADING_ZERO = re.compile(" 0[0-9]")
 PAIRED = re.compile(rf"(fired|top) ({NUMBER}):((?: {NUMBER}={NUMBER})*)")
 GROUPED = re.compile(rf"groups ({NUMBER}):((?: {NUMBER}=[1-9][0-9]*(?:/{NUMBER}){{3}})*)")
 
@@ -289,7 +292,7 @@ class _Lines:
 
     def word(self) -> str:
         """The first word of the next line, or nothing at the end."""
-        return self.lines[self.at].split(" ")[0] if self.at < len(self.lines) else ""
+        return self.lines[self.at].partition(" ")[0] if self.at < len(self.lines) else ""
 
     def take(self, word: str) -> tuple[str, ...]:
         """The parts of the next line, which begins with that word."""
@@ -341,8 +344,9 @@ def _body(lines: _Lines, text: str, most: int, ascending: bool, least: int = 0) 
     """An answer whose line was just taken, over the records from `least` up to `most`."""
     if found := QUAD.fullmatch(text):
         return _quad(lines, found.groups())
-    if found := LISTED.fullmatch(text):
-        rows = tuple(map(int, found[3].split()))
+    found = LISTED.fullmatch(text)
+    rows = _numbers(found[3]) if found else None
+    if found and rows is not None:
         _must_count(lines, int(found[2]), len(rows))
         _must_be_rows(lines, rows, (least, most), ascending)
         return Found(found[1], rows)
@@ -364,6 +368,14 @@ def _body(lines: _Lines, text: str, most: int, ascending: bool, least: int = 0) 
     raise AssertionError
 
 
+def _numbers(text: str) -> tuple[int, ...] | None:
+    """The numbers, which may be millions, of a text of spaces and digits: each has one space before it, and no zero in front."""
+    first, *words = text.split(" ")
+    if first or "" in words or LEADING_ZERO.search(text):
+        return None
+    return tuple(map(int, words))
+
+
 def _quad(lines: _Lines, parts: tuple[str, ...]) -> Quad:
     kind, count, total, least, greatest = parts
     if (count == "0") != (least == "-") or (least == "-") != (greatest == "-"):
@@ -378,12 +390,13 @@ def _must_count(lines: _Lines, stated: int, there: int) -> None:
 
 
 def _must_be_rows(lines: _Lines, rows: tuple[int, ...], ends: tuple[int, int], ascending: bool) -> None:
+    # (there may be millions)
     least, most = ends
-    if any(not least <= row < most for row in rows):
+    if rows and not (least <= min(rows) and max(rows) < most):
         lines.fail(f"numbers of records {f'from {least} and ' if least else ''}below {most}", back=1)
-    if ascending and any(low >= high for low, high in zip(rows, rows[1:])):
+    if ascending and not all(map(operator.lt, rows, itertools.islice(rows, 1, None))):
         lines.fail("numbers of records in ascending order", back=1)
-    if len(set(rows)) != len(rows):
+    if not ascending and len(set(rows)) != len(rows):
         lines.fail("each record once", back=1)
 
 
@@ -417,12 +430,14 @@ def _asks(lines: _Lines, most: int, least: int = 0) -> tuple[Ask, ...]:
 
 def _alerts(lines: _Lines) -> tuple[Alert, ...]:
     alerts: list[Alert] = []
+    names: set[str] = set()
     while lines.word() == "alert":
         name, bucket, value = lines.take("alert")
         alert = Alert(name, int(bucket), int(value))
-        before = [it for it in alerts if it.trigger == name]
-        if before and (alerts[-1].trigger != name or before[-1].bucket >= alert.bucket):
+        last = alerts[-1] if alerts and alerts[-1].trigger == name else None
+        if last and last.bucket >= alert.bucket or not last and name in names:
             lines.fail("the alerts of a trigger together, by ascending buckets", back=1)
+        names.add(name)
         alerts.append(alert)
     return tuple(alerts)
 
@@ -650,8 +665,9 @@ def body_text(body: Body) -> str:
         ends = ["-" if it is None else str(it) for it in (body.least, body.greatest)]
         return f"{body.kind} count {body.count} sum {body.sum} least {ends[0]} greatest {ends[1]}"
     if isinstance(body, Found):
-        words = list(map(str, body.rows))
-    elif isinstance(body, Groups):
+        # (in half the time of joined words)
+        return f"{body.kind} {len(body.rows)}:" + " %d" * len(body.rows) % body.rows
+    if isinstance(body, Groups):
         words = [f"{it.key}={it.count}/{it.sum}/{it.least}/{it.greatest}" for it in body.groups]
     else:
         pairs = body.marks if isinstance(body, Fired) else body.keys
