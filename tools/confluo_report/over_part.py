@@ -26,6 +26,8 @@ Piece = Tuple[str, int, Optional[int], bytes]
 # The bytes that a pipe holds, and that the kernel takes at once.
 PIPE = 2**20
 MOST_SENT = 2**30
+# Parts are short, and much of their time is for new pages of memory: large ones are fewer.
+LARGE_PAGES = {"GLIBC_TUNABLES": "glibc.malloc.hugetlb=1"}
 
 
 @dataclass(frozen=True)
@@ -53,7 +55,8 @@ class Running:
         with self.lock:
             if self.is_over:
                 raise Stopped
-            process = subprocess.Popen(list(map(os.fsencode, words)), **streams)
+            environment = {**LARGE_PAGES, **os.environ}
+            process = subprocess.Popen(list(map(os.fsencode, words)), env=environment, **streams)
             self.held.append(process)
             return process
 
