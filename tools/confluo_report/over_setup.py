@@ -1,7 +1,7 @@
 """The setup that each part of a question over many captures runs, and how its reports are added up.
 
-A trigger's threshold is for the sum, so a part tells the value of every bucket. In place of a tally's first keys
-a part tells all its groups.
+A trigger's threshold is for the sum, so a part tells the value of every bucket, or of every bucket and key. In place of a tally's
+first keys a part tells all its groups.
 """
 
 from __future__ import annotations
@@ -13,7 +13,21 @@ from typing import Callable, Iterator, Mapping, Tuple, TypeVar
 
 from .matching import must_match
 from .merge import joined_group, joined_quad
-from .reports import Alert, Ask, Body, Fired, Found, Group, Groups, Pair, Quad, Report, Top, parse_report
+from .reports import (
+    Alert,
+    Ask,
+    Body,
+    Fired,
+    Found,
+    Group,
+    Groups,
+    Pair,
+    Place,
+    Quad,
+    Report,
+    Top,
+    parse_report,
+)
 from .setups import Question, Setup, Trigger, parse_setup
 
 FINDING = ("list", "find", "between")
@@ -79,15 +93,16 @@ def _part_lines(setup: Setup, data: bytes, telling: set[str]) -> Iterator[str]:
 class Sum:
     """What reports of parts say together. Parts are known by their keys; they may be added in any order.
 
-    `values` are of the triggers of parts by bucket, `groups` of the questions for a top or for groups by key or bucket.
+    `values` are of the triggers of parts by bucket, or by bucket and key; `groups` so of the questions for groups, and by key
+    of those for a top.
     """
 
     records: dict[Key, int] = field(default_factory=dict)
     cuts: dict[Key, int] = field(default_factory=dict)
     found: dict[str, dict[Key, tuple[int, ...]]] = field(default_factory=dict)
     quads: dict[str, Quad] = field(default_factory=dict)
-    values: dict[str, dict[int, int]] = field(default_factory=dict)
-    groups: dict[str, dict[int, Group]] = field(default_factory=dict)
+    values: dict[str, dict[Place, int]] = field(default_factory=dict)
+    groups: dict[str, dict[Place, Group]] = field(default_factory=dict)
 
     def add(self, other: Sum, plan: Plan) -> None:
         """Adds the other one to this, which takes the time of the other alone."""
@@ -105,8 +120,8 @@ class Sum:
 
 
 def _join(
-    ours: dict[str, dict[int, Joined]],
-    theirs: Mapping[str, Mapping[int, Joined]],
+    ours: dict[str, dict[Place, Joined]],
+    theirs: Mapping[str, Mapping[Place, Joined]],
     name: str,
     join: Callable[[Joined, Joined], Joined],
 ) -> None:
@@ -125,7 +140,7 @@ def sum_of(plan: Plan, part: Key, text: str, source: str) -> Sum:
     for question, ask in zip(plan.part.asks, report.asks):
         _take(total, part, question, ask.body)
     for alert in report.alerts:
-        total.values.setdefault(alert.trigger, {})[alert.bucket] = alert.value
+        total.values.setdefault(alert.trigger, {})[alert.place] = alert.value
     return total
 
 
@@ -135,7 +150,7 @@ def _take(total: Sum, part: Key, question: Question, body: Body) -> None:
     elif isinstance(body, Quad):
         total.quads[question.name] = body
     elif isinstance(body, Groups):
-        total.groups[question.name] = {it.key: it for it in body.groups}
+        total.groups[question.name] = {it.place: it for it in body.groups}
 
 
 def report_of(plan: Plan, total: Sum) -> Report:
@@ -144,14 +159,15 @@ def report_of(plan: Plan, total: Sum) -> Report:
     starts = dict(zip(parts, accumulate((total.records[it] for it in parts), initial=0)))
     marks = {it.name: _marks(plan, total, it) for it in plan.setup.triggers}
     asks = [Ask(it.name, _body(it, total, starts, marks)) for it in plan.setup.asks]
-    alerts = [Alert(name, it.key, it.value) for name, its in marks.items() for it in its]
+    alerts = [Alert(name, it.key, it.value, it.by) for name, its in marks.items() for it in its]
     return Report(sum(total.records.values()), tuple(asks), tuple(alerts))
 
 
 def _marks(plan: Plan, total: Sum, trigger: Trigger) -> tuple[Pair, ...]:
     values = total.values.get(plan.told_by[trigger.name], {})
     holds = HOLDS[trigger.operator]
-    return tuple(Pair(*it) for it in sorted(values.items()) if holds(it[1], trigger.number))
+    meant = sorted(it for it in values.items() if holds(it[1], trigger.number))
+    return tuple(Pair(place[0], value, *place[1:]) for place, value in meant)
 
 
 def _body(

@@ -10,12 +10,14 @@ import itertools
 import operator
 import re
 from dataclasses import dataclass
-from typing import Callable, Iterator, Union
+from typing import Callable, Iterator, Sequence, Tuple, Union
 
 from .errors import Complaint
 
 NUMBER = r"(?:0|[1-9][0-9]*)"
 NAME = r"[a-z][a-z0-9_]{0,31}"
+# A bucket, or a bucket and the key beside it.
+PLACE = rf"{NUMBER}(?:/{NUMBER})?"
 FOUND = ("list", "find", "between")
 QUADS = ("measure", "total")
 
@@ -39,12 +41,31 @@ class Quad:
     greatest: int | None
 
 
+# A bucket or a key, or a bucket and the key beside it.
+Place = Union[Tuple[int], Tuple[int, int]]
+
+
+def place_of(bucket: int, by: int | None) -> Place:
+    """Both where there are both."""
+    return (bucket,) if by is None else (bucket, by)
+
+
+def place_text(bucket: int, by: int | None) -> str:
+    """The same as confluo prints it."""
+    return "/".join(map(str, place_of(bucket, by)))
+
+
 @dataclass(frozen=True)
 class Pair:
-    """A bucket with its value, or a key with its part."""
+    """A bucket with its value, or a key with its part. `by` is the key beside the bucket where an aggregate goes by keys too."""
 
     key: int
     value: int
+    by: int | None = None
+
+    @property
+    def place(self) -> Place:
+        return place_of(self.key, self.by)
 
 
 @dataclass(frozen=True)
@@ -72,11 +93,16 @@ class Group:
     sum: int
     least: int
     greatest: int
+    by: int | None = None
+
+    @property
+    def place(self) -> Place:
+        return place_of(self.key, self.by)
 
 
 @dataclass(frozen=True)
 class Groups:
-    """All groups of an aggregate, by ascending bucket, or of a tally, by ascending key."""
+    """All groups of an aggregate, by ascending bucket and the key beside it, or of a tally, by ascending key."""
 
     groups: tuple[Group, ...]
     kind: str = "groups"
@@ -95,11 +121,16 @@ class Ask:
 
 @dataclass(frozen=True)
 class Alert:
-    """A bucket in which a trigger fires, with the value."""
+    """A bucket in which a trigger fires, with the value, and the key beside it where the aggregate goes by keys too."""
 
     trigger: str
     bucket: int
     value: int
+    by: int | None = None
+
+    @property
+    def place(self) -> Place:
+        return place_of(self.bucket, self.by)
 
 
 @dataclass(frozen=True)
@@ -131,6 +162,20 @@ class RoundAlert:
     bucket: int
     value: int
     prefix: int
+    by: int | None = None
+
+    @property
+    def place(self) -> Place:
+        return place_of(self.bucket, self.by)
+
+
+@dataclass(frozen=True)
+class RoundCrowded:
+    """A bucket that has as many keys as `watch` keeps: records of others count for totals alone. `prefix` is as in an alert."""
+
+    name: str
+    bucket: int
+    prefix: int
 
 
 @dataclass(frozen=True)
@@ -161,7 +206,7 @@ class RoundTotal:
     prefix: int
 
 
-Told = Union[RoundAlert, RoundLive, RoundBeat, RoundTotal]
+Told = Union[RoundAlert, RoundCrowded, RoundLive, RoundBeat, RoundTotal]
 
 
 @dataclass(frozen=True)
@@ -230,7 +275,7 @@ REFUSALS_OF_ONE = (
 FORMS = {
     "records": re.compile(rf"records ({NUMBER})"),
     "ask": re.compile(rf"ask ({NAME}) (.*)"),
-    "alert": re.compile(rf"alert ({NAME}) ({NUMBER}) ({NUMBER})"),
+    "alert": re.compile(rf"alert ({NAME}) ({PLACE}) ({NUMBER})"),
     "live": re.compile(rf"live ({NAME}) @({NUMBER}) (.*)"),
     "new": re.compile(rf"new ({NAME}) @({NUMBER}) (.*)"),
     "order": re.compile(rf"order((?: {NUMBER}\*{NUMBER})*)"),
@@ -239,7 +284,8 @@ FORMS = {
     "truncated:": re.compile(rf"truncated: record ({NUMBER})"),
     "truncated: capture": re.compile(rf"truncated: capture ({NUMBER}) record ({NUMBER})"),
     "window": re.compile(rf"window ({NUMBER})"),
-    "round alert": re.compile(rf"alert ({NAME}) ({NUMBER}) ({NUMBER}) @({NUMBER})"),
+    "round alert": re.compile(rf"alert ({NAME}) ({PLACE}) ({NUMBER}) @({NUMBER})"),
+    "crowded": re.compile(rf"crowded ({NAME}) ({NUMBER}) @({NUMBER})"),
     "round live": re.compile(rf"live ({NAME}) @({NUMBER})\.\.({NUMBER}) (.*)"),
     "at": re.compile(rf"at ({NUMBER}) ({NUMBER})"),
     "total": re.compile(rf"total ({NAME}) count ({NUMBER}) sum ({NUMBER})"),
@@ -249,11 +295,13 @@ QUAD = re.compile(
 )
 LISTED = re.compile(rf"(list|find|between) ({NUMBER}):([0-9 ]*)")
 LEADING_ZERO = re.compile(" 0[0-9]")
-PAIRED = re.compile(rf"(fired|top) ({NUMBER}):((?: {NUMBER}={NUMBER})*)")
-GROUPED = re.compile(rf"groups ({NUMBER}):((?: {NUMBER}=[1-9][0-9]*(?:/{NUMBER}){{3}})*)")
+PAIRED = re.compile(
+    rf"(fired) ({NUMBER}):((?: {PLACE}={NUMBER})*)|(top) ({NUMBER}):((?: {NUMBER}={NUMBER})*)"
+)
+GROUPED = re.compile(rf"groups ({NUMBER}):((?: {PLACE}=[1-9][0-9]*(?:/{NUMBER}){{3}})*)")
 
 
-TOLD = ("alert", "live", "at", "total")
+TOLD = ("alert", "crowded", "live", "at", "total")
 
 
 def is_told(line: str) -> bool:
@@ -324,7 +372,7 @@ def _shown_form(word: str) -> str:
     return {
         "records": "`records K`",
         "ask": "`ask NAME KIND ..`",
-        "alert": "`alert TRIGGER BUCKET VALUE`",
+        "alert": "`alert TRIGGER BUCKET VALUE` or `alert TRIGGER BUCKET/KEY VALUE`",
         "live": "`live NAME @T ..`",
         "new": "`new NAME @T fired K: ..`",
         "order": "`order W*K ..`",
@@ -333,7 +381,8 @@ def _shown_form(word: str) -> str:
         "truncated:": "`truncated: record K`",
         "truncated: capture": "`truncated: capture F record K`",
         "window": "`window F`",
-        "round alert": "`alert TRIGGER BUCKET VALUE @T`",
+        "round alert": "`alert TRIGGER BUCKET VALUE @T` or `alert TRIGGER BUCKET/KEY VALUE @T`",
+        "crowded": "`crowded NAME BUCKET @T`",
         "round live": "`live NAME @F..T ..`",
         "at": "`at T S`",
         "total": "`total NAME count C sum U`",
@@ -351,12 +400,13 @@ def _body(lines: _Lines, text: str, most: int, ascending: bool, least: int = 0) 
         _must_be_rows(lines, rows, (least, most), ascending)
         return Found(found[1], rows)
     if found := PAIRED.fullmatch(text):
-        pairs = tuple(Pair(*map(int, it.split("="))) for it in found[3].split())
-        _must_count(lines, int(found[2]), len(pairs))
-        _must_be_in_order(lines, found[1], pairs)
-        return Fired(pairs) if found[1] == "fired" else Top(pairs)
+        kind, count, its = (it for it in found.groups() if it is not None)
+        pairs = tuple(map(_pair, its.split()))
+        _must_count(lines, int(count), len(pairs))
+        _must_be_in_order(lines, kind, pairs)
+        return Fired(pairs) if kind == "fired" else Top(pairs)
     if found := GROUPED.fullmatch(text):
-        groups = tuple(Group(*map(int, re.split("[=/]", it))) for it in found[2].split())
+        groups = tuple(map(_group, found[2].split()))
         _must_count(lines, int(found[1]), len(groups))
         _must_be_groups(lines, groups)
         return Groups(groups)
@@ -374,6 +424,24 @@ def _numbers(text: str) -> tuple[int, ...] | None:
     if first or "" in words or LEADING_ZERO.search(text):
         return None
     return tuple(map(int, words))
+
+
+def _both(text: str) -> tuple[int, int | None]:
+    """A bucket, and the key beside it if there is one."""
+    bucket, has_key, key = text.partition("/")
+    return int(bucket), int(key) if has_key else None
+
+
+def _pair(text: str) -> Pair:
+    place, _, value = text.partition("=")
+    key, by = _both(place)
+    return Pair(key, int(value), by)
+
+
+def _group(text: str) -> Group:
+    place, _, quad = text.partition("=")
+    key, by = _both(place)
+    return Group(key, *map(int, quad.split("/")), by=by)
 
 
 def _quad(lines: _Lines, parts: tuple[str, ...]) -> Quad:
@@ -402,18 +470,22 @@ def _must_be_rows(lines: _Lines, rows: tuple[int, ...], ends: tuple[int, int], a
 
 def _must_be_in_order(lines: _Lines, kind: str, pairs: tuple[Pair, ...]) -> None:
     if kind == "fired":
-        places = [(it.key, 0) for it in pairs]
-        wanted = "buckets in ascending order"
-    else:
-        places = [(-it.value, it.key) for it in pairs]
-        wanted = "the greater part first, and of equal parts the lower key"
+        _must_ascend(lines, "buckets", [it.place for it in pairs])
+        return
+    places = [(-it.value, it.key) for it in pairs]
     if any(low >= high for low, high in zip(places, places[1:])):
-        lines.fail(wanted, back=1)
+        lines.fail("the greater part first, and of equal parts the lower key", back=1)
+
+
+def _must_ascend(lines: _Lines, things: str, places: Sequence[Place]) -> None:
+    if len(set(map(len, places))) > 1:
+        lines.fail("a key beside each bucket or beside none", back=1)
+    if not all(map(operator.lt, places, itertools.islice(places, 1, None))):
+        lines.fail(f"{things} in ascending order", back=1)
 
 
 def _must_be_groups(lines: _Lines, groups: tuple[Group, ...]) -> None:
-    if any(low.key >= high.key for low, high in zip(groups, groups[1:])):
-        lines.fail("buckets or keys in ascending order", back=1)
+    _must_ascend(lines, "buckets or keys", [it.place for it in groups])
     if any(not it.least * it.count <= it.sum <= it.greatest * it.count for it in groups):
         lines.fail("sums of so many numbers, from the least to the greatest", back=1)
 
@@ -432,10 +504,13 @@ def _alerts(lines: _Lines) -> tuple[Alert, ...]:
     alerts: list[Alert] = []
     names: set[str] = set()
     while lines.word() == "alert":
-        name, bucket, value = lines.take("alert")
-        alert = Alert(name, int(bucket), int(value))
+        name, place, value = lines.take("alert")
+        bucket, by = _both(place)
+        alert = Alert(name, bucket, int(value), by)
         last = alerts[-1] if alerts and alerts[-1].trigger == name else None
-        if last and last.bucket >= alert.bucket or not last and name in names:
+        if last and (last.by is None) != (by is None):
+            lines.fail("a key beside each bucket of a trigger or beside none", back=1)
+        if last and last.place >= alert.place or not last and name in names:
             lines.fail("the alerts of a trigger together, by ascending buckets", back=1)
         names.add(name)
         alerts.append(alert)
@@ -525,9 +600,14 @@ class Rounds:
         if word == "at":
             return self._beat(lines)
         if word == "alert":
-            name, bucket, value, prefix = lines.take("round alert")
+            name, place, value, prefix = lines.take("round alert")
             self._move(lines, self.first, int(prefix))
-            return RoundAlert(name, int(bucket), int(value), self.prefix)
+            bucket, by = _both(place)
+            return RoundAlert(name, bucket, int(value), self.prefix, by)
+        if word == "crowded":
+            name, place, prefix = lines.take("crowded")
+            self._move(lines, self.first, int(prefix))
+            return RoundCrowded(name, int(place), self.prefix)
         name, first, prefix, text = lines.take("round live")
         self._move(lines, int(first), int(prefix))
         return RoundLive(name, self.first, self.prefix, _body(lines, text, self.prefix, True, self.first))
@@ -668,17 +748,25 @@ def body_text(body: Body) -> str:
         # (in half the time of joined words)
         return f"{body.kind} {len(body.rows)}:" + " %d" * len(body.rows) % body.rows
     if isinstance(body, Groups):
-        words = [f"{it.key}={it.count}/{it.sum}/{it.least}/{it.greatest}" for it in body.groups]
+        quads = [f"{it.count}/{it.sum}/{it.least}/{it.greatest}" for it in body.groups]
+        words = [f"{place_text(it.key, it.by)}={quad}" for it, quad in zip(body.groups, quads)]
     else:
         pairs = body.marks if isinstance(body, Fired) else body.keys
-        words = [f"{it.key}={it.value}" for it in pairs]
+        words = [f"{place_text(it.key, it.by)}={it.value}" for it in pairs]
     return " ".join([f"{body.kind} {len(words)}:", *words])
+
+
+def alert_text(it: Alert) -> str:
+    """The line of an alert as confluo prints it."""
+    return f"alert {it.trigger} {place_text(it.bucket, it.by)} {it.value}"
 
 
 def told_text(it: Told) -> str:
     """The line of a round as `watch` writes it."""
     if isinstance(it, RoundAlert):
-        return f"alert {it.trigger} {it.bucket} {it.value} @{it.prefix}"
+        return f"alert {it.trigger} {place_text(it.bucket, it.by)} {it.value} @{it.prefix}"
+    if isinstance(it, RoundCrowded):
+        return f"crowded {it.name} {it.bucket} @{it.prefix}"
     if isinstance(it, RoundBeat):
         return f"at {it.prefix} {it.seconds}"
     if isinstance(it, RoundTotal):
@@ -700,7 +788,7 @@ def lines_of(read: Report | Snapshot) -> Iterator[str]:
     if read.window is not None:
         yield f"window {read.window}"
     yield from (f"ask {it.name} {body_text(it.body)}" for it in read.asks)
-    yield from (f"alert {it.trigger} {it.bucket} {it.value}" for it in read.alerts)
+    yield from map(alert_text, read.alerts)
     for live in read.lives:
         yield f"live {live.name} @{live.prefix} {body_text(live.body)}"
         if live.new is not None:
