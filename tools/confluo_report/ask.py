@@ -466,7 +466,14 @@ def _pair_asker_of(job: Job, query: Query, files: Files) -> PairAsker:
         bodies = [it.body for it in merged.asks if isinstance(it.body, Groups)]
         return [{it.key: it for it in body.groups} for body in bodies]
 
-    return PairAsker(groups, lambda expression, names: _listed(job, expression, names, files))
+    def timed(expression: str) -> Sequence[Group]:
+        lines = [f"schema {job.schema}", f"width {query.width}", f"filter f {expression}"]
+        lines += [f"aggregate a f {query.measure} by {query.second}", "ask q groups a"]
+        text = "\n".join(lines) + "\n"
+        body = merge(_reports(job, text, *files), valid(text)).asks[0].body
+        return body.groups if isinstance(body, Groups) else ()
+
+    return PairAsker(groups, timed, lambda expression, names: _listed(job, expression, names, files))
 
 
 def again_of(job: Job, query: Query, again: Sequence[Again], files: Files) -> list[Answer]:

@@ -6,6 +6,8 @@ is at most their greatest), and a value is seen with no more different others th
 the rest can be left out once as many rows are known as are wanted that all come before any that the rest could have. Where one of both
 has few values, all of them are asked.
 
+Time buckets with an attribute beside them are all told by one answer, of an aggregate by keys.
+
 Sometimes too many would have to be asked. And `src` and `dst` are addresses of both families, of which the program has those of IPv6 as
 halves. Then the packets are listed, read from the capture and added up. So each answer is exact, and some take longer.
 """
@@ -23,7 +25,7 @@ from .reports import Group
 from .setups import MOST, PACKETS, PARTS, Setup
 from .show import Viewer, part_text
 from .tables import marks, table
-from .values import address_text, grouped, value_text
+from .values import address_text, clock, grouped, unit, utc, value_text
 
 MOST_RUNS = 4
 BOTH, WHOLE = ("src", "dst"), ("src6", "dst6")
@@ -43,6 +45,8 @@ class Asker:
     """Asks the program: `groups` for all values of attributes within expressions, at most 16 at once; `listed` for those of each packet."""
 
     groups: Callable[[Sequence[tuple[str, str]]], list[Mapping[int, Group]]]
+    # Of time buckets and the second attribute.
+    timed: Callable[[str], Sequence[Group]]
     listed: Callable[[str, Sequence[str]], Iterator[tuple[int, ...]]]
 
 
@@ -159,13 +163,15 @@ class _Search:
 
 def _listed(query: Query, expression: str, asker: Asker) -> Known:
     """All pairs of the packets that the expression selects."""
-    sides = (query.key, query.second)
+    sides = ("ts" if query.is_timed_pair else query.key, query.second)
     names = [it for side in sides for it in _names(side)]
     wanted = list(dict.fromkeys([*names, "kind", "etype", query.measure]))
     known: Known = {}
     for values in asker.listed(expression, wanted):
         named = dict(zip(wanted, values))
         first, second = (_cell(side, named) for side in sides)
+        if query.is_timed_pair:
+            first = 4, named["ts"] // query.width
         value = named[query.measure]
         _add(known, (first, second), (1, value, value, value))
     return known
@@ -195,6 +201,8 @@ def doubled(query: Query, asker: Asker) -> Doubled:
     if any(it in WHOLE for it in keys):
         known = _listed(query, _form(query, IPV6), asker)
         return _answer(query, known, True)
+    if query.is_timed_pair:
+        return _answer(query, _timed(query, asker), True)
     narrower, others = "", dict[Pair, Quad]()
     try:
         if any(it in BOTH for it in keys):
@@ -207,7 +215,24 @@ def doubled(query: Query, asker: Asker) -> Doubled:
     return _answer(query, _listed(query, query.expression, asker), True)
 
 
+def _timed(query: Query, asker: Asker) -> Known:
+    """All time buckets with values beside them."""
+    try:
+        is_of_both = query.second in BOTH
+        known = _listed(query, _form(query, OTHERS), asker) if is_of_both else dict[Pair, Quad]()
+        groups = asker.timed(_form(query, NO_IPV6) if is_of_both else query.expression)
+    except TooLong:
+        return _listed(query, query.expression, asker)
+    for it in groups:
+        assert it.by is not None
+        known[(4, it.key), (4, it.by)] = (it.count, it.sum, it.least, it.greatest)
+    return known
+
+
 def _answer(query: Query, known: Known, is_all: bool) -> Doubled:
+    if query.verb == "over":
+        rows = [it for it in _rows(query, known) if query.fires(it.value)]
+        return Doubled(tuple(sorted(rows, key=lambda it: it.cells)), True)
     best = _best(query, known)
     return Doubled(tuple(best), is_all and len(best) == len(_rows(query, known)))
 
@@ -225,8 +250,11 @@ def cell_text(setup: Setup, key: str, cell: Cell) -> str:
     return value_text(setup, setup.schema[place], number) if place is not None else str(number)
 
 
-def texts_of(setup: Setup, query: Query, row: Row) -> list[str]:
+def texts_of(setup: Setup, query: Query, row: Row, time: Callable[[int], str] = clock) -> list[str]:
     """The cells of a row."""
+    if query.is_timed_pair:
+        (_, bucket), *others = row.cells
+        return [time(bucket * query.width), *(cell_text(setup, query.second, it) for it in others)]
     return [cell_text(setup, key, cell) for key, cell in zip((query.key, query.second), row.cells)]
 
 
@@ -236,7 +264,8 @@ def doubled_lines(viewer: Viewer, name: str, query: Query, answer: Doubled) -> l
     question = setup.question(name) if setup else None
     assert setup and question and question.lane
     is_different = query.part == "different"
-    noted = marks([it.value for it in answer.rows], answer.is_all, answer.is_all)
+    is_all = answer.is_all and query.verb != "over"
+    noted = marks([it.value for it in answer.rows], is_all, is_all)
     rows = []
     for place, (it, note) in enumerate(zip(answer.rows, noted), 1):
         numbers = [grouped(it.value), *[grouped(it.packets)] * is_different]
@@ -247,14 +276,18 @@ def doubled_lines(viewer: Viewer, name: str, query: Query, answer: Doubled) -> l
         heads = [f"different {query.second}", "SYNs" if query.verb == "scans" else viewer.things]
     else:
         heads = [query.second, part_text(setup, query.part, question.lane)]
-    return table(["", query.key, *heads, ""], rows, viewer.style, "rlrr" if is_different else "rllr")
+    first = f"{unit(query.width)} (UTC)" if query.is_timed_pair else query.key
+    if query.verb == "over":
+        # (by time, so no place is one)
+        return table([first, *heads], [row[1:-1] for row in rows], viewer.style, "llr")
+    return table(["", first, *heads, ""], rows, viewer.style, "rlrr" if is_different else "rllr")
 
 
 def doubled_object(setup: Setup, query: Query, answer: Doubled) -> dict[str, object]:
     """The members of the answer for programs."""
     keys: list[dict[str, object]] = []
     for it in answer.rows:
-        texts = texts_of(setup, query, it)
+        texts = texts_of(setup, query, it, utc)
         more = {"packets": it.packets} if query.part == "different" else {"texts": texts}
         keys.append({"text": ", ".join(texts), "value": it.value, **more})
     return {"kind": query.verb, "keys": keys, "all": answer.is_all}

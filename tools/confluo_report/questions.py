@@ -16,6 +16,7 @@
     total ATTRIBUTE                   number, sum, least, greatest
     per UNIT MEASURE                  each second, minute, ..
     over N [MEASURE] in a UNIT        the units with more; under N ..: with less
+    over N [MEASURE] in a UNIT by KEY the same of each value, as who sends too much
 
     All but list, find and count may end with: where CONDITION
 
@@ -26,7 +27,7 @@
     RANGE       60..99, 10.0.0.0/8, 2001:db8::/32
     ATTRIBUTE   len, dport, ..; src and dst are addresses of IPv4 and IPv6,
                 src6 and dst6 those of IPv6, src6/64 and dst6/64 its networks
-    KEY         an attribute, but not flow, dmac and smac
+    KEY         an attribute but flow, dmac, smac; the first may be a UNIT
     MEASURE     bytes, packets, an attribute (its sum), least ttl, greatest win
     UNIT        second, minute, hour, millisecond, ..; but for top: 10 seconds
     TIME        2026-11-28T13:00:05, in UTC, or seconds since 1970
@@ -123,9 +124,11 @@ FORMS = {
         "per second bytes where dport==443",
     ),
     "over": (
-        re.compile(rf"(?:over|under) (?P<number>[0-9]+)(?: {MEASURE})? (?:in|per) {UNIT}{WHERE}"),
-        "over N [MEASURE] in a UNIT [where CONDITION]",
-        "over 1000 in a second where dport==443",
+        re.compile(
+            rf"(?:over|under) (?P<number>[0-9]+)(?: {MEASURE})? (?:in|per) {UNIT}(?: by (?P<second>{WORD}))?{WHERE}"
+        ),
+        "over N [MEASURE] in a UNIT [by KEY] [where CONDITION]",
+        "over 100 packets in a second by src where dport==443",
     ),
 }
 FORMS["under"] = FORMS["over"]
@@ -140,7 +143,7 @@ class Query:
     condition: str = "*"
     expression: str = "*"
     key: str = ""
-    # The attribute beside it, of pairs or of different values.
+    # The attribute beside it, or beside a unit of time, of pairs or of different values.
     second: str = ""
     # The key is an address of IPv6, of which the program's `key` is the high half.
     is_whole: bool = False
@@ -157,17 +160,22 @@ class Query:
     @property
     def is_timed(self) -> bool:
         """Whether it goes by time buckets and their width."""
-        return self.is_of_buckets or self.verb == "between"
+        return self.is_of_buckets or self.verb == "between" or self.is_timed_pair
+
+    @property
+    def is_timed_pair(self) -> bool:
+        """Whether it goes by time buckets and the values of an attribute."""
+        return bool(self.width and self.second)
 
     @property
     def is_of_buckets(self) -> bool:
         """Whether its answer is a list of time buckets."""
-        return self.verb in ("per", "over", "under") or self.is_peak
+        return not self.second and (self.verb in ("per", "over", "under") or self.is_peak)
 
     @property
     def is_peak(self) -> bool:
         """Whether it is `top` of time buckets."""
-        return self.verb == "top" and bool(self.width)
+        return self.verb == "top" and bool(self.width) and not self.second
 
     @property
     def bound(self) -> str:
@@ -305,8 +313,15 @@ def _of_two(query: Query, second: str, schema: Sequence[Attribute]) -> Query:
         raise Complaint(f"`{query.text}`: two attributes are counted together under `schema packet6` alone")
     if query.verb == "scans":
         return replace(query, key="src", second="dport", expression=narrowed(query, SYN))
+    if query.verb == "under":
+        raise Complaint(
+            f"`{query.text}`: what has no packet has less too, and is in no list: ask with `over`"
+        )
     numbers = [it.name for it in schema if it.is_number and it.name != "flow"]
-    for it in (query.key, second):
+    if unit_of(second) and query.verb == "top" and " by different " not in query.text:
+        query, second = replace(query, key=second), query.key
+    width = unit_of(query.key)
+    for it in (second,) if width or query.verb == "over" else (query.key, second):
         if it not in numbers:
             known = ", ".join(numbers)
             raise Complaint(
@@ -314,7 +329,12 @@ def _of_two(query: Query, second: str, schema: Sequence[Attribute]) -> Query:
             )
     if query.key == second:
         raise Complaint(f"`{query.text}`: it needs two attributes, and both are `{second}`")
-    return replace(query, second=second)
+    return replace(query, second=second, width=width)
+
+
+def unit_of(word: str) -> int:
+    """The width that a word names, as `seconds`; 0 if it names none."""
+    return {name: size for size, name in UNITS.items()}.get(word.removesuffix("s"), 0)
 
 
 def _finding(text: str, key: str, value: str, schema: Sequence[Attribute]) -> Query:
@@ -359,8 +379,8 @@ def _filled(query: Query, words: dict[str, str | None]) -> Query:
     if number >= 2**64:
         raise Complaint(f"`{query.text}`: {number} is above 2^64 - 1")
     width = _width(words.get("times"), words.get("unit") or "") if words.get("unit") else 0
-    if query.verb == "top" and not query.second:
-        width = {name: size for size, name in UNITS.items()}.get(query.key.removesuffix("s"), 0)
+    if query.verb == "top":
+        width = query.width if query.second else unit_of(query.key)
     low = words.get("low") or ""
     found = replace(query, part=part, measure=measure, count=count, number=number, width=width)
     return replace(found, low=low, high=words.get("high") or low)
@@ -410,6 +430,12 @@ def _ask(writer: _Writer, query: Query, width: int, every: bool) -> str:
     if query.is_ranked:
         tally = writer.thing("tally", f"{query.key} {query.measure} {query.expression}")
         return f"top {tally} {query.bound} {MOST_TOP if every else query.count}"
+    if query.is_timed_pair:
+        lane = writer.thing("filter", query.expression)
+        lane = writer.thing("aggregate", f"{lane} {query.measure} by {query.second}")
+        if query.verb != "over" or every:
+            return f"groups {lane}"
+        return f"fired {writer.thing('trigger', f'{lane} {query.part} > {query.number}')}"
     if query.second:
         return f"groups {writer.thing('tally', f'{query.key} {query.measure} {query.expression}')}"
     if query.is_paired:

@@ -32,7 +32,11 @@ def drawn_rows(draw: random.Random, count: int, spread: int) -> list[dict[str, i
     for _ in range(count):
         row = dict.fromkeys(NAMES, 0)
         family = draw.choice((4, 4, 4, 4, 6, 7))
-        row |= {"len": draw.randrange(60, 70), "dport": draw.choice((53, 80, *range(1, spread)))}
+        row |= {
+            "ts": draw.randrange(4 * 10**9),
+            "len": draw.randrange(60, 70),
+            "dport": draw.choice((53, 80, *range(1, spread))),
+        }
         row |= {"is_syn": draw.randrange(2), "ttl": draw.choice((1, 64)), "kind": 0 if family == 7 else 2}
         sides = [min(draw.randrange(spread), draw.randrange(spread)) for _ in "sd"]
         if family == 4:
@@ -52,7 +56,7 @@ def holding(rows: Sequence[dict[str, int]], expression: str) -> Iterator[dict[st
     return (it for it in rows if found.holds(tuple(it[name] for name in NAMES)))
 
 
-def asker_over(rows: Sequence[dict[str, int]], runs: list[int]) -> Asker:
+def asker_over(query: Query, rows: Sequence[dict[str, int]], runs: list[int]) -> Asker:
     """Answers as the program does; `runs` has for each run how many lanes it has, 0 for a listing."""
 
     def groups(asked: Sequence[tuple[str, str]]) -> list[Mapping[int, Group]]:
@@ -71,8 +75,14 @@ def asker_over(rows: Sequence[dict[str, int]], runs: list[int]) -> Asker:
         runs.append(0)
         return (tuple(it[name] for name in names) for it in holding(rows, expression))
 
+    def timed(expression: str) -> list[Group]:
+        values: dict[tuple[int, int], list[int]] = {}
+        for it in holding(rows, expression):
+            values.setdefault((it["ts"] // query.width, it[query.second]), []).append(it[measure])
+        return [Group(key, len(its), sum(its), min(its), max(its), by) for (key, by), its in values.items()]
+
     measure = "len"
-    return Asker(groups, listed)
+    return Asker(groups, timed, listed)
 
 
 def cell_of(key: str, row: dict[str, int]) -> Cell:
@@ -90,7 +100,8 @@ def expected(query: Query, rows: Sequence[dict[str, int]]) -> list[tuple[int, tu
     """The first rows with their values, in one pass over all packets."""
     pairs: dict[tuple[Cell, Cell], list[int]] = {}
     for it in holding(rows, query.expression):
-        pair = cell_of(query.key, it), cell_of(query.second, it)
+        first = (4, it["ts"] // query.width) if query.width else cell_of(query.key, it)
+        pair = first, cell_of(query.second, it)
         is_whole = any(key in ("src6", "dst6") for key in (query.key, query.second))
         if not is_whole or (it["kind"] and it["etype"] == 0x86DD):
             pairs.setdefault(pair, []).append(it["len"])
@@ -100,6 +111,10 @@ def expected(query: Query, rows: Sequence[dict[str, int]]) -> list[tuple[int, tu
     else:
         join = {"sum": sum, "count": len, "least": min, "greatest": max}[query.part]
         values = {pair: join(its) for pair, its in pairs.items()}
+    if query.verb == "over":
+        return sorted(
+            ((-value, it) for it, value in values.items() if value > query.number), key=lambda it: it[1]
+        )
     return sorted((-value, cells) for cells, value in values.items())
 
 
@@ -117,6 +132,12 @@ QUESTIONS = (
     "top {n} len by different dport",
     "top {n} src6, dport by packets",
     "top {n} src by different dst6",
+    "top {n} seconds, src by bytes",
+    "top {n} dport and minute by greatest len where ttl==64",
+    "top {n} second, dst6 by packets",
+    "top {n} seconds by different src",
+    "over 2 packets in a second by src",
+    "over 80 in 2 seconds by dport where kind==2",
 )
 
 
@@ -131,20 +152,28 @@ class Answers(unittest.TestCase):
             ):
                 for text in QUESTIONS:
                     query = parse_question(text.format(n=draw.choice((1, 3, 10))))
-                    answer = doubled(query, asker_over(rows, []))
+                    answer = doubled(query, asker_over(query, rows, []))
                     wanted = expected(query, rows)
                     found = [(-it.value, it.cells) for it in answer.rows]
-                    self.assertEqual(found, wanted[: query.count], (seed, query.text))
+                    most = len(wanted) if query.verb == "over" else query.count
+                    self.assertEqual(found, wanted[:most], (seed, query.text))
                     if answer.is_all:
                         self.assertEqual(len(wanted), len(found), (seed, query.text))
 
     def test_what_stands_out_is_found_without_a_list(self) -> None:
         rows = drawn_rows(random.Random(1), 0, 2)
         for sender in range(1, 300):
-            row = dict.fromkeys(NAMES, 0) | {"kind": 2, "etype": 0x0800, "is_syn": 1, "src": sender, "len": 60}
+            row = dict.fromkeys(NAMES, 0) | {
+                "kind": 2,
+                "etype": 0x0800,
+                "is_syn": 1,
+                "src": sender,
+                "len": 60,
+            }
             rows += [row | {"dport": port} for port in (range(1, 90) if sender == 7 else (80,))]
         runs: list[int] = []
-        answer = doubled(parse_question("scans 1"), asker_over(rows, runs))
+        query = parse_question("scans 1")
+        answer = doubled(query, asker_over(query, rows, runs))
         self.assertEqual([(it.cells, it.value, it.packets) for it in answer.rows], [(((4, 7),), 89, 89)])
         # (packets that are not IPv4, all senders and ports, and the first 16 senders)
         self.assertEqual(runs, [0, 2, 16])
@@ -154,7 +183,7 @@ class Answers(unittest.TestCase):
         rows = drawn_rows(random.Random(2), 200, 6)
         condition = " or ".join(f"dport=={it}" for it in range(1, 30))
         query = parse_question(f"top src, dport by bytes where {condition}")
-        answer = doubled(query, asker_over(rows, []))
+        answer = doubled(query, asker_over(query, rows, []))
         self.assertEqual([(-it.value, it.cells) for it in answer.rows], expected(query, rows)[:10])
 
 
@@ -164,7 +193,12 @@ BAD = (
     ("top src by different src", "it needs two attributes"),
     ("top flow, dport by bytes", "`flow` is none of the numbers"),
     ("top src by different dmac", "`dmac` is none of the numbers"),
-    ("top src, second by bytes", "`second` is none of the numbers"),
+    ("top second, minute by bytes", "`second` is none of the numbers"),
+    ("top second, flow by bytes", "`flow` is none of the numbers"),
+    ("top src by different second", "`second` is none of the numbers"),
+    ("under 5 in a second by src", "ask with `over`"),
+    ("over 5 in a second by flow", "`flow` is none of the numbers"),
+    ("over 5 in a fortnight by src", "is not a unit of time"),
     ("top src, dst, dport by bytes", "Cannot read"),
     ("share src, dst by bytes", "It ranks one attribute"),
     ("top src6/64, dport by bytes", "and alone"),
@@ -194,6 +228,18 @@ class Questions(unittest.TestCase):
                 "ask q2 groups tally2",
             ],
         )
+        ended = tool("ask", "--setup-only", "over 9 packets in a minute by src", "top minutes, src by bytes")
+        self.assertEqual(
+            [it for it in ended.out.splitlines()[1:] if it[0] != "#"],
+            [
+                "width 60000000000",
+                "filter filter1 *",
+                "aggregate aggregate1 filter1 len by src",
+                "trigger trigger1 aggregate1 count > 9",
+                "ask q1 fired trigger1",
+                "ask q2 groups aggregate1",
+            ],
+        )
 
 
 @needs_program
@@ -214,6 +260,42 @@ class Runs(unittest.TestCase):
             "  2.  192.0.2.33                  2     2",
         ]
         self.assertEqual((ended.status, ended.out.splitlines()), (0, lines))
+
+    def test_a_flood_by_each_source(self) -> None:
+        path = self.folder / "a.pcap"
+        frames = [(1, frame(1)), (1, frame(1)), (1, frame(2)), (2, frame(2)), (2, frame6()), (2, frame6())]
+        path.write_bytes(pcap(frames))
+        ended = tool(
+            "ask",
+            path,
+            "over 1 packets in a second by src",
+            "top 1 src, minute by packets",
+            "top 1 second by different src",
+        )
+        lines = [
+            "6 packets",
+            "",
+            "over 1 packets in a second by src",
+            "  second (UTC)         src          number of packets",
+            "  1970-01-01 00:00:01  10.0.0.1                     2",
+            "  1970-01-01 00:00:02  2001:db8::1                  2",
+            "",
+            "top 1 src, minute by packets",
+            "      minute (UTC)         src       number of packets",
+            "  1.  1970-01-01 00:00:00  10.0.0.1                  2",
+            "",
+            "top 1 second by different src",
+            "      second (UTC)         different src  packets",
+            "  1.  1970-01-01 00:00:01              2        3",
+        ]
+        self.assertEqual((ended.status, ended.out.splitlines()), (0, lines))
+        read = json.loads(tool("ask", "--json", path, "over 1 packets in a second by src").out)["answers"][0]
+        key = {
+            "text": "1970-01-01 00:00:01Z, 10.0.0.1",
+            "value": 2,
+            "texts": ["1970-01-01 00:00:01Z", "10.0.0.1"],
+        }
+        self.assertEqual((read["kind"], read["keys"][0], len(read["keys"])), ("over", key, 2))
 
     def test_both_families_and_several_captures(self) -> None:
         first, second = self.folder / "a.pcap", self.folder / "b.pcap"
@@ -242,7 +324,9 @@ class Runs(unittest.TestCase):
         path = self.folder / "a.pcap"
         path.write_bytes(pcap([(1, frame())]))
         out = tool("ask", path, "scans", "top src6, dport by bytes").out
-        self.assertEqual(out.splitlines()[1:], ["", "scans", "  none", "", "top src6, dport by bytes", "  none"])
+        self.assertEqual(
+            out.splitlines()[1:], ["", "scans", "  none", "", "top src6, dport by bytes", "  none"]
+        )
 
 
 if __name__ == "__main__":
