@@ -44,12 +44,15 @@ kind_about U32 = record nothing { kind = 32 }
 kind_about U64 = record nothing { kind = 64 }
 kind_about (Bytes size) = record nothing { size = size }
 
--- of a lane: 0 an index, 1 a filter, 2 an aggregate, 3 a tally; the attribute of its keys, and the one that is measured
+-- of a lane: 0 an index, 1 a filter, 2 an aggregate, 3 a tally, 4 an aggregate by a key; the attribute of its keys, and the one that is
+-- measured. No setup has a lane of rows kept apart that measures nothing.
 abbrev pub lane_by : Key → Option ℕ → About
 lane_by (keys.Attr attr) None = record nothing { of = attr }
 lane_by keys.Bucket None = record nothing { kind = 1 }
 lane_by keys.Bucket (Some measure) = record nothing { kind = 2; size = measure }
 lane_by (keys.Attr attr) (Some measure) = record nothing { kind = 3; of = attr; size = measure }
+lane_by (keys.BucketBy attr) None = record nothing { kind = 1; of = attr }
+lane_by (keys.BucketBy attr) (Some measure) = record nothing { kind = 4; of = attr; size = measure }
 
 abbrev pub lane_about : Lane → About
 lane_about lane = lane_by lane.key lane.measure

@@ -12,8 +12,8 @@ use cf_shape::{Key, Lane};
 #[repr(C)]
 #[derive(Clone, Copy)]
 pub struct About {
-    /// Of an attribute the bits of a number, or 0; of a lane 0 an index, 1 a filter, 2 an aggregate, 3 a tally; of a question 0 a list,
-    /// 1 a find, 2 a between, 3 a measure, 4 a fired, 5 a top, 6 a total.
+    /// Of an attribute the bits of a number, or 0; of a lane 0 an index, 1 a filter, 2 an aggregate, 3 a tally, 4 an aggregate by
+    /// a key; of a question 0 a list, 1 a find, 2 a between, 3 a measure, 4 a fired, 5 a top, 6 a total, 7 groups.
     pub kind: u32,
     /// The attribute of a lane's keys; the lane of a trigger or a question; the attribute of a total.
     pub of: u32,
@@ -92,6 +92,8 @@ fn lane_about(lane: &Lane) -> About
         (Key::Bucket, None) => (1, 0, 0),
         (Key::Bucket, Some(measure)) => (2, 0, measure),
         (Key::Attr(attr), Some(measure)) => (3, attr, measure),
+        (Key::BucketBy(attr), None) => (1, attr, 0),
+        (Key::BucketBy(attr), Some(measure)) => (4, attr, measure),
     };
     About {
         kind,

@@ -53,7 +53,7 @@ pub enum LineRefusal {
 /// Why no groups are told.
 #[derive(Clone, Copy)]
 pub enum LaneRefusal {
-    /// The setup has no such lane, or it measures nothing.
+    /// The setup has no such lane, it measures nothing, or it keeps the rows of a bucket apart by a key.
     NoLane,
     Memory,
 }

@@ -1,21 +1,17 @@
 // Questions answered by going over a list of entries.
-ghost use Rattle.std.specs.Prelude.{◌≡◌, ℕ, ◌<◌, ◌≤◌, ◌^◌, ◌&&◌, nat_le, true, length, map, filter, All, IfOk, OnOk, List, ◌++◌, ◌∷◌, []};
-ghost use Rattle.std.specs.BTreeMap.{insert_entry};
-ghost use Rattle.std.specs.Ordering.{nat_cmp};
+ghost use Rattle.std.specs.Prelude.{◌≡◌, ◌<◌, ◌≤◌, ◌^◌, ◌&&◌, nat_le, true, length, map, filter, All, IfOk};
 ghost use Rattle.cf_row.specs.Row.{Fits};
-ghost use Rattle.cf_fold.specs.Quads.{quad_of};
 ghost use Rattle.cf_shape.specs.Lanes.{selected_by, key_of, measure_of};
 ghost use Rattle.cf_plain.specs.Asks.{Suits, SuitsTrigger, FitAll, rows_in, row_at, places, counts_for, is_between, total_over, marks_over};
-ghost use Rattle.cf_plain.specs.Groups.{groups, quad_at, as_group};
+ghost use Rattle.cf_plain.specs.Groups.{groups, pair_of, row_group};
 ghost use Rattle.cf_plain.specs.Tops.{top_over};
 
-use crate::segments::marks_of_groups;
+use crate::segments::{marks_of_groups, merge_groups};
 use crate::{Ask, Group, Groups, Marks, Places, top};
 use cf_fold::{Part, Quad, Trigger};
 use cf_row::{Entry, Memory, Row, holds};
-use cf_shape::{Shape, key, measure, selects};
+use cf_shape::{Shape, by, key, measure, selects};
 use std::alloc::Global;
-use std::collections::BTreeMap;
 
 // Whether the lane takes the row, and its key is in the range.
 fn is_in(shape: &Shape, lane: u8, low: u64, high: u64, row: &Row) -> bool
@@ -109,8 +105,7 @@ pub(crate) fn marks_of(
     requires few { length entries.now ≤ 2 ^ 20 }
     ensures { IfOk result (λ found. found ≡ marks_over shape.now trigger.now (rows_in entries.now)) }
 {
-    let grouped = grouped_by(alloc, shape, trigger.agg, entries)?;
-    let groups = listed(alloc, &grouped)?;
+    let groups = grouped_by(alloc, shape, trigger.agg, entries)?;
     Ok(Marks::new(marks_of_groups(alloc, trigger, &groups)?))
 }
 
@@ -128,8 +123,7 @@ pub(crate) fn tops_of(
     requires few { length entries.now ≤ 2 ^ 20 }
     ensures { IfOk result (λ found. found ≡ top_over shape.now lane part most (rows_in entries.now)) }
 {
-    let grouped = grouped_by(alloc, shape, lane, entries)?;
-    let groups = listed(alloc, &grouped)?;
+    let groups = grouped_by(alloc, shape, lane, entries)?;
     Ok(Marks::new(top(alloc, part, most, &groups)?))
 }
 
@@ -145,53 +139,40 @@ pub(crate) fn groups_of(
     requires few { length entries.now ≤ 2 ^ 20 }
     ensures { IfOk result (λ found. found ≡ groups shape.now lane (rows_in entries.now)) }
 {
-    let grouped = grouped_by(alloc, shape, lane, entries)?;
-    Ok(Groups::new(listed(alloc, &grouped)?))
+    Ok(Groups::new(grouped_by(alloc, shape, lane, entries)?))
 }
 
-// The groups of a map, in the order of their keys.
-pub(crate) fn listed(alloc: Global, grouped: &BTreeMap<u64, Quad>) -> Result<Vec<Group>, Memory>
-    ensures { IfOk result (λ groups. groups.items ≡ map as_group grouped.now.entries) }
+// The row as a group of its own.
+fn group_of_row(shape: &Shape, lane: u8, row: &Row) -> Group
+    requires exists { lane < length shape.now.lanes }
+    requires fits { Fits shape.now.schema row.now }
+    ensures { pair_of result ≡ row_group shape.now lane row.now }
 {
-    let mut groups = Vec::new(alloc);
-    for (key, quad) in grouped {
-        groups.push(Group {
-            key: *key,
-            quad: *quad,
-        })?;
+    Group {
+        key: key(shape, lane, row),
+        by: by(shape, lane, row),
+        quad: Quad::EMPTY.add(measure(shape, lane, row)),
     }
-    Ok(groups)
 }
 
-// The quad of each key that some selected row has.
+// The groups of the rows: of each that is selected one, and then those of the same keys merged.
 pub(crate) fn grouped_by(
     alloc: Global,
     shape: &Shape,
     lane: u8,
     entries: &[Entry],
-) -> Result<BTreeMap<u64, Quad>, Memory>
+) -> Result<Vec<Group>, Memory>
     requires exists { lane < length shape.now.lanes }
     requires fit { FitAll shape.now entries.now }
     requires few { length entries.now ≤ 2 ^ 20 }
-    ensures { IfOk result (λ grouped. grouped.entries ≡ groups shape.now lane (rows_in entries.now)) }
+    ensures { IfOk result (λ found. map pair_of found.items ≡ groups shape.now lane (rows_in entries.now)) }
 {
-    let mut grouped = BTreeMap::new(alloc);
+    let mut each = Vec::new(alloc);
     for place in 0..entries.len() {
         let row = row_of(shape, entries, place);
         if selects(shape, lane, row) {
-            let key = key(shape, lane, row);
-            add_to(&mut grouped, key, measure(shape, lane, row))?;
+            each.push(group_of_row(shape, lane, row))?;
         }
     }
-    Ok(grouped)
-}
-
-// One more value for the key.
-fn add_to(grouped: &mut BTreeMap<u64, Quad>, key: u64, value: u32) -> Result<(), Memory>
-    requires few { (quad_at grouped.old key).count < 2 ^ 20 }
-    ensures ok { OnOk result ((xs : List ℕ) → quad_at grouped.old key ≡ quad_of xs → grouped.new.entries ≡ insert_entry nat_cmp grouped.old.entries key (quad_of (xs ++ value ∷ []))) }
-{
-    let before = grouped.get(&key).copied().unwrap_or(Quad::EMPTY);
-    grouped.insert(key, before.add(value))?;
-    Ok(())
+    merge_groups(alloc, &each)
 }

@@ -7,7 +7,7 @@ use Rattle.cf_fold.specs.Quads.{quad_of}
 use Rattle.cf_fold.specs.declared.trigger.Trigger.{Trigger}
 use Rattle.cf_history.specs.History.{AskReply}
 use Rattle.cf_history.specs.Order.{IsOrder, log_of}
-use Rattle.cf_shape.specs.Lanes.{ShapeValue, lane_at, key_by, key_of, selected_by, measure_of}
+use Rattle.cf_shape.specs.Lanes.{ShapeValue, lane_at, key_by, key_of, by_of, both_keys, group_key, selected_by, measure_of}
 use Rattle.cf_shape.specs.declared.lane.Key.{Key}
 use Rattle.cf_shape.specs.declared.lane.Key.TheVariants as keys
 use Rattle.cf_plain.specs.Groups.{keys_in, has_key, group_of, groups, ascending}
@@ -34,9 +34,13 @@ module _ (setup : SetupValue) (c w n c' w' n' : ℕ) where
   key_by_same : (key : Key) (row : RowValue) → key_by one key row ≡ key_by other key row
   key_by_same (keys.Attr attr) row = refl
   key_by_same keys.Bucket row = refl
+  key_by_same (keys.BucketBy attr) row = refl
 
   key_same : (lane : ℕ) (row : RowValue) → key_of one lane row ≡ key_of other lane row
   key_same lane row = key_by_same (lane_at one lane).key row
+
+  both_same : (lane : ℕ) (row : RowValue) → group_key one lane row ≡ group_key other lane row
+  both_same lane row = ap (λ (k : ℕ). both_keys k (by_of one lane row)) (key_same lane row)
 
   keyed_same : (lane low high : ℕ) (row : RowValue)
       → (selected_by one lane row && is_between low high (key_of one lane row)) ≡ (selected_by other lane row && is_between low high (key_of other lane row))
@@ -60,12 +64,12 @@ module _ (setup : SetupValue) (c w n c' w' n' : ℕ) where
       (λ place. counts_same ask (row_at rows place)) (range_with_len 0 (length rows))
 
   keys_same : (lane : ℕ) (rows : List RowValue) → keys_in one lane rows ≡ keys_in other lane rows
-  keys_same lane rows = ap ascending (map_agree (key_of one lane) (key_of other lane) (key_same lane) (filter (selected_by one lane) rows))
+  keys_same lane rows = ap ascending (map_agree (group_key one lane) (group_key other lane) (both_same lane) (filter (selected_by one lane) rows))
 
   group_same : (lane : ℕ) (rows : List RowValue) (k : ℕ) → group_of one lane rows k ≡ group_of other lane rows k
   group_same lane rows k =
       ap (λ (picked : List RowValue). (k, quad_of (map (measure_of one lane) picked)))
-      (filter_agree (has_key one lane k) (has_key other lane k) (λ row. ap (λ key. selected_by one lane row && (key == k)) (key_same lane row)) rows)
+      (filter_agree (has_key one lane k) (has_key other lane k) (λ row. ap (λ key. selected_by one lane row && (key == k)) (both_same lane row)) rows)
 
   groups_same : (lane : ℕ) (rows : List RowValue) → groups one lane rows ≡ groups other lane rows
   groups_same lane rows =

@@ -1,9 +1,10 @@
 -- The text of a question's answer. Numbers are decimal, and a line ends with byte 10.
-use Rattle.std.specs.Prelude.{ℕ, ◌==◌, List, [], ◌∷◌, ◌++◌, length, map, codes, decimal, if◌then◌else◌}
+use Rattle.std.specs.Prelude.{ℕ, ◌==◌, List, [], ◌∷◌, ◌++◌, length, map, codes, decimal, Option, Some, None, if◌then◌else◌}
 use Rattle.std.specs.List.{flat_map}
 use Rattle.cf_row.specs.Row.{RowValue}
 use Rattle.cf_fold.specs.Quads.{QuadValue}
 use Rattle.cf_plain.specs.Asks.{row_at}
+use Rattle.cf_plain.specs.Groups.{first_key, other_key}
 use Rattle.cf_plain.specs.declared.ask.Ask.{Ask}
 use Rattle.cf_plain.specs.declared.ask.Ask.TheVariants as asks
 use Rattle.cf_plain.specs.declared.answer.Body.{Body}
@@ -36,9 +37,14 @@ quad_text quad =
     codes " count " ++ decimal quad.count ++ codes " sum " ++ decimal quad.sum ++ codes " least " ++ bound_text quad.count
     quad.least ++ codes " greatest " ++ bound_text quad.count quad.greatest
 
--- ` BUCKET=VALUE`, or ` KEY=VALUE` of a key among the first
+-- `BUCKET` or `KEY`; `BUCKET/KEY` where another value keeps the rows of a bucket apart
+abbrev pub keys_text : ℕ → Option ℕ → List ℕ
+keys_text key None = decimal key
+keys_text key (Some by) = decimal key ++ codes "/" ++ decimal by
+
+-- ` BUCKET=VALUE`, ` BUCKET/KEY=VALUE`, or ` KEY=VALUE` of a key among the first
 abbrev pub mark_text : Fired → List ℕ
-mark_text mark = codes " " ++ decimal mark.bucket ++ codes "=" ++ decimal mark.value
+mark_text mark = codes " " ++ keys_text mark.bucket mark.key ++ codes "=" ++ decimal mark.value
 
 -- ` K:` and then each of the K marks
 abbrev pub marks_text : List Fired → List ℕ
@@ -48,9 +54,9 @@ marks_text marks = codes " " ++ decimal (length marks) ++ codes ":" ++ flat_map 
 abbrev pub parts_text : QuadValue → List ℕ
 parts_text quad = decimal quad.count ++ codes "/" ++ decimal quad.sum ++ codes "/" ++ decimal quad.least ++ codes "/" ++ decimal quad.greatest
 
--- ` KEY=COUNT/SUM/LEAST/GREATEST`: a key or a bucket, and the quad of its rows
+-- ` KEY=COUNT/SUM/LEAST/GREATEST`: a key, a bucket or `BUCKET/KEY`, and the quad of its rows
 abbrev pub group_text : ℕ × QuadValue → List ℕ
-group_text group = codes " " ++ decimal group.0 ++ codes "=" ++ parts_text group.1
+group_text group = codes " " ++ keys_text (first_key group.0) (other_key group.0) ++ codes "=" ++ parts_text group.1
 
 -- ` K:` and then each of the K groups
 abbrev pub groups_text : List (ℕ × QuadValue) → List ℕ

@@ -19,7 +19,7 @@ use Rattle.cf_setup.specs.Setups.{SetupValue}
 use Rattle.cf_plain.specs.declared.loaded.Live.{Live}
 use Rattle.cf_plain.specs.Answered.{no_ask}
 use Rattle.cf_report.specs.Answered.{told_live}
-use Rattle.cf_report.specs.Bodies.{line, nums_at, word_of, shown, marks_text}
+use Rattle.cf_report.specs.Bodies.{line, nums_at, word_of, shown, keys_text, marks_text}
 
 -- the name of the question at a place
 abbrev pub ask_name : SetupValue → ℕ → List ℕ
@@ -41,9 +41,9 @@ ask_line name rows told = line (codes "ask " ++ name ++ codes " " ++ word_of tol
 abbrev pub ask_line_at : SetupValue → List RowValue → List (AskReply Ask Body) → ℕ → List ℕ
 ask_line_at setup rows finals place = ask_line (ask_name setup place) rows (slice_index_or finals place nothing_told)
 
--- `alert TRIGGER BUCKET VALUE`
+-- `alert TRIGGER BUCKET VALUE`, or `alert TRIGGER BUCKET/KEY VALUE`
 abbrev pub alert_line : List ℕ → Fired → List ℕ
-alert_line name mark = line (codes "alert " ++ name ++ codes " " ++ decimal mark.bucket ++ codes " " ++ decimal mark.value)
+alert_line name mark = line (codes "alert " ++ name ++ codes " " ++ keys_text mark.bucket mark.key ++ codes " " ++ decimal mark.value)
 
 -- the lines of the trigger at a place
 abbrev pub alert_lines_at : SetupValue → List (List Fired) → ℕ → List ℕ

@@ -2,10 +2,11 @@
 ghost use Rattle.std.specs.Prelude.{◌≡◌, ℕ, List, ◌<◌, ◌++◌, All, length, map, OnOk, IfOk, string_bytes};
 ghost use Rattle.std.specs.List.{flat_map};
 ghost use Rattle.cf_fold.specs.Sort.{sort};
+ghost use Rattle.cf_shape.specs.Lanes.{both_keys};
 ghost use Rattle.cf_plain.specs.Asks.{rows_in, row_at};
-ghost use Rattle.cf_plain.specs.Groups.{pair_of};
+ghost use Rattle.cf_plain.specs.Groups.{first_key, other_key, pair_of};
 ghost use Rattle.cf_report.specs.Answered.{IsWithin};
-ghost use Rattle.cf_report.specs.Bodies.{numbers_text, number_text, quad_text, bound_text, mark_text, marks_text, parts_text, group_text, groups_text, word_of, shown, nums_at, places_in};
+ghost use Rattle.cf_report.specs.Bodies.{numbers_text, number_text, quad_text, bound_text, keys_text, mark_text, marks_text, parts_text, group_text, groups_text, word_of, shown, nums_at, places_in};
 
 use crate::Tags;
 use cf_fold::Quad;
@@ -68,11 +69,29 @@ fn push_each_mark(text: &mut String, marks: &[Fired]) -> Result<(), Memory>
     ensures { OnOk result (string_bytes text.new ≡ string_bytes text.old ++ flat_map mark_text marks.now) }
 {
     for mark in marks {
-        let bucket = mark.bucket;
-        let value = mark.value;
-        write!(text, " {bucket}={value}")?;
+        push_mark(text, *mark)?;
     }
     Ok(())
+}
+
+fn push_mark(text: &mut String, mark: Fired) -> Result<(), Memory>
+    ensures { OnOk result (string_bytes text.new ≡ string_bytes text.old ++ mark_text mark) }
+{
+    text.push_str(" ")?;
+    push_keys(text, mark.bucket, mark.key)?;
+    let value = mark.value;
+    write!(text, "={value}")
+}
+
+/// Appends a bucket or a key, and behind a slash the value that keeps the rows of the bucket apart, if there is one. If memory runs
+/// out, the text may end with a part of it.
+pub fn push_keys(text: &mut String, key: u64, by: Option<u64>) -> Result<(), Memory>
+    ensures { OnOk result (string_bytes text.new ≡ string_bytes text.old ++ keys_text key by) }
+{
+    match by {
+        None => write!(text, "{key}"),
+        Some(by) => write!(text, "{key}/{by}"),
+    }
 }
 
 // How many groups there are, and each.
@@ -97,10 +116,21 @@ fn push_each_group(text: &mut String, groups: &[Group]) -> Result<(), Memory>
 fn push_group(text: &mut String, group: &Group) -> Result<(), Memory>
     ensures { OnOk result (string_bytes text.new ≡ string_bytes text.old ++ group_text (pair_of group.now)) }
 {
-    let key = group.key;
     let quad = group.quad;
-    write!(text, " {key}=")?;
+    text.push_str(" ")?;
+    push_both_keys(text, group.key, group.by)?;
+    text.push_str("=")?;
     push_parts(text, quad)
+}
+
+// The keys, which are those of the number that they make.
+fn push_both_keys(text: &mut String, key: u64, by: Option<u64>) -> Result<(), Memory>
+    ensures { OnOk result (string_bytes text.new ≡ string_bytes text.old ++ keys_text (first_key (both_keys key by)) (other_key (both_keys key by))) }
+{
+    match by {
+        None => push_keys(text, key, None),
+        Some(by) => push_keys(text, key, Some(by)),
+    }
 }
 
 // The count, sum, least and greatest number of a quad of some numbers.

@@ -16,7 +16,7 @@ mod tags;
 mod text;
 mod value;
 
-pub use body::{places_of, push_body, word};
+pub use body::{places_of, push_body, push_keys, word};
 pub use condition::is_answering;
 pub use laws::{
     final_part_has_no_sizes, final_part_is_one, meant_answers_make_reports, reports_are_histories,

@@ -6,7 +6,7 @@ ghost use Rattle.cf_report.specs.Answered.{IsWithin, told_by, tolds_of};
 ghost use Rattle.cf_report.specs.Report.{ask_line, ask_line_at, alert_line, alert_lines_at};
 
 use crate::Tags;
-use crate::body::{push_final, word};
+use crate::body::{push_final, push_keys, word};
 use cf_plain::{Answer, Ask, Fired, Marks};
 use cf_row::{Memory, Name};
 use cf_setup::Setup;
@@ -69,9 +69,10 @@ pub(crate) fn push_asks(
 fn push_alert(text: &mut String, name: &str, mark: Fired) -> Result<(), Memory>
     ensures { OnOk result (string_bytes text.new ≡ string_bytes text.old ++ alert_line name.now mark) }
 {
-    let bucket = mark.bucket;
+    write!(text, "alert {name} ")?;
+    push_keys(text, mark.bucket, mark.key)?;
     let value = mark.value;
-    write!(text, "alert {name} {bucket} {value}\n")
+    write!(text, " {value}\n")
 }
 
 fn push_each_alert(text: &mut String, name: &str, marks: &[Fired]) -> Result<(), Memory>

@@ -16,7 +16,7 @@ use Rattle.cf_filter.specs.Grammar.{ValueText, ExprRead}
 use Rattle.cf_setup.specs.declared.source.Source.TheVariants.{Records}
 use Rattle.cf_setup.specs.Drafts.{DraftValue, attrs_of, with_lane, with_ask, index_over, filter_by}
 use Rattle.cf_setup.specs.Forms.{StatementFormValue}
-use Rattle.cf_setup.specs.Forms.StatementFormValue.{packet_schema, record_schema, bucket_width, new_index, new_filter, new_aggregate, new_tally, new_trigger, ask_list, ask_find, ask_buckets, ask_fired, ask_top, ask_groups, ask_total, ask_live}
+use Rattle.cf_setup.specs.Forms.StatementFormValue.{packet_schema, record_schema, bucket_width, new_index, new_filter, new_aggregate, new_keyed_aggregate, new_tally, new_trigger, ask_list, ask_find, ask_buckets, ask_fired, ask_top, ask_groups, ask_total, ask_live}
 use Rattle.cf_setup.specs.Named.{place_in, is_index, is_filter, is_aggregate, is_tally, is_measuring, is_of, family_of, lane_named, trigger_named, index_kind}
 use Rattle.cf_lines.specs.Schemas.{schema_at}
 use Rattle.cf_setup.specs.Rules.{Broken, rules, expr_rules, IsBroken}
@@ -104,6 +104,10 @@ module _ (line : ℕ) (before : DraftValue) where
   never (new_aggregate name filter attr) s h =
       no_then _ (lane_named is_filter before filter) h (λ e. s 6 (inr (inl (refl, e)))) (λ lane k.
       no_then _ (attr_named (attrs_of before) attr) k (λ e. s 6 (inr (inr (inl (refl, e))))) (λ found l. some_none l))
+  never (new_keyed_aggregate name filter attr key) s h =
+      no_then _ (lane_named is_filter before filter) h (λ e. s 6 (inr (inl (refl, e)))) (λ lane k.
+      no_then _ (attr_named (attrs_of before) attr) k (λ e. s 6 (inr (inr (inl (refl, e))))) (λ found l.
+      no_then _ (attr_named (attrs_of before) key) l (λ e. s 6 (inr (inr (inr (inl (refl, e)))))) (λ by m. some_none m)))
   never (new_tally name attr measure expr) s h =
       no_then _ (attr_named (attrs_of before) attr) h (λ e. s 6 (inr (inl (refl, e)))) (λ key k.
       no_then _ (attr_named (attrs_of before) measure) k (λ e. s 6 (inr (inr (inl (refl, e))))) (λ measured l.
@@ -157,6 +161,10 @@ module _ (line : ℕ) (before : DraftValue) where
   adds_found (new_aggregate name filter attr) new h =
       option_and_then_some _ (lane_named is_filter before filter) new h (λ lane e k.
       option_and_then_some _ (attr_named (attrs_of before) attr) new k (λ found f l. (lane, found, e, f, some_same l)))
+  adds_found (new_keyed_aggregate name filter attr key) new h =
+      option_and_then_some _ (lane_named is_filter before filter) new h (λ lane e k.
+      option_and_then_some _ (attr_named (attrs_of before) attr) new k (λ found f l.
+      option_and_then_some _ (attr_named (attrs_of before) key) new l (λ by g m. (lane, found, by, e, f, g, some_same m))))
   adds_found (new_tally name attr measure expr) new h =
       option_and_then_some _ (attr_named (attrs_of before) attr) new h (λ key e k.
       option_and_then_some _ (attr_named (attrs_of before) measure) new k (λ measured f l.
@@ -211,6 +219,7 @@ module _ (line : ℕ) (before : DraftValue) where
   adds_only (new_index name attr) new h = ap (option_map (λ found. with_lane before name (index_over found.0))) h.1 ∙ ap Some (sym h.2)
   adds_only (new_filter name expr) new h = ap (option_map (λ read. with_lane before name (filter_by read))) (expr_known before expr h.0 h.1) ∙ ap Some (sym h.2)
   adds_only (new_aggregate name filter attr) new h = let lane = h.2 in let found = h.3 in rw (lane, found) (ap Some (sym h.4))
+  adds_only (new_keyed_aggregate name filter attr key) new h = let lane = h.3 in let found = h.4 in let by = h.5 in rw (lane, found, by) (ap Some (sym h.6))
   adds_only (new_tally name attr measure expr) new h = let key = h.3 in let measured = h.4 in
       rw (key, measured, expr_known before expr h.2 h.5) (ap Some (sym h.6))
   adds_only (new_trigger name aggregate part op number) new h = let lane = h.2 in rw (lane, number_only U64 number h.1 h.3) (ap Some (sym h.4))

@@ -14,8 +14,8 @@ use Rattle.cf_setup.specs.declared.statement.Question.{Question}
 use Rattle.cf_setup.specs.declared.statement.Question.TheVariants as questions
 use Rattle.cf_setup.specs.declared.ask_buckets.Buckets.TheVariants as buckets
 use Rattle.cf_lines.specs.Lines.{is_blank, next_word, last_word, new_name}
-use Rattle.cf_setup.specs.Forms.{StatementFormValue, is_schema_form, part_named, sign_named, question_named, schema_words, three_words, ranking_words, question_form, form_at}
-use Rattle.cf_setup.specs.Forms.StatementFormValue.{packet_schema, record_schema, bucket_width, new_index, new_filter, new_aggregate, new_tally, new_trigger, ask_list, ask_find, ask_buckets, ask_fired, ask_top, ask_groups, ask_total, ask_live}
+use Rattle.cf_setup.specs.Forms.{StatementFormValue, is_schema_form, part_named, by_words, sign_named, question_named, schema_words, three_words, ranking_words, question_form, form_at}
+use Rattle.cf_setup.specs.Forms.StatementFormValue.{packet_schema, record_schema, bucket_width, new_index, new_filter, new_aggregate, new_keyed_aggregate, new_tally, new_trigger, ask_list, ask_find, ask_buckets, ask_fired, ask_top, ask_groups, ask_total, ask_live}
 use Rattle.cf_setup.specs.Drafts.{DraftValue}
 use Rattle.cf_setup.specs.SetupText.{is_schema_statement, is_later, is_in_place}
 
@@ -78,6 +78,17 @@ question_fits questions.Groups name text form h = let m = mapped (ask_groups nam
 question_fits questions.Total name text form h = let m = mapped (λ attr. ask_total name attr.0 attr.1) (next_word text) form h in
     fits_as statements.Ask form (ask_total name m.0.0 m.0.1) m.1 refl refl
 
+aggregate_fits : (name filter attr rest : List ℕ) (form : StatementFormValue)
+    → cond (is_blank rest) (Some (new_aggregate name filter attr)) (option_map (new_keyed_aggregate name filter attr) (by_words rest)) ≡ Some form
+    → Fits statements.Aggregate form
+aggregate_fits name filter attr rest form h = by (is_blank rest) h
+  where
+    by : (b : Bool) → cond b (Some (new_aggregate name filter attr)) (option_map (new_keyed_aggregate name filter attr) (by_words rest)) ≡ Some form
+        → Fits statements.Aggregate form
+    by true k = fits_as statements.Aggregate form (new_aggregate name filter attr) (some_same k) refl refl
+    by false k = let m = mapped (new_keyed_aggregate name filter attr) (by_words rest) form k in
+        fits_as statements.Aggregate form (new_keyed_aggregate name filter attr m.0) m.1 refl refl
+
 pub form_fits : (statement : Statement) (text : List ℕ) (form : StatementFormValue) → form_at statement text ≡ Some form → Fits statement form
 form_fits statements.Schema text form h = option_and_then_some _ (next_word text) form h (λ word e k. schema_fits word.0 word.1 form k)
 form_fits statements.Width text form h = let m = mapped bucket_width (last_word text) form h in fits_as statements.Width form (bucket_width m.0) m.1 refl refl
@@ -90,8 +101,8 @@ form_fits statements.Filter text form h = let m = mapped (λ name. new_filter na
 form_fits statements.Aggregate text form h =
     option_and_then_some _ (new_name text) form h (λ name e k.
     option_and_then_some _ (next_word name.1) form k (λ filter f l.
-    option_and_then_some _ (last_word filter.1) form l (λ attr g m.
-    fits_as statements.Aggregate form (new_aggregate name.0 filter.0 attr) (some_same m) refl refl)))
+    option_and_then_some _ (next_word filter.1) form l (λ attr g m.
+    aggregate_fits name.0 filter.0 attr.0 attr.1 form m)))
 form_fits statements.Tally text form h =
     option_and_then_some _ (new_name text) form h (λ name e k.
     option_and_then_some _ (next_word name.1) form k (λ attr f l.

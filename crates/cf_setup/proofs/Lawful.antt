@@ -21,7 +21,7 @@ use Rattle.cf_setup.specs.declared.source.Source.TheVariants.{Packets, Records}
 use Rattle.cf_row.specs.Expr.{is_of_schema, is_range}
 use Rattle.cf_fold.specs.declared.trigger.Trigger.{Trigger}
 use Rattle.cf_shape.specs.declared.lane.Lane.{Lane}
-use Rattle.cf_shape.specs.Lanes.{ShapeValue, no_lane, lane_at, is_number, is_narrow, is_lawful_key, is_lawful_measure, is_lawful_lane, option_passes}
+use Rattle.cf_shape.specs.Lanes.{ShapeValue, no_lane, has_by, lane_at, is_number, is_narrow, is_lawful_key, is_lawful_measure, is_lawful_lane, option_passes}
 use Rattle.cf_plain.specs.declared.ask.Ask.{Ask}
 use Rattle.cf_plain.specs.declared.ask.Ask.TheVariants as asks
 use Rattle.cf_plain.specs.Asks.{exists, is_attr, is_indexed, is_bucketed, is_aggregate as is_aggregate_at, is_tally as is_tally_at, is_measuring as is_measuring_at, suits_trigger, suits_of}
@@ -33,12 +33,12 @@ use Rattle.cf_setup.specs.declared.ask_buckets.Buckets.TheVariants as buckets
 use Rattle.cf_setup.specs.declared.statement.Statement.{Statement}
 use Rattle.cf_setup.specs.declared.statement.Statement.TheVariants as statements
 use Rattle.cf_lines.specs.Lines.{is_silent, word_at}
-use Rattle.cf_setup.specs.Drafts.{DraftValue, nothing_stated, attrs_of, with_lane, with_trigger, with_ask, index_over, filter_by, aggregate_by, tally_by}
+use Rattle.cf_setup.specs.Drafts.{DraftValue, nothing_stated, attrs_of, with_lane, with_trigger, with_ask, index_over, filter_by, aggregate_by, keyed_aggregate_by, tally_by}
 use Rattle.cf_setup.specs.Setups.{settled, shaped, IsSetup, IsDraft}
 use Rattle.cf_setup.specs.Few.{IsFew}
 use Rattle.cf_setup.specs.Forms.{StatementFormValue, is_schema_form}
-use Rattle.cf_setup.specs.Forms.StatementFormValue.{packet_schema, record_schema, bucket_width, new_index, new_filter, new_aggregate, new_tally, new_trigger, ask_list, ask_find, ask_buckets, ask_fired, ask_top, ask_groups, ask_total, ask_live}
-use Rattle.cf_setup.specs.Named.{place_in, is_index, is_filter, is_aggregate, is_tally, is_measuring, is_of, family_of, asked_of, lane_named, trigger_named}
+use Rattle.cf_setup.specs.Forms.StatementFormValue.{packet_schema, record_schema, bucket_width, new_index, new_filter, new_aggregate, new_keyed_aggregate, new_tally, new_trigger, ask_list, ask_find, ask_buckets, ask_fired, ask_top, ask_groups, ask_total, ask_live}
+use Rattle.cf_setup.specs.Named.{place_in, is_index, is_filter, is_aggregate, is_unkeyed, is_tally, is_measuring, is_of, family_of, asked_of, lane_named, trigger_named}
 use Rattle.cf_setup.specs.Rules.{rules, IsBroken}
 use Rattle.cf_setup.specs.Adds.{Adds, with_schema}
 use Rattle.cf_setup.specs.SetupText.{is_schema_statement, is_later, is_in_place, States, LineRead}
@@ -283,6 +283,16 @@ module _ (before : DraftValue) (attrs : List Attr) (is : IsSetup (settled before
       and_from (is_bucketed (shaped (settled before attrs) c w n) found.0) (is_some lane.measure)
       (and_from (exists (shaped (settled before attrs) c w n) found.0) (not (is_attr lane.key)) there.0 both.0) both.1
 
+  unkeyed_there : (name : List ℕ) (found : ℕ × Lane) (c w n : ℕ) → lane_named is_unkeyed before name ≡ Some found
+      → is_aggregate_at (shaped (settled before attrs) c w n) found.0 ≡ true
+  unkeyed_there name found c w n h =
+      let there = lane_there is_unkeyed name found c w n h in
+      let lane : Lane = lane_at (shaped (settled before attrs) c w n) found.0 in
+      let whole = and_parts (is_aggregate lane) (not (has_by lane.key)) there.1 in
+      let both = and_parts (not (is_attr lane.key)) (is_some lane.measure) whole.0 in
+      and_from (is_bucketed (shaped (settled before attrs) c w n) found.0) (is_some lane.measure)
+      (and_from (exists (shaped (settled before attrs) c w n) found.0) (not (is_attr lane.key)) there.0 both.0) both.1
+
   filter_there : (name : List ℕ) (found : ℕ × Lane) (c w n : ℕ) → lane_named is_filter before name ≡ Some found
       → is_bucketed (shaped (settled before attrs) c w n) found.0 ≡ true
   filter_there name found c w n h =
@@ -302,7 +312,7 @@ module _ (before : DraftValue) (attrs : List Attr) (is : IsSetup (settled before
   buckets_suit : (what : Buckets) (name : List ℕ) (found : ℕ × Lane) (first last c w n : ℕ) → lane_named (is_of (family_of what)) before name ≡ Some found
       → suits_of (shaped (settled before attrs) c w n) (asked_of what found.0 first last) ≡ true
   buckets_suit buckets.Between name found first last c w n h = filter_there name found c w n h
-  buckets_suit buckets.Measure name found first last c w n h = aggregate_there name found c w n h
+  buckets_suit buckets.Measure name found first last c w n h = unkeyed_there name found c w n h
 
   tally_there : (name : List ℕ) (found : ℕ × Lane) (c w n : ℕ) → lane_named is_tally before name ≡ Some found
       → is_tally_at (shaped (settled before attrs) c w n) found.0 ≡ true
@@ -357,6 +367,16 @@ aggregate_lawful attrs lane name found lawful e h =
     let first = and_parts (is_of_schema attrs lane.select) (is_lawful_key attrs lane.key) last.0 in
     and_from (is_of_schema attrs lane.select && true) (option_passes is_narrow (slice_get attrs found.0))
     (and_from (is_of_schema attrs lane.select) true first.0 refl) (passes_at is_narrow attrs name found e h)
+
+keyed_aggregate_lawful : (attrs : List Attr) (lane : Lane) (attr name : List ℕ) (found by : ℕ × Kind) → is_lawful_lane attrs lane ≡ true
+    → attr_named attrs attr ≡ Some found → is_narrow found.1 ≡ true → attr_named attrs name ≡ Some by → is_number by.1 ≡ true
+    → is_lawful_lane attrs (keyed_aggregate_by lane.select found.0 by.0) ≡ true
+keyed_aggregate_lawful attrs lane attr name found by lawful e narrow f number =
+    let last = and_parts (is_of_schema attrs lane.select && is_lawful_key attrs lane.key) (is_lawful_measure attrs lane.measure) lawful in
+    let first = and_parts (is_of_schema attrs lane.select) (is_lawful_key attrs lane.key) last.0 in
+    and_from (is_of_schema attrs lane.select && option_passes is_number (slice_get attrs by.0)) (option_passes is_narrow (slice_get attrs found.0))
+    (and_from (is_of_schema attrs lane.select) (option_passes is_number (slice_get attrs by.0)) first.0 (passes_at is_number attrs name by f number))
+    (passes_at is_narrow attrs attr found e narrow)
 
 tally_lawful : (attrs : List Attr) (attr measure text : List ℕ) (key measured : ℕ × Kind) (expr : List (List Atom))
     → attr_named attrs attr ≡ Some key → attr_named attrs measure ≡ Some measured → is_number key.1 ≡ true → is_narrow measured.1 ≡ true
@@ -435,6 +455,21 @@ later line before (new_aggregate name filter attr) new attrs e is k sign s h =
       e,
       lane_step before attrs is name (aggregate_by lane.1.select found.0) (λ full. s 9 (inr (inr (inr (inr (inl (refl, full)))))))
           (aggregate_lawful attrs lane.1 attr found (lane_lawful before attrs is is_filter filter lane h.2) known passes),
+    )
+later line before (new_keyed_aggregate name filter attr key) new attrs e is k sign s h =
+    let lane = h.0 in
+    let found = h.1 in
+    let by = h.2 in
+    let same : attrs_of before ≡ attrs = ap (λ o. unwrap_or o []) e in
+    let known : attr_named attrs attr ≡ Some found = ap (λ a. attr_named a attr) (sym same) ∙ h.4 in
+    let key_known : attr_named attrs key ≡ Some by = ap (λ a. attr_named a key) (sym same) ∙ h.5 in
+    let narrow = kind_passes is_narrow (attr_named (attrs_of before) attr) found (λ b. s 8 (inr (inr (inr (inr (inl (refl, b))))))) h.4 in
+    let number = kind_passes is_number (attr_named (attrs_of before) key) by (λ b. s 8 (inr (inr (inr (inr (inr (inl (refl, b)))))))) h.5 in
+    subst (λ (x : DraftValue). (x.schema ≡ Some attrs) × IsSetup (settled x attrs)) (sym h.6) (
+      e,
+      lane_step before attrs is name (keyed_aggregate_by lane.1.select found.0 by.0)
+          (λ full. s 9 (inr (inr (inr (inr (inr (inr (inl (refl, full)))))))))
+          (keyed_aggregate_lawful attrs lane.1 attr key found by (lane_lawful before attrs is is_filter filter lane h.3) known narrow key_known number),
     )
 later line before (new_tally name attr measure expr) new attrs e is k sign s h =
     let key = h.0 in
@@ -524,6 +559,7 @@ started line (bucket_width number) new k h = absurd (false≢true k)
 started line (new_index name attr) new k h = absurd (false≢true k)
 started line (new_filter name expr) new k h = absurd (false≢true k)
 started line (new_aggregate name filter attr) new k h = absurd (false≢true k)
+started line (new_keyed_aggregate name filter attr key) new k h = absurd (false≢true k)
 started line (new_tally name attr measure expr) new k h = absurd (false≢true k)
 started line (new_trigger name aggregate part op number) new k h = absurd (false≢true k)
 started line (ask_list name expr) new k h = absurd (false≢true k)

@@ -20,7 +20,7 @@ use Rattle.cf_filter.proofs.ValueLaws.{value_only, value_found}
 use Rattle.cf_filter.proofs.ExprLaws.{expr_only}
 use Rattle.cf_setup.specs.Drafts.{DraftValue, attrs_of}
 use Rattle.cf_setup.specs.Forms.{StatementFormValue}
-use Rattle.cf_setup.specs.Forms.StatementFormValue.{packet_schema, record_schema, bucket_width, new_index, new_filter, new_aggregate, new_tally, new_trigger, ask_list, ask_find, ask_buckets, ask_fired, ask_top, ask_groups, ask_total, ask_live}
+use Rattle.cf_setup.specs.Forms.StatementFormValue.{packet_schema, record_schema, bucket_width, new_index, new_filter, new_aggregate, new_keyed_aggregate, new_tally, new_trigger, ask_list, ask_find, ask_buckets, ask_fired, ask_top, ask_groups, ask_total, ask_live}
 use Rattle.cf_setup.specs.Named.{place_in, is_of, lane_named, trigger_named, index_kind}
 use Rattle.cf_lines.specs.Schemas.{schema_at}
 use Rattle.cf_setup.specs.Rules.{Rule, Broken, rules, expr_rules, IsBroken}
@@ -250,6 +250,8 @@ ascends (bucket_width number) = (omega arith, tt)
 ascends (new_index name attr) = (omega arith, (omega arith, (omega arith, (omega arith, tt))))
 ascends (new_filter name expr) = (omega arith, (omega arith, expr_ascends expr))
 ascends (new_aggregate name filter attr) = (omega arith, (omega arith, (omega arith, (omega arith, (omega arith, tt)))))
+ascends (new_keyed_aggregate name filter attr key) =
+    (omega arith, (omega arith, (omega arith, (omega arith, (omega arith, (omega arith, (omega arith, tt)))))))
 ascends (new_tally name attr measure expr) = (omega arith, (omega arith, (omega arith, (omega arith, (omega arith, (omega arith, expr_ascends expr))))))
 ascends (new_trigger name aggregate part op number) = (omega arith, (omega arith, (omega arith, (omega arith, tt))))
 ascends (ask_list name expr) = (omega arith, (omega arith, expr_ascends expr))

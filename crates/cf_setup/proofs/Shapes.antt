@@ -20,6 +20,7 @@ exists passes (Some attr) h = refl
 key_is : (attrs : List Attr) (key : Key) → is_lawful_key attrs key ≡ true → key_exists attrs key ≡ true
 key_is attrs (keys.Attr attr) h = exists _ _ h
 key_is attrs keys.Bucket h = refl
+key_is attrs (keys.BucketBy attr) h = exists _ _ h
 
 measure_is : (attrs : List Attr) (measure : Option ℕ) → is_lawful_measure attrs measure ≡ true → measure_exists attrs measure ≡ true
 measure_is attrs None h = refl

@@ -13,9 +13,9 @@ use Rattle.cf_filter.specs.Reading.{attr_named}
 use Rattle.cf_filter.specs.Grammar.{ValueText, ExprRead}
 use Rattle.cf_setup.specs.declared.source.Source.{Source}
 use Rattle.cf_setup.specs.declared.source.Source.TheVariants.{Packets, Records}
-use Rattle.cf_setup.specs.Drafts.{DraftValue, attrs_of, with_lane, with_trigger, with_ask, index_over, filter_by, aggregate_by, tally_by}
+use Rattle.cf_setup.specs.Drafts.{DraftValue, attrs_of, with_lane, with_trigger, with_ask, index_over, filter_by, aggregate_by, keyed_aggregate_by, tally_by}
 use Rattle.cf_setup.specs.Forms.{StatementFormValue}
-use Rattle.cf_setup.specs.Forms.StatementFormValue.{packet_schema, record_schema, bucket_width, new_index, new_filter, new_aggregate, new_tally, new_trigger, ask_list, ask_find, ask_buckets, ask_fired, ask_top, ask_groups, ask_total, ask_live}
+use Rattle.cf_setup.specs.Forms.StatementFormValue.{packet_schema, record_schema, bucket_width, new_index, new_filter, new_aggregate, new_keyed_aggregate, new_tally, new_trigger, ask_list, ask_find, ask_buckets, ask_fired, ask_top, ask_groups, ask_total, ask_live}
 use Rattle.cf_setup.specs.Named.{place_in, is_index, is_filter, is_aggregate, is_tally, is_measuring, is_of, family_of, asked_of, lane_named, trigger_named, index_kind}
 use Rattle.cf_lines.specs.Schemas.{ListText}
 
@@ -40,6 +40,10 @@ Adds line before (new_filter name expr) new =
 Adds line before (new_aggregate name filter attr) new =
     (lane : ℕ × Lane) × (found : ℕ × Kind) × (lane_named is_filter before filter ≡ Some lane) × (attr_named (attrs_of before) attr ≡ Some found)
     × (new ≡ with_lane before name (aggregate_by lane.1.select found.0))
+Adds line before (new_keyed_aggregate name filter attr key) new =
+    (lane : ℕ × Lane) × (found by : ℕ × Kind) × (lane_named is_filter before filter ≡ Some lane) × (attr_named (attrs_of before) attr ≡ Some found)
+    × (attr_named (attrs_of before) key ≡ Some by)
+    × (new ≡ with_lane before name (keyed_aggregate_by lane.1.select found.0 by.0))
 Adds line before (new_tally name attr measure expr) new =
     (key measured : ℕ × Kind) × (read : List (List Atom)) × (attr_named (attrs_of before) attr ≡ Some key)
     × (attr_named (attrs_of before) measure ≡ Some measured)

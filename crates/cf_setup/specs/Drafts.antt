@@ -69,6 +69,10 @@ filter_by expr = record { select = expr; key = keys.Bucket; measure = None }
 abbrev pub aggregate_by : List (List Atom) → ℕ → Lane
 aggregate_by expr attr = record { select = expr; key = keys.Bucket; measure = Some attr }
 
+-- the same, with the rows of a bucket kept apart by the value of another attribute
+abbrev pub keyed_aggregate_by : List (List Atom) → ℕ → ℕ → Lane
+keyed_aggregate_by expr attr key = record { select = expr; key = keys.BucketBy key; measure = Some attr }
+
 -- the rows of an expression, by the value of an attribute, with another that is measured
 abbrev pub tally_by : List (List Atom) → ℕ → ℕ → Lane
 tally_by expr attr measure = record { select = expr; key = keys.Attr attr; measure = Some measure }

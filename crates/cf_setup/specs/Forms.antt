@@ -28,6 +28,7 @@ pub data StatementFormValue : Type 0 where
   new_index : (name attr : List ℕ) → StatementFormValue
   new_filter : (name expr : List ℕ) → StatementFormValue
   new_aggregate : (name filter attr : List ℕ) → StatementFormValue
+  new_keyed_aggregate : (name filter attr key : List ℕ) → StatementFormValue
   new_tally : (name attr measure expr : List ℕ) → StatementFormValue
   new_trigger : (name aggregate : List ℕ) (part : Part) (op : Op) (number : List ℕ) → StatementFormValue
   ask_list : (name expr : List ℕ) → StatementFormValue
@@ -106,13 +107,20 @@ index_form text = do
 abbrev pub filter_form : List ℕ → Option StatementFormValue
 filter_form text = option_map (λ name. new_filter name.0 name.1) (new_name text)
 
--- aggregate NAME FILTER ATTRIBUTE
+-- the word `by`, and an attribute that nothing follows
+abbrev pub by_words : List ℕ → Option (List ℕ)
+by_words text = do
+  word ← next_word text
+  key ← last_word word.1
+  if bytes_eq word.0 (codes "by") then Some key else None
+
+-- aggregate NAME FILTER ATTRIBUTE; aggregate NAME FILTER ATTRIBUTE by KEY
 abbrev pub aggregate_form : List ℕ → Option StatementFormValue
 aggregate_form text = do
   name ← new_name text
   filter ← next_word name.1
-  attr ← last_word filter.1
-  Some (new_aggregate name.0 filter.0 attr)
+  attr ← next_word filter.1
+  if is_blank attr.1 then Some (new_aggregate name.0 filter.0 attr.0) else option_map (new_keyed_aggregate name.0 filter.0 attr.0) (by_words attr.1)
 
 -- tally NAME ATTRIBUTE MEASURE EXPRESSION
 abbrev pub tally_form : List ℕ → Option StatementFormValue
@@ -195,6 +203,7 @@ form_value (reads.Width number) = bucket_width number.now
 form_value (reads.Index name attr) = new_index name.now attr.now
 form_value (reads.Filter name expr) = new_filter name.now expr.now
 form_value (reads.Aggregate name filter attr) = new_aggregate name.now filter.now attr.now
+form_value (reads.KeyedAggregate name over) = new_keyed_aggregate name.now over.filter.now over.attr.now over.key.now
 form_value (reads.Tally name by) = new_tally name.now by.attr.now by.measure.now by.expr.now
 form_value (reads.Trigger name on) = new_trigger name.now on.aggregate.now on.part on.op on.number.now
 form_value (reads.List name expr) = ask_list name.now expr.now
@@ -224,6 +233,7 @@ HasWords (bucket_width number) = Unit {0}
 HasWords (new_index name attr) = IsAscii name
 HasWords (new_filter name expr) = IsAscii name × (length expr < 2 ^ 32)
 HasWords (new_aggregate name filter attr) = IsAscii name
+HasWords (new_keyed_aggregate name filter attr key) = IsAscii name
 HasWords (new_tally name attr measure expr) = IsAscii name × (length expr < 2 ^ 32)
 HasWords (new_trigger name aggregate part op number) = IsAscii name
 HasWords (ask_list name expr) = IsAscii name × (length expr < 2 ^ 32)

@@ -9,6 +9,7 @@ use Rattle.cf_fold.specs.declared.trigger.Trigger.{Trigger}
 use Rattle.cf_shape.specs.declared.lane.Lane.{Lane}
 use Rattle.cf_shape.specs.declared.lane.Key.{Key}
 use Rattle.cf_shape.specs.declared.lane.Key.TheVariants as keys
+use Rattle.cf_shape.specs.Lanes.{has_by}
 use Rattle.cf_plain.specs.Asks.{is_attr}
 use Rattle.cf_filter.specs.Values.{◌>>=◌}
 use Rattle.cf_plain.specs.declared.ask.Ask.{Ask}
@@ -39,9 +40,13 @@ is_index lane = is_attr lane.key && not (is_some lane.measure)
 abbrev pub is_filter : Lane → Bool
 is_filter lane = not (is_attr lane.key) && not (is_some lane.measure)
 
--- the same, with an attribute that is measured
+-- the same, with an attribute that is measured, whether the rows of a bucket are kept apart or not
 abbrev pub is_aggregate : Lane → Bool
 is_aggregate lane = not (is_attr lane.key) && is_some lane.measure
+
+-- an aggregate that does not keep the rows of a bucket apart
+abbrev pub is_unkeyed : Lane → Bool
+is_unkeyed lane = is_aggregate lane && not (has_by lane.key)
 
 -- rows by an attribute, with another that is measured
 abbrev pub is_tally : Lane → Bool
@@ -56,13 +61,14 @@ abbrev pub is_of : Family → Lane → Bool
 is_of families.Index lane = is_index lane
 is_of families.Filter lane = is_filter lane
 is_of families.Aggregate lane = is_aggregate lane
+is_of families.Unkeyed lane = is_unkeyed lane
 is_of families.Tally lane = is_tally lane
 is_of families.Measuring lane = is_measuring lane
 
 -- the family of the lane whose buckets are asked about
 abbrev pub family_of : Buckets → Family
 family_of buckets.Between = families.Filter
-family_of buckets.Measure = families.Aggregate
+family_of buckets.Measure = families.Unkeyed
 
 -- the question about the lane's buckets between two
 abbrev pub asked_of : Buckets → ℕ → ℕ → ℕ → Ask
@@ -86,6 +92,7 @@ trigger_named before name = do
 abbrev pub kind_of_key : List Attr → Key → Option Kind
 kind_of_key attrs (keys.Attr attr) = option_map (λ attr. attr.kind) (slice_get attrs attr)
 kind_of_key attrs keys.Bucket = None
+kind_of_key attrs (keys.BucketBy attr) = None
 
 -- the kind of an index's values
 abbrev pub index_kind : DraftValue → List ℕ → Option Kind

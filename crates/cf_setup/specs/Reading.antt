@@ -29,9 +29,9 @@ use Rattle.cf_setup.specs.declared.parse.SetupFault.TheVariants.{Bad, Memory}
 use Rattle.cf_setup.specs.declared.source.Source.TheVariants.{Packets, Records}
 use Rattle.cf_setup.specs.Codes.{code_number}
 use Rattle.cf_lines.specs.Lines.{lines_of, is_silent, word_at}
-use Rattle.cf_setup.specs.Drafts.{DraftValue, nothing_stated, attrs_of, with_lane, with_trigger, with_ask, index_over, filter_by, aggregate_by, tally_by}
+use Rattle.cf_setup.specs.Drafts.{DraftValue, nothing_stated, attrs_of, with_lane, with_trigger, with_ask, index_over, filter_by, aggregate_by, keyed_aggregate_by, tally_by}
 use Rattle.cf_setup.specs.Forms.{StatementFormValue, statement_named, form_at}
-use Rattle.cf_setup.specs.Forms.StatementFormValue.{packet_schema, record_schema, bucket_width, new_index, new_filter, new_aggregate, new_tally, new_trigger, ask_list, ask_find, ask_buckets, ask_fired, ask_top, ask_groups, ask_total, ask_live}
+use Rattle.cf_setup.specs.Forms.StatementFormValue.{packet_schema, record_schema, bucket_width, new_index, new_filter, new_aggregate, new_keyed_aggregate, new_tally, new_trigger, ask_list, ask_find, ask_buckets, ask_fired, ask_top, ask_groups, ask_total, ask_live}
 use Rattle.cf_setup.specs.Named.{is_taken, place_in, is_index, is_filter, is_aggregate, is_tally, is_measuring, is_of, family_of, asked_of, lane_named, trigger_named, index_kind}
 use Rattle.cf_lines.specs.Schemas.{schema_at}
 use Rattle.cf_setup.specs.Rules.{Rule, rules, expr_rules}
@@ -132,6 +132,11 @@ added line before (new_aggregate name filter attr) = do
   lane ← lane_named is_filter before filter
   found ← attr_named (attrs_of before) attr
   Some (with_lane before name (aggregate_by lane.1.select found.0))
+added line before (new_keyed_aggregate name filter attr key) = do
+  lane ← lane_named is_filter before filter
+  found ← attr_named (attrs_of before) attr
+  by ← attr_named (attrs_of before) key
+  Some (with_lane before name (keyed_aggregate_by lane.1.select found.0 by.0))
 added line before (new_tally name attr measure expr) = do
   key ← attr_named (attrs_of before) attr
   measured ← attr_named (attrs_of before) measure

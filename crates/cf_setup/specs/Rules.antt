@@ -15,7 +15,7 @@ use Rattle.cf_setup.specs.declared.draft.Family.{Family}
 use Rattle.cf_setup.specs.declared.draft.Family.TheVariants as families
 use Rattle.cf_setup.specs.Drafts.{DraftValue, attrs_of}
 use Rattle.cf_setup.specs.Forms.{StatementFormValue}
-use Rattle.cf_setup.specs.Forms.StatementFormValue.{packet_schema, record_schema, bucket_width, new_index, new_filter, new_aggregate, new_tally, new_trigger, ask_list, ask_find, ask_buckets, ask_fired, ask_top, ask_groups, ask_total, ask_live}
+use Rattle.cf_setup.specs.Forms.StatementFormValue.{packet_schema, record_schema, bucket_width, new_index, new_filter, new_aggregate, new_keyed_aggregate, new_tally, new_trigger, ask_list, ask_find, ask_buckets, ask_fired, ask_top, ask_groups, ask_total, ask_live}
 use Rattle.cf_setup.specs.Named.{is_taken, place_in, is_of, family_of, lane_named, trigger_named, index_kind}
 use Rattle.cf_lines.specs.Schemas.{ListText}
 
@@ -76,6 +76,15 @@ rules (new_index name attr) = (5, free_name name) ∷ (6, known_attr attr) ∷ (
 rules (new_filter name expr) = (5, free_name name) ∷ (9, lane_room) ∷ expr_rules expr
 rules (new_aggregate name filter attr) =
     (5, free_name name) ∷ (6, known_lane families.Filter filter) ∷ (6, known_attr attr) ∷ (8, narrow_attr attr) ∷ (9, lane_room) ∷ []
+rules (new_keyed_aggregate name filter attr key) =
+    (5, free_name name)
+    ∷ (6, known_lane families.Filter filter)
+    ∷ (6, known_attr attr)
+    ∷ (6, known_attr key)
+    ∷ (8, narrow_attr attr)
+    ∷ (8, number_attr key)
+    ∷ (9, lane_room)
+    ∷ []
 rules (new_tally name attr measure expr) =
     (5, free_name name) ∷ (6, known_attr attr) ∷ (6, known_attr measure) ∷ (8, number_attr attr) ∷ (8, narrow_attr measure) ∷ (9, lane_room) ∷ expr_rules expr
 rules (new_trigger name aggregate part op number) =

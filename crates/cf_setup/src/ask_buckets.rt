@@ -27,7 +27,7 @@ impl Buckets {
     {
         match self {
             Buckets::Between => Family::Filter,
-            Buckets::Measure => Family::Aggregate,
+            Buckets::Measure => Family::Unkeyed,
         }
     }
 

@@ -60,7 +60,10 @@ impl Model for Draft {
 pub(crate) enum Family {
     Index,
     Filter,
+    /// An aggregate, by a key or not.
     Aggregate,
+    /// An aggregate that is not by a key.
+    Unkeyed,
     Tally,
     /// An aggregate or a tally.
     Measuring,
@@ -72,12 +75,17 @@ impl Family {
     {
         let is_indexed = match lane.key {
             Key::Attr(_) => true,
-            Key::Bucket => false,
+            Key::Bucket | Key::BucketBy(_) => false,
+        };
+        let is_keyed = match lane.key {
+            Key::BucketBy(_) => true,
+            Key::Attr(_) | Key::Bucket => false,
         };
         match self {
             Family::Index => is_indexed && lane.measure.is_none(),
             Family::Filter => !is_indexed && lane.measure.is_none(),
             Family::Aggregate => !is_indexed && lane.measure.is_some(),
+            Family::Unkeyed => !is_indexed && lane.measure.is_some() && !is_keyed,
             Family::Tally => is_indexed && lane.measure.is_some(),
             Family::Measuring => lane.measure.is_some(),
         }
@@ -209,7 +217,7 @@ impl Draft {
         let schema = self.schema.as_ref()?;
         match key {
             Key::Attr(attr) => Some(schema.attrs().get(attr as usize)?.kind),
-            Key::Bucket => None,
+            Key::Bucket | Key::BucketBy(_) => None,
         }
     }
 }

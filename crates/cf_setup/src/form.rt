@@ -3,7 +3,7 @@ ghost use Rattle.std.specs.Prelude.{◌≡◌, ◌<◌, ◌^◌, length, IfSome}
 ghost use Rattle.std.specs.Option.{option_map};
 ghost use Rattle.cf_setup.specs.Forms.{form_at, form_value, HasWords};
 
-use crate::aggregate::aggregate_form;
+use crate::aggregate::{Keyed, aggregate_form};
 use crate::ask::{Range, Ranking, ask_form};
 use crate::ask_buckets::Buckets;
 use crate::filter::filter_form;
@@ -40,6 +40,10 @@ pub(crate) enum StatementForm<'a> {
         name: &'a [u8],
         filter: &'a [u8],
         attr: &'a [u8],
+    },
+    KeyedAggregate {
+        name: &'a [u8],
+        over: Keyed<'a>,
     },
     Tally {
         name: &'a [u8],

@@ -5,7 +5,7 @@ ghost use Rattle.cf_setup.specs.Forms.{form_at, form_value, is_schema_form, HasW
 ghost use Rattle.cf_setup.specs.SetupText.{is_in_place as is_in_place_of, is_later as is_later_of};
 ghost use Rattle.cf_setup.specs.Reading.{form_read, line_read, ruled, said, Takes};
 
-use crate::aggregate::add_aggregate;
+use crate::aggregate::{add_aggregate, add_keyed_aggregate};
 use crate::ask_buckets::add_buckets;
 use crate::ask_find::add_find;
 use crate::ask_fired::add_fired;
@@ -71,6 +71,9 @@ fn add_statement(
         StatementForm::Filter { name, expr } => add_filter(alloc, line, draft, name, expr),
         StatementForm::Aggregate { name, filter, attr } => {
             add_aggregate(alloc, line, draft, name, filter, attr)
+        }
+        StatementForm::KeyedAggregate { name, over } => {
+            add_keyed_aggregate(alloc, line, draft, name, over)
         }
         StatementForm::Tally { name, by } => add_tally(alloc, line, draft, name, by),
         StatementForm::Trigger { name, on } => add_trigger(alloc, line, draft, name, on),

@@ -1,26 +1,28 @@
 -- What comes of asking questions by a reader.
-use Rattle.std.specs.Prelude.{◌≡◌, ◌⊎◌, ℕ, ◌+◌, ◌<◌, ◌≤◌, ◌==◌, List, [], ◌∷◌, ◌++◌, true, false, length, slice_get, Some, None, Result, Ok, Err, Vec}
+use Rattle.std.specs.Prelude.{◌≡◌, ◌⊎◌, ℕ, ◌+◌, ◌<◌, ◌≤◌, ◌==◌, List, [], ◌∷◌, ◌++◌, Bool, true, false, length, slice_get, Option, Some, None, Result, Ok, Err, Vec, if◌then◌else◌}
 use Rattle.std.specs.List.{flat_map, list_any}
 use Rattle.std.specs.Global.{Global}
 use Rattle.std.specs.Arc.{arc_value}
 use Rattle.cf_plain.specs.declared.ask.Ask.{Ask}
+use Rattle.cf_plain.specs.declared.ask.Ask.TheVariants as asks
 use Rattle.cf_plain.specs.declared.answer.Fired.{Fired}
-use Rattle.cf_plain.specs.declared.answer.Answer.{Answer}
 use Rattle.cf_plain.specs.declared.answer.Body.{Body}
 use Rattle.cf_plain.specs.declared.answer.Body.TheVariants as bodies
 use Rattle.cf_fold.specs.Quads.{QuadValue}
 use Rattle.cf_row.specs.Row.{Fits, RowValue}
+use Rattle.cf_shape.specs.Lanes.{ShapeValue, lane_at, has_by}
 use Rattle.cf_shape.specs.Uses.{is_measured}
 use Rattle.cf_setup.specs.Setups.{SetupValue}
 use Rattle.cf_setup.specs.SetupText.{SetupText}
 use Rattle.cf_plain.specs.Asks.{Suits, eval, row_at, rows_in}
-use Rattle.cf_plain.specs.Groups.{groups}
+use Rattle.cf_plain.specs.Groups.{groups, first_key, other_key}
 use Rattle.cf_walk.specs.Walks.{OnlyWalked}
 use Rattle.cf_table.specs.Moves.{OnlyLooked}
 use Rattle.cf_table.specs.Values.{PassValue}
 use Rattle.cf_query.specs.Asking.{HasAsked}
 use Rattle.cf_store.specs.declared.held.Shared.{Shared}
 use Rattle.cf_store.specs.declared.held.Reader.{Reader}
+use Rattle.cf_store.specs.declared.reader.Told.{Told}
 use Rattle.cf_store.specs.Values.{ShowsRow}
 use Rattle.cf_store.specs.declared.shown.Head.{Head}
 use Rattle.cf_store.specs.declared.shown.ShownValue.{ShownValue}
@@ -34,13 +36,18 @@ use Rattle.cf_calls.specs.declared.refusals.LaneRefusal.TheVariants as lanes
 use Rattle.cf_calls.specs.declared.refusals.RowRefusal.{RowRefusal}
 use Rattle.cf_calls.specs.declared.refusals.RowRefusal.TheVariants as rows
 
--- a mark as its bucket or key, and then its value
-abbrev pub mark_words : Fired → List ℕ
-mark_words m = m.bucket ∷ m.value ∷ []
+-- a bucket or key, and then the value that keeps the rows of the bucket apart, if one does
+abbrev pub keys_words : ℕ → Option ℕ → List ℕ
+keys_words key None = key ∷ []
+keys_words key (Some by) = key ∷ by ∷ []
 
--- a group as its key, and then its quad
+-- a mark as its bucket or key, or as its bucket and key, and then its value
+abbrev pub mark_words : Fired → List ℕ
+mark_words m = keys_words m.bucket m.key ++ m.value ∷ []
+
+-- a group as its key, or as its bucket and key, and then its quad
 abbrev pub group_words : ℕ × QuadValue → List ℕ
-group_words g = g.0 ∷ g.1.count ∷ g.1.sum ∷ g.1.least ∷ g.1.greatest ∷ []
+group_words g = keys_words (first_key g.0) (other_key g.0) ++ g.1.count ∷ g.1.sum ∷ g.1.least ∷ g.1.greatest ∷ []
 
 -- the words of groups
 abbrev pub groups_words : List (ℕ × QuadValue) → List ℕ
@@ -54,26 +61,33 @@ body_words (bodies.Marks marks) = flat_map mark_words marks
 body_words (bodies.Tops marks) = flat_map mark_words marks
 body_words (bodies.Groups groups) = groups_words groups
 
--- the number of a body's kind
-abbrev pub body_kind : Body → ℕ
-body_kind (bodies.Places places) = 0
-body_kind (bodies.Total quad) = 1
-body_kind (bodies.Marks marks) = 2
-body_kind (bodies.Tops marks) = 3
-body_kind (bodies.Groups groups) = 4
+-- the question is for marks or groups of a lane that keeps the rows of a bucket apart by a key
+abbrev pub is_keyed : ShapeValue → Ask → Bool
+is_keyed shape (asks.Fired trigger) = has_by (lane_at shape trigger.agg).key
+is_keyed shape (asks.Groups lane) = has_by (lane_at shape lane).key
+is_keyed shape _ = false
+
+-- the number of a body's kind, by whether its question is so
+abbrev pub body_kind : Bool → Body → ℕ
+body_kind keyed (bodies.Places places) = 0
+body_kind keyed (bodies.Total quad) = 1
+body_kind keyed (bodies.Marks marks) = if keyed then 5 else 2
+body_kind keyed (bodies.Tops marks) = 3
+body_kind keyed (bodies.Groups groups) = if keyed then 6 else 4
 
 -- the question of that number was asked, and the body is its meaning on all that the pass has seen then
-pub record IsAnswer (shared : Shared) (question : ℕ) (m n : PassValue) (answer : Answer) : Type 0 where
+pub record IsAnswer (shared : Shared) (question : ℕ) (m n : PassValue) (told : Told) : Type 0 where
   pub ask : Ask
   pub at : slice_get shared.setup.asks question ≡ Some ask
   pub asked : HasAsked shared.log.shape m n
-  pub tail : answer.tail ≡ length (n.view).seen
-  pub body : answer.body ≡ eval shared.log.shape ask (n.view).seen
+  pub tail : told.answer.tail ≡ length (n.view).seen
+  pub body : told.answer.body ≡ eval shared.log.shape ask (n.view).seen
+  pub keyed : told.keyed ≡ is_keyed shared.log.shape ask
 
 -- What asking a question of the setup by a pass of the log answers. If there is no such question, nothing is asked. If there is no memory,
 -- the pass has asked all the same.
-abbrev pub AnswersQuestion : Shared → ℕ → PassValue → PassValue → Result Answer AskRefusal → Type 0
-AnswersQuestion shared question m n (Ok answer) = IsAnswer shared question m n answer
+abbrev pub AnswersQuestion : Shared → ℕ → PassValue → PassValue → Result Told AskRefusal → Type 0
+AnswersQuestion shared question m n (Ok told) = IsAnswer shared question m n told
 AnswersQuestion shared question m n (Err NoQuestion) = (n ≡ m) × (slice_get shared.setup.asks question ≡ None)
 AnswersQuestion shared question m n (Err Memory) = HasAsked shared.log.shape m n
 
@@ -105,43 +119,45 @@ pub record SaysQuestion (shared : Shared) (line : List ℕ) (ask : Ask) : Type 0
   pub new : IsNewQuestion shared longer ask
 
 -- the question was asked, and the body is its meaning on all that the pass has seen then
-pub record IsAnswerTo (shared : Shared) (ask : Ask) (m n : PassValue) (answer : Answer) : Type 0 where
+pub record IsAnswerTo (shared : Shared) (ask : Ask) (m n : PassValue) (told : Told) : Type 0 where
   pub asked : HasAsked shared.log.shape m n
-  pub tail : answer.tail ≡ length (n.view).seen
-  pub body : answer.body ≡ eval shared.log.shape ask (n.view).seen
+  pub tail : told.answer.tail ≡ length (n.view).seen
+  pub body : told.answer.body ≡ eval shared.log.shape ask (n.view).seen
+  pub keyed : told.keyed ≡ is_keyed shared.log.shape ask
 
 -- What asking the question that a line says answers. If the line is faulty behind the setup's text, its code is that of such a text; if it
 -- says no question, nothing is asked. If there is no memory, the pass has asked, or all is as it was.
-abbrev pub AnswersLine : Shared → List ℕ → PassValue → PassValue → Result Answer LineRefusal → Type 0
-AnswersLine shared line m n (Ok answer) = (ask : Ask) × SaysQuestion shared line ask × IsAnswerTo shared ask m n answer
+abbrev pub AnswersLine : Shared → List ℕ → PassValue → PassValue → Result Told LineRefusal → Type 0
+AnswersLine shared line m n (Ok told) = (ask : Ask) × SaysQuestion shared line ask × IsAnswerTo shared ask m n told
 AnswersLine shared line m n (Err (said.Setup number code)) = (n ≡ m) × SetupText (with_line shared.text.items line) (Err (number, code))
 AnswersLine shared line m n (Err said.NoQuestion) = (n ≡ m) × ((ask : Ask) → SaysQuestion shared line ask → ⊥)
 AnswersLine shared line m n (Err said.Memory) = (n ≡ m) ⊎ HasAsked shared.log.shape m n
 
 -- the question of that number was asked of what the pass had seen, and the body is its meaning on that
-pub record IsSeenAnswer (shared : Shared) (question : ℕ) (m n : PassValue) (answer : Answer) : Type 0 where
+pub record IsSeenAnswer (shared : Shared) (question : ℕ) (m n : PassValue) (told : Told) : Type 0 where
   pub ask : Ask
   pub at : slice_get shared.setup.asks question ≡ Some ask
   pub walked : OnlyWalked m n
-  pub tail : answer.tail ≡ length (m.view).seen
-  pub body : answer.body ≡ eval shared.log.shape ask (m.view).seen
+  pub tail : told.answer.tail ≡ length (m.view).seen
+  pub body : told.answer.body ≡ eval shared.log.shape ask (m.view).seen
+  pub keyed : told.keyed ≡ is_keyed shared.log.shape ask
 
 -- What asking a question of the setup answers that is asked of what the pass has seen. If there is no memory, the pass has only walked.
-abbrev pub AnswersSeen : Shared → ℕ → PassValue → PassValue → Result Answer AskRefusal → Type 0
-AnswersSeen shared question m n (Ok answer) = IsSeenAnswer shared question m n answer
+abbrev pub AnswersSeen : Shared → ℕ → PassValue → PassValue → Result Told AskRefusal → Type 0
+AnswersSeen shared question m n (Ok told) = IsSeenAnswer shared question m n told
 AnswersSeen shared question m n (Err NoQuestion) = (n ≡ m) × (slice_get shared.setup.asks question ≡ None)
 AnswersSeen shared question m n (Err Memory) = OnlyWalked m n
 
 -- the head and the words of an answer
-pub record IsTold (answer : Answer) (head : Head) (words : List ℕ) : Type 0 where
-  pub tail : head.tail ≡ answer.tail
-  pub kind : head.kind ≡ body_kind answer.body
+pub record IsTold (told : Told) (head : Head) (words : List ℕ) : Type 0 where
+  pub tail : head.tail ≡ told.answer.tail
+  pub kind : head.kind ≡ body_kind told.keyed told.answer.body
   pub count : head.count ≡ length words
-  pub words_are : words ≡ body_words answer.body
+  pub words_are : words ≡ body_words told.answer.body
 
 -- The reader stays one of its log. It keeps the words of the answer that its pass was told; refused, those that it had.
-abbrev pub Keeps : {E : Type 0} → (PassValue → PassValue → Result Answer E → Type 0) → Reader → Reader → Result Head E → Type 0
-Keeps Asked m n (Ok head) = (n.of ≡ m.of) × ((answer : Answer) × Asked m.pass n.pass (Ok answer) × IsTold answer head n.words.items)
+abbrev pub Keeps : {E : Type 0} → (PassValue → PassValue → Result Told E → Type 0) → Reader → Reader → Result Head E → Type 0
+Keeps Asked m n (Ok head) = (n.of ≡ m.of) × ((told : Told) × Asked m.pass n.pass (Ok told) × IsTold told head n.words.items)
 Keeps Asked m n (Err refusal) = (n.of ≡ m.of) × (n.words.items ≡ m.words.items) × Asked m.pass n.pass (Err refusal)
 
 -- a question of the setup, at the tail
@@ -163,10 +179,11 @@ pub record AsksTail (m n : Reader) (tail : ℕ) : Type 0 where
   pub asked : HasAsked (arc_value m.of).log.shape m.pass n.pass
   pub tail_is : tail ≡ length (n.pass.view).seen
 
--- the lane is there, and measures something
+-- the lane is there, measures something, and does not keep the rows of a bucket apart
 pub record IsMeasured (shared : Shared) (lane : ℕ) : Type 0 where
   pub there : lane < length shared.log.shape.lanes
   pub measured : is_measured shared.log.shape lane ≡ true
+  pub whole : has_by (lane_at shared.log.shape lane).key ≡ false
 
 -- the head and the words of the lane's groups in what the pass has seen
 pub record AreGroups (shared : Shared) (lane : ℕ) (m : PassValue) (head : Head) (words : List ℕ) : Type 0 where

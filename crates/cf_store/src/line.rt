@@ -5,10 +5,11 @@ ghost use Rattle.cf_table.specs.Moves.{IsReading};
 ghost use Rattle.cf_store.specs.Asks.{AnswersLine, AsksLine, IsNewQuestion, ReadsLine, with_line as with_line_of};
 
 use crate::held::{Reader, Shared};
+use crate::reader::{Told, is_keyed};
 use crate::shown::Head;
 use cf_calls::LineRefusal;
 use cf_log::ask;
-use cf_plain::{Answer, Ask, suits};
+use cf_plain::{Ask, suits};
 use cf_row::Memory;
 use cf_setup::{Setup, SetupFault, parse_setup};
 use cf_table::ReaderPass;
@@ -56,7 +57,7 @@ fn ask_line_of(
     alloc: Global,
     pass: &mut ReaderPass,
     line: &[u8],
-) -> Result<Answer, LineRefusal>
+) -> Result<Told, LineRefusal>
     requires { IsReading shared.now.log pass.old }
     ensures answers { AnswersLine shared.now line.now pass.old pass.new result }
     ensures aware { IsReading shared.now.log pass.new }
@@ -71,8 +72,9 @@ fn ask_line_of(
     let Some(question) = new_question(shared, &longer) else {
         return Err(LineRefusal::NoQuestion);
     };
+    let keyed = is_keyed(shared.log.shape(), question);
     match ask(&shared.log, alloc, pass, question) {
-        Ok(answer) => Ok(answer),
+        Ok(answer) => Ok(Told { answer, keyed }),
         Err(_) => Err(LineRefusal::Memory),
     }
 }
@@ -82,11 +84,11 @@ impl Reader {
     pub fn ask_line(&mut self, alloc: Global, line: &[u8]) -> Result<Head, LineRefusal>
         ensures { AsksLine line.now self.old self.new result }
     {
-        let answer = match ask_line_of(&self.of, alloc, &mut self.pass, line) {
-            Ok(answer) => answer,
+        let told = match ask_line_of(&self.of, alloc, &mut self.pass, line) {
+            Ok(told) => told,
             Err(refusal) => return Err(refusal),
         };
-        match self.keep(alloc, &answer) {
+        match self.keep(alloc, &told) {
             Ok(head) => Ok(head),
             Err(_) => Err(LineRefusal::Memory),
         }

@@ -86,6 +86,7 @@ fn group_at(words: &[u64], place: usize) -> Group
     let at = 5 * place;
     Group {
         key: words[at],
+        by: None,
         quad: Quad::new(words[at + 1], words[at + 2], words[at + 3], words[at + 4]),
     }
 }

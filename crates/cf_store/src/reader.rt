@@ -1,11 +1,13 @@
 // Questions are asked by a reader of a log.
-ghost use Rattle.std.specs.Prelude.{◌≡◌, ◌<◌, [], ◌∷◌, length, map, IfOk, IfErr, MatchOption};
+ghost use Rattle.std.specs.Prelude.{◌≡◌, ◌<◌, [], ◌∷◌, ◌++◌, length, map, IfOk, IfErr, OnOk, MatchOption};
 ghost use Rattle.std.specs.List.{flat_map};
 ghost use Rattle.std.specs.Arc.{arc_value};
-ghost use Rattle.cf_plain.specs.Groups.{pair_of};
+ghost use Rattle.cf_shape.specs.Lanes.{both_keys};
+ghost use Rattle.cf_plain.specs.Asks.{Suits};
+ghost use Rattle.cf_plain.specs.Groups.{first_key, other_key, pair_of};
 ghost use Rattle.cf_table.specs.Moves.{IsReading};
 ghost use Rattle.cf_calls.specs.declared.refusals.AskRefusal.TheVariants.{Memory};
-ghost use Rattle.cf_store.specs.Asks.{AnswersQuestion, AnswersSeen, AsksAt, AsksSeen, AsksTail, FindsGroups, IsMeasured, IsTold, ReadsRow, ShowsRowAt, TellsGroups, groups_words, mark_words as mark_words_of, body_words as body_words_of, body_kind as body_kind_of};
+ghost use Rattle.cf_store.specs.Asks.{AnswersQuestion, AnswersSeen, AsksAt, AsksSeen, AsksTail, FindsGroups, IsMeasured, IsTold, ReadsRow, ShowsRowAt, TellsGroups, is_keyed as is_keyed_of, keys_words, mark_words as mark_words_of, group_words as group_words_of, groups_words, body_words as body_words_of, body_kind as body_kind_of};
 ghost use Rattle.cf_store.specs.Reports.{Reports};
 
 use crate::held::{Reader, Shared};
@@ -14,10 +16,10 @@ use crate::values::show_row;
 use cf_calls::{AskRefusal, LaneRefusal, RowRefusal};
 use cf_fold::Quad;
 use cf_log::{ask, ask_seen, groups_seen, row, tail};
-use cf_plain::{Answer, Body, Fired, Group};
+use cf_plain::{Answer, Ask, Body, Fired, Group};
 use cf_row::{Memory as NoMemory, Row};
 use cf_seen::report_seen;
-use cf_shape::measures;
+use cf_shape::{Shape, keeps_apart, measures};
 use cf_table::{Pass, ReaderPass};
 use std::alloc::Global;
 
@@ -38,13 +40,30 @@ fn quad_words(alloc: Global, quad: Quad) -> Result<Vec<u64>, NoMemory>
     Ok(words)
 }
 
+// Adds a bucket or a key, and then the value that keeps the rows of the bucket apart, if one does.
+fn push_keys(words: &mut Vec<u64>, key: u64, by: Option<u64>) -> Result<(), NoMemory>
+    ensures { OnOk result (words.new.items ≡ words.old.items ++ keys_words key by) }
+{
+    words.push(key)?;
+    match by {
+        None => Ok(()),
+        Some(by) => Ok(words.push(by)?),
+    }
+}
+
+fn push_mark(words: &mut Vec<u64>, mark: Fired) -> Result<(), NoMemory>
+    ensures { OnOk result (words.new.items ≡ words.old.items ++ mark_words_of mark) }
+{
+    push_keys(words, mark.bucket, mark.key)?;
+    Ok(words.push(mark.value)?)
+}
+
 fn mark_words(alloc: Global, marks: &[Fired]) -> Result<Vec<u64>, NoMemory>
     ensures { IfOk result (λ words. words.items ≡ flat_map mark_words_of marks.now) }
 {
     let mut words = Vec::new(alloc);
     for mark in marks {
-        words.push(mark.bucket)?;
-        words.push(mark.value)?;
+        push_mark(&mut words, *mark)?;
     }
     Ok(words)
 }
@@ -61,16 +80,55 @@ fn body_words(alloc: Global, body: &Body) -> Result<Vec<u64>, NoMemory>
     }
 }
 
-fn body_kind(body: &Body) -> u32
-    ensures { result ≡ body_kind_of body.now }
+fn body_kind(keyed: bool, body: &Body) -> u32
+    ensures { result ≡ body_kind_of keyed body.now }
 {
     match body {
         Body::Places(_) => 0,
         Body::Total(_) => 1,
-        Body::Marks(_) => 2,
+        Body::Marks(_) => if keyed { 5 } else { 2 },
         Body::Tops(_) => 3,
-        Body::Groups(_) => 4,
+        Body::Groups(_) => if keyed { 6 } else { 4 },
     }
+}
+
+// Whether the question is for marks or groups of a lane that keeps the rows of a bucket apart.
+pub(crate) fn is_keyed(shape: &Shape, question: &Ask) -> bool
+    requires { Suits shape.now question.now }
+    ensures { result ≡ is_keyed_of shape.now question.now }
+{
+    match question {
+        Ask::Fired(trigger) => keeps_apart(shape, trigger.agg),
+        Ask::Groups(lane) => keeps_apart(shape, *lane),
+        _ => false,
+    }
+}
+
+/// An answer, and whether its question is for marks or groups of a lane that keeps the rows of a bucket apart.
+#[derive(Drop)]
+pub(crate) struct Told {
+    pub(crate) answer: Answer,
+    pub(crate) keyed: bool,
+}
+
+// The same of keys, which are those of the number that they make.
+fn push_both_keys(words: &mut Vec<u64>, key: u64, by: Option<u64>) -> Result<(), NoMemory>
+    ensures { OnOk result (words.new.items ≡ words.old.items ++ keys_words (first_key (both_keys key by)) (other_key (both_keys key by))) }
+{
+    match by {
+        None => push_keys(words, key, None),
+        Some(by) => push_keys(words, key, Some(by)),
+    }
+}
+
+fn push_group(words: &mut Vec<u64>, group: Group) -> Result<(), NoMemory>
+    ensures { OnOk result (words.new.items ≡ words.old.items ++ group_words_of (pair_of group)) }
+{
+    push_both_keys(words, group.key, group.by)?;
+    words.push(group.quad.count())?;
+    words.push(group.quad.sum())?;
+    words.push(group.quad.least())?;
+    Ok(words.push(group.quad.greatest())?)
 }
 
 pub(crate) fn group_words(alloc: Global, groups: &[Group]) -> Result<Vec<u64>, NoMemory>
@@ -78,11 +136,7 @@ pub(crate) fn group_words(alloc: Global, groups: &[Group]) -> Result<Vec<u64>, N
 {
     let mut words = Vec::new(alloc);
     for group in groups {
-        words.push(group.key)?;
-        words.push(group.quad.count())?;
-        words.push(group.quad.sum())?;
-        words.push(group.quad.least())?;
-        words.push(group.quad.greatest())?;
+        push_group(&mut words, *group)?;
     }
     Ok(words)
 }
@@ -93,7 +147,7 @@ fn ask_of(
     alloc: Global,
     pass: &mut ReaderPass,
     number: u32,
-) -> Result<Answer, AskRefusal>
+) -> Result<Told, AskRefusal>
     requires { IsReading shared.now.log pass.old }
     ensures answers { AnswersQuestion shared.now number pass.old pass.new result }
     ensures aware { IsReading shared.now.log pass.new }
@@ -101,8 +155,9 @@ fn ask_of(
     let Some(question) = shared.setup.asks().get(number as usize) else {
         return Err(AskRefusal::NoQuestion);
     };
+    let keyed = is_keyed(shared.log.shape(), question);
     match ask(&shared.log, alloc, pass, question) {
-        Ok(answer) => Ok(answer),
+        Ok(answer) => Ok(Told { answer, keyed }),
         Err(_) => Err(AskRefusal::Memory),
     }
 }
@@ -113,7 +168,7 @@ fn ask_seen_of(
     alloc: Global,
     pass: &mut ReaderPass,
     number: u32,
-) -> Result<Answer, AskRefusal>
+) -> Result<Told, AskRefusal>
     requires { IsReading shared.now.log pass.old }
     ensures answers { AnswersSeen shared.now number pass.old pass.new result }
     ensures aware { IsReading shared.now.log pass.new }
@@ -122,21 +177,26 @@ fn ask_seen_of(
     let Some(question) = asks.get(number as usize) else {
         return Err(AskRefusal::NoQuestion);
     };
+    let keyed = is_keyed(shared.log.shape(), question);
     match ask_seen(&shared.log, alloc, pass, question) {
-        Ok(answer) => Ok(answer),
+        Ok(answer) => Ok(Told { answer, keyed }),
         Err(_) => Err(AskRefusal::Memory),
     }
 }
 
-// The lane of that number, if it is there and measures something.
+// The lane of that number, if it is there, measures something, and does not keep the rows of a bucket apart.
 fn measured(shared: &Shared, lane: u32) -> Option<u8>
     ensures { MatchOption result (IsMeasured shared.now lane → ⊥) (λ found. (found ≡ lane) × IsMeasured shared.now lane) }
 {
     let shape = shared.log.shape();
-    if lane as usize >= shape.lanes().len() || !measures(shape, lane as u8) {
+    if lane as usize >= shape.lanes().len() {
         return None;
     }
-    Some(lane as u8)
+    let lane = lane as u8;
+    if !measures(shape, lane) || keeps_apart(shape, lane) {
+        return None;
+    }
+    Some(lane)
 }
 
 // The words of the lane's groups in what the pass has seen.
@@ -163,17 +223,17 @@ fn groups_of(
 }
 
 impl Reader {
-    pub(crate) fn keep(&mut self, alloc: Global, answer: &Answer) -> Result<Head, AskRefusal>
+    pub(crate) fn keep(&mut self, alloc: Global, told: &Told) -> Result<Head, AskRefusal>
         ensures same { (self.new.of ≡ self.old.of) × (self.new.pass ≡ self.old.pass) }
-        ensures told { IfOk result (λ head. IsTold answer.now head self.new.words.items) }
+        ensures told { IfOk result (λ head. IsTold told.now head self.new.words.items) }
         ensures memory { IfErr result (λ refusal. (refusal ≡ Memory) × (self.new.words.items ≡ self.old.words.items)) }
     {
-        let Ok(words) = body_words(alloc, &answer.body) else {
+        let Ok(words) = body_words(alloc, &told.answer.body) else {
             return Err(AskRefusal::Memory);
         };
         let head = Head {
-            tail: answer.tail,
-            kind: body_kind(&answer.body),
+            tail: told.answer.tail,
+            kind: body_kind(told.keyed, &told.answer.body),
             count: words.len() as u64,
         };
         self.words = words;
@@ -185,7 +245,7 @@ impl Reader {
         ensures { AsksAt number self.old self.new result }
     {
         match ask_of(&self.of, alloc, &mut self.pass, number) {
-            Ok(answer) => self.keep(alloc, &answer),
+            Ok(told) => self.keep(alloc, &told),
             Err(refusal) => Err(refusal),
         }
     }
@@ -194,11 +254,12 @@ impl Reader {
     pub fn ask_seen(&mut self, alloc: Global, number: u32) -> Result<Head, AskRefusal>
         ensures { AsksSeen number self.old self.new result }
     {
-        let answer = ask_seen_of(&self.of, alloc, &mut self.pass, number)?;
-        self.keep(alloc, &answer)
+        let told = ask_seen_of(&self.of, alloc, &mut self.pass, number)?;
+        self.keep(alloc, &told)
     }
 
-    /// Tells the groups of a lane in what the reader has seen, and keeps their words: of each group its key, and its quad.
+    /// Tells the groups of a lane in what the reader has seen, and keeps their words: of each group its key, and its quad. A lane that
+    /// keeps the rows of a bucket apart is refused, as one that is not there.
     pub fn groups(&mut self, alloc: Global, lane: u32) -> Result<Head, LaneRefusal>
         ensures { TellsGroups lane self.old self.new result }
     {

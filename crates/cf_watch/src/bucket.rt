@@ -103,6 +103,7 @@ impl Bucket {
         let value = self.part(trigger.part).min(u128::from(u64::MAX));
         Fired {
             bucket: self.number,
+            key: None,
             value: value as u64,
         }
     }

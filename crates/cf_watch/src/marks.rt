@@ -55,6 +55,7 @@ fn listed(alloc: Global, values: &BTreeMap<u64, u64>) -> Result<Vec<Fired>, Memo
     for (bucket, value) in values {
         marks.push(Fired {
             bucket: *bucket,
+            key: None,
             value: *value,
         })?;
     }
