@@ -320,6 +320,7 @@ def drawn_setup(draw: random.Random) -> str:
     lines += [
         f"aggregate a{it} f{draw.randrange(2)} {draw.choice(('len', 'caplen', 'ttl'))}" for it in range(2)
     ]
+    lines.append(f"aggregate a2 f{draw.randrange(2)} len by {draw.choice(('src', 'dport', 'ts'))}")
     lines += [
         f"tally t{it} {draw.choice(('src', 'dport', 'ts'))} len {draw.choice(EXPRESSIONS)}" for it in range(2)
     ]
@@ -328,12 +329,13 @@ def drawn_setup(draw: random.Random) -> str:
         part = draw.choice(tuple(NUMBERS))
         limit = draw.randrange(NUMBERS[part] * 2)
         sign = draw.choice(("==", "!=", "<", "<=", ">", ">="))
-        lines.append(f"trigger g{it} a{draw.randrange(2)} {part} {sign} {limit}")
+        lines.append(f"trigger g{it} a{draw.randrange(3)} {part} {sign} {limit}")
     low, high = draw.randrange(8), draw.randrange(12)
     asks = [f"list {it}" for it in draw.sample(EXPRESSIONS, 3)]
     asks += [f"find i {low} {top}", f"between f0 {low} {high}", f"measure a0 {low} {high}"]
     asks += [f"fired g{draw.randrange(triggers)}", f"total len {draw.choice(EXPRESSIONS)}"]
     asks += [f"top t{at} {part} {draw.randrange(1, 9)}" for at in range(2) for part in NUMBERS]
+    asks += ["groups a0", "groups a2", "groups t1"]
     draw.shuffle(asks)
     return "\n".join([*lines, *(f"ask q{at} {it}" for at, it in enumerate(asks))]) + "\n"
 
