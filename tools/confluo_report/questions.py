@@ -16,7 +16,7 @@
     total ATTRIBUTE                   number, sum, least, greatest
     per UNIT MEASURE                  each second, minute, ..
     over N [MEASURE] in a UNIT        the units with more; under N ..: with less
-    over N [MEASURE] in a UNIT by KEY the same of each value, as who sends too much
+    over N [MEASURE] in a UNIT by KEY the same of each value
 
     All but list, find and count may end with: where CONDITION
 

@@ -4,11 +4,13 @@ from __future__ import annotations
 
 import json
 import pathlib
+import subprocess
+import sys
 import tempfile
 import unittest
 from unittest import mock
 
-from support import ROOT, tool
+from support import EXAMPLES, ROOT, confluo, needs_program, tool
 
 from confluo_report.errors import Complaint
 from confluo_report.incoming import Incoming
@@ -316,6 +318,36 @@ class Sums(unittest.TestCase):
             total.add(sum_of(plan, (at, 0), parts[at], "part"), plan)
         text = "".join(f"{it}\n" for it in lines_of(report_of(plan, total)))
         self.assertEqual(text, REPORT[: REPORT.index("live")])
+
+
+FLOOD = EXAMPLES / "flood"
+
+
+@needs_program
+class Flood(unittest.TestCase):
+    """The example in which two of fifteen clients flood a resolver."""
+
+    setup, capture, report = FLOOD / "flood.setup", FLOOD / "flood.pcap", (FLOOD / "flood.report").read_text()
+
+    def test_the_capture_is_what_its_script_writes(self) -> None:
+        with tempfile.NamedTemporaryFile() as file:
+            subprocess.run([sys.executable, FLOOD / "make_capture.py", file.name], check=True)
+            self.assertEqual(file.read(), self.capture.read_bytes())
+
+    def test_runs(self) -> None:
+        for words in (("--writers", 1), ("--writers", 4), ("--long", "--writers", 1, "--capacity", 100)):
+            ended = confluo("run", "--setup", self.setup, *words, self.capture)
+            final = "".join(it for it in ended.out.splitlines(True) if not it.startswith("order"))
+            self.assertEqual((ended.status, final), (0, self.report), words)
+
+    def test_each_client_is_told_once_for_a_second(self) -> None:
+        ended = confluo("watch", "--setup", self.setup, self.capture)
+        told = [it.rpartition(" @") for it in ended.out.splitlines() if it.startswith("alert") and " @" in it]
+        alerts = [it for it in self.report.splitlines() if it.startswith("alert")]
+        self.assertEqual([front for front, _, _ in told], alerts)
+        self.assertEqual(
+            ended.out.partition("records ")[2], f"456\nwindow 0\n{self.report.partition(chr(10))[2]}"
+        )
 
 
 if __name__ == "__main__":
