@@ -831,7 +831,9 @@ class Frames(Case):
             self.skipTest("pandas is missing: apt-get install python3-pandas")
         subprocess.run([TOOLS / "deb" / "stand_in.sh", self.folder], check=True)
         setup, good, bad = (self.folder / it for it in ("s.setup", "good.pcap", "bad.pcap"))
-        setup.write_text(SETUP.replace("dport==81", "len>9").replace("few a count < 2", "few a count == 2"))
+        text = SETUP.replace("dport==81", "len>9").replace("few a count < 2", "few a count == 2")
+        text += "aggregate b f len by src\ntrigger each b count >= 2\nask e fired each\nask k groups b\n"
+        setup.write_text(text)
         good.write_bytes(pcap([(1, frame(1)), (2, frame(2))]))
         bad.write_bytes(b"hello, world")
         named = {"CONFLUO_LIBRARY": str(self.folder / "libconfluo.so.0"), "CONFLUO": program()}
@@ -845,6 +847,10 @@ class Frames(Case):
         self.assertEqual((ran.returncode, ran.stderr), (0, ""))
         told, records, others, time_of_first, addresses, why = json.loads(ran.stdout)
         one, two = str(good), str(bad)
+        by_key = [
+            [0, 167772161, "10.0.0.1", 2, 108, 54, 54],
+            [1, 167772162, "10.0.0.2", 2, 108, 54, 54],
+        ]
         self.assertEqual(
             told,
             {
@@ -862,12 +868,18 @@ class Frames(Case):
                     ],
                 ],
                 "o": [["count", "sum", "least", "greatest"], [[4, 216, 54, 54]]],
+                "e": [["bucket", "time", "key", "text", "value"], [it[:4] for it in by_key]],
+                "k": [
+                    ["bucket", "time", "key", "text", "count", "sum", "least", "greatest"],
+                    by_key,
+                ],
             },
         )
         self.assertEqual((records, time_of_first), (4, "1970-01-01 00:00:00+00:00"))
         captures, alerts, left_out, alone, counted = others
         self.assertEqual(captures, [[one, 2, None]] * 2)
-        self.assertEqual(alerts, [["few", 0, 2], ["few", 1, 2]])
+        few = [["few", 0, None, None, 2], ["few", 1, None, None, 2]]
+        self.assertEqual(alerts, [*few, *(["each", *it[:4]] for it in by_key)])
         self.assertEqual([left_out[0][0], left_out[0][2]], [two, 3])
         self.assertEqual((alone, counted), ([[one, 0], [one, 1]], [[one, 2, None]]))
         self.assertEqual(addresses, ["a", "b", "c"])
