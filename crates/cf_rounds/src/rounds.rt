@@ -257,7 +257,13 @@ impl Rounds {
             Pushed::NoNodes => Ok(Taken::NoNodes),
             Pushed::NeedsDrop => Ok(Taken::Waits),
             Pushed::Gone => {
-                keep(alloc, &mut self.kept, &mut self.last, self.window.shape(), row)?;
+                keep(
+                    alloc,
+                    &mut self.kept,
+                    &mut self.last,
+                    self.window.shape(),
+                    row,
+                )?;
                 Ok(Taken::Gone)
             }
         }
@@ -278,7 +284,13 @@ impl Rounds {
         ensures gone { OnOk result (self.new ≡ record self.old { now = after_record self.old.terms self.old.now row.now; is_spent = false }) }
     {
         move_on(rt, alloc, &mut self.window, row)?;
-        keep(alloc, &mut self.kept, &mut self.last, self.window.shape(), row)
+        keep(
+            alloc,
+            &mut self.kept,
+            &mut self.last,
+            self.window.shape(),
+            row,
+        )
     }
 
     /// The end of the stream: a last round, and then how many records came, the number of the window's first, the answer of each question
