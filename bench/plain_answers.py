@@ -28,6 +28,11 @@ def quad_text(kind, it):
     return f"{kind} count {it['count']} sum {it['sum']} least {ends[0]} greatest {ends[1]}"
 
 
+def place_text(place):
+    """`KEY`, or `BUCKET/KEY`."""
+    return "/".join(map(str, place))
+
+
 def listed(kind, entries):
     return " ".join([f"{kind} {len(entries)}:", *map(str, entries)])
 
@@ -41,20 +46,24 @@ class Answers:
     def bucket(self, row):
         return row[0] // self.setup.nanoseconds
 
+    def place(self, lane, row):
+        """Under what the lane keeps a row: its key, or its bucket, and behind that what keeps the rows of a bucket apart."""
+        key = self.bucket(row) if lane.key is None else row[lane.key]
+        return (key,) if lane.by is None else (key, row[lane.by])
+
     def groups(self, lane):
-        """The quads of a lane by its key."""
+        """The quads of a lane by its places."""
         found = {}
         for row in self.rows:
             if lane.select.holds(row):
-                key = self.bucket(row) if lane.key is None else row[lane.key]
-                found.setdefault(key, []).append(row[lane.measure])
-        return {key: quad(values) for key, values in found.items()}
+                found.setdefault(self.place(lane, row), []).append(row[lane.measure])
+        return {place: quad(values) for place, values in found.items()}
 
     def marks(self, trigger):
-        """The buckets in which a trigger fires, with its part there."""
+        """The places in which a trigger fires, with its part there."""
         compare = {"==": int.__eq__, "!=": int.__ne__, "<": int.__lt__, "<=": int.__le__, ">": int.__gt__, ">=": int.__ge__}
         groups = sorted(self.groups(trigger.aggregate).items())
-        return [(b, it[trigger.part]) for b, it in groups if compare[trigger.operator](it[trigger.part], trigger.number)]
+        return [(place, it[trigger.part]) for place, it in groups if compare[trigger.operator](it[trigger.part], trigger.number)]
 
     def found(self, holds):
         return [k for k, row in enumerate(self.rows) if holds(row)]
@@ -74,19 +83,19 @@ class Answers:
         if ask.kind == "total":
             return quad_text("total", quad([row[ask.attribute] for row in self.rows if ask.expression.holds(row)]))
         if ask.kind == "fired":
-            return listed("fired", [f"{b}={value}" for b, value in self.marks(ask.trigger)])
+            return listed("fired", [f"{place_text(place)}={value}" for place, value in self.marks(ask.trigger)])
         if ask.kind == "groups":
             groups = sorted(self.groups(lane).items())
-            return listed("groups", [f"{key}=" + "/".join(map(str, it.values())) for key, it in groups])
-        ranked = sorted((-it[ask.part], key) for key, it in self.groups(lane).items())[:high]
-        return listed("top", [f"{key}={-value}" for value, key in ranked])
+            return listed("groups", [f"{place_text(place)}=" + "/".join(map(str, it.values())) for place, it in groups])
+        ranked = sorted((-it[ask.part], place) for place, it in self.groups(lane).items())[:high]
+        return listed("top", [f"{place_text(place)}={-value}" for value, place in ranked])
 
     def lines(self):
         """The final part."""
         yield f"records {len(self.rows)}"
         yield from (f"ask {it.name} {self.body(it)}" for it in self.setup.asks)
         for it in self.setup.triggers:
-            yield from (f"alert {it.name} {b} {value}" for b, value in self.marks(it))
+            yield from (f"alert {it.name} {place_text(place)} {value}" for place, value in self.marks(it))
 
 
 def report(setup, data, truncated=False):

@@ -20,11 +20,13 @@ sys.path[:0] = [str(ROOT / "tools"), str(ROOT / "bench")]
 import plain  # noqa: E402
 from confluo_report.commands import WordsFault, parse_words  # noqa: E402
 from confluo_report.setups import SetupFault, parse_setup  # noqa: E402
-from plain_answers import Answers, quad  # noqa: E402
+from plain_answers import Answers, place_text, quad  # noqa: E402
 
 MOST_READ = 65536
 MOST_RECORDS = 2**53 - 1
 MOST_KEPT = 4096
+# Of an aggregate by key: buckets, and pairs of a bucket and a key.
+MOST_APART, MOST_PAIRS = 8, 65536
 DEFAULTS = {"capacity": 65536, "segments": 4, "nodes": 65536, "every": 4096, "beat": 0}
 BITS = {"u8": 8, "u16": 16, "u32": 32, "u64": 64}
 SECTION, INTERFACE, SIMPLE, ENHANCED = 0x0A0D0D0A, 1, 3, 6
@@ -117,32 +119,92 @@ OPERATORS = {"==": int.__eq__, "!=": int.__ne__, "<": int.__lt__, "<=": int.__le
 GROWING = {"count": (">", ">="), "sum": (">", ">="), "greatest": (">", ">="), "least": ("<", "<=")}
 
 
+def settled(buckets, trigger, is_final):
+    """The buckets at which a trigger looks."""
+    if is_final or trigger.operator in GROWING[trigger.part]:
+        return buckets
+    return buckets[: max(len(buckets) - 2, 0)]
+
+
+def marks_of(trigger, values):
+    """The places whose values meet a trigger, with its part, ascending; `values` are places with what was measured in each."""
+    parts = ((place, quad(it)[trigger.part]) for place, it in values)
+    return sorted((place, min(part, 2**64 - 1)) for place, part in parts if OPERATORS[trigger.operator](part, trigger.number))
+
+
 class Kept:
     """Whole buckets of an aggregate, first the one whose last record came first; of each its values, and for which triggers it was told."""
 
     def __init__(self):
         self.buckets, self.told, self.count, self.sum = {}, set(), 0, 0
 
-    def first(self):
-        return next(iter(self.buckets))
+    def forgotten(self, bucket):
+        """The bucket that is forgotten with a record of this one."""
+        is_full = bucket not in self.buckets and len(self.buckets) == MOST_KEPT
+        return next(iter(self.buckets)) if is_full else None
 
-    def forgets(self, bucket):
-        return bucket not in self.buckets and len(self.buckets) == MOST_KEPT
+    def forget(self, gone):
+        del self.buckets[gone]
+        self.told = {it for it in self.told if it[1] != gone}
 
-    def take(self, bucket, value):
-        if self.forgets(bucket):
-            first = self.first()
-            del self.buckets[first]
-            self.told = {it for it in self.told if it[1] != first}
+    def take(self, value, bucket):
+        gone = self.forgotten(bucket)
+        if gone is not None:
+            self.forget(gone)
         self.buckets[bucket] = self.buckets.pop(bucket, []) + [value]
         self.count, self.sum = self.count + 1, (self.sum + value) % 2**64
 
     def marks(self, trigger, is_final):
-        settled = list(self.buckets)
-        if not is_final and trigger.operator not in GROWING[trigger.part]:
-            settled = settled[: max(len(settled) - 2, 0)]
-        parts = ((bucket, quad(self.buckets[bucket])[trigger.part]) for bucket in settled)
-        return sorted((b, min(part, 2**64 - 1)) for b, part in parts if OPERATORS[trigger.operator](part, trigger.number))
+        kept = settled(list(self.buckets), trigger, is_final)
+        return marks_of(trigger, (((bucket,), self.buckets[bucket]) for bucket in kept))
+
+    def fresh(self, trigger):
+        """The marks that were not told."""
+        return [it for it in self.marks(trigger, False) if (trigger.name, *it[0]) not in self.told]
+
+    def crowds(self):
+        """The crowded buckets that were not told."""
+        return []
+
+
+class KeptApart(Kept):
+    """The same of an aggregate by key: of each bucket the values of each key, and for which triggers the key was told; and the buckets in
+    which a record counted for nothing."""
+
+    def __init__(self):
+        super().__init__()
+        self.crowded, self.crowd_told = set(), set()
+
+    def forgotten(self, bucket, key):
+        if key in self.buckets.get(bucket, {}):
+            return None
+        if sum(map(len, self.buckets.values())) >= MOST_PAIRS:
+            return next((it for it in self.buckets if it != bucket), None)
+        is_full = bucket not in self.buckets and len(self.buckets) == MOST_APART
+        return next(iter(self.buckets)) if is_full else None
+
+    def forget(self, gone):
+        super().forget(gone)
+        self.crowded.discard(gone)
+        self.crowd_told.discard(gone)
+
+    def take(self, value, bucket, key):
+        gone = self.forgotten(bucket, key)
+        if gone is not None:
+            self.forget(gone)
+        self.buckets[bucket] = keys = self.buckets.pop(bucket, {})
+        if key in keys or len(keys) < MOST_PAIRS:
+            keys.setdefault(key, []).append(value)
+        else:
+            self.crowded.add(bucket)
+        self.count, self.sum = self.count + 1, (self.sum + value) % 2**64
+
+    def marks(self, trigger, is_final):
+        kept = settled(list(self.buckets), trigger, is_final)
+        return marks_of(trigger, (((bucket, key), it) for bucket in kept for key, it in self.buckets[bucket].items()))
+
+    def crowds(self):
+        return sorted(self.crowded - self.crowd_told)
 
 
 class Segment:
@@ -159,7 +221,7 @@ class Watch:
         self.setup, self.capacity, self.most_segments, self.most_nodes = setup, capacity, segments, nodes
         self.every, self.beat, self.most = every, beat, most
         self.count, self.asked, self.beaten, self.second, self.segments = 0, 0, 0, 0, []
-        self.kept = {it.name: Kept() for it in setup.lanes if it.family == "aggregate"}
+        self.kept = {it.name: Kept() if it.by is None else KeptApart() for it in setup.lanes if it.family == "aggregate"}
         self.lines = []
 
     @property
@@ -173,19 +235,21 @@ class Watch:
         return Window(self.setup, self.first, [row for it in self.segments for row in it.rows], marks_of)
 
     def selected(self, row):
-        """What is kept of each aggregate that selects the row, the row's bucket and what is measured of it."""
+        """What is kept of each aggregate that selects the row, the row's bucket with its key, and what is measured of it."""
         for lane in self.setup.lanes:
             if lane.family == "aggregate" and lane.select.holds(row):
-                yield self.kept[lane.name], row[0] // self.setup.nanoseconds, row[lane.measure]
+                bucket = row[0] // self.setup.nanoseconds
+                yield self.kept[lane.name], (bucket,) if lane.by is None else (bucket, row[lane.by]), row[lane.measure]
 
     def untold(self, row):
-        """Whether a bucket is forgotten with the row that has a mark not yet told."""
-        for kept, bucket, _ in self.selected(row):
-            if kept.forgets(bucket):
-                for it in self.setup.triggers:
-                    if self.kept[it.aggregate.name] is kept and (it.name, kept.first()) not in kept.told:
-                        if any(b == kept.first() for b, _ in kept.marks(it, False)):
-                            return True
+        """Whether a bucket is forgotten with the row that is crowded or has a mark, not yet told."""
+        for kept, place, _ in self.selected(row):
+            gone = kept.forgotten(*place)
+            if gone is None:
+                continue
+            triggers = [it for it in self.setup.triggers if self.kept[it.aggregate.name] is kept]
+            if gone in kept.crowds() or any(there[0] == gone for it in triggers for there, _ in kept.fresh(it)):
+                return True
         return False
 
     def nodes_of(self, row):
@@ -218,18 +282,21 @@ class Watch:
             self.segments.append(now)
         now.rows.append(row)
         now.nodes |= nodes
-        for kept, bucket, value in self.selected(row):
-            kept.take(bucket, value)
+        for kept, place, value in self.selected(row):
+            kept.take(value, *place)
         self.count, self.second = self.count + 1, row[0] // 10**9
 
     def round(self, is_last=False):
         """A round, which may be the last of all."""
+        for name, kept in self.kept.items():
+            for bucket in kept.crowds():
+                kept.crowd_told.add(bucket)
+                self.lines.append(f"crowded {name} {bucket} @{self.count}")
         for trigger in self.setup.triggers:
             kept = self.kept[trigger.aggregate.name]
-            for bucket, value in kept.marks(trigger, False):
-                if (trigger.name, bucket) not in kept.told:
-                    kept.told.add((trigger.name, bucket))
-                    self.lines.append(f"alert {trigger.name} {bucket} {value} @{self.count}")
+            for place, value in kept.fresh(trigger):
+                kept.told.add((trigger.name, *place))
+                self.lines.append(f"alert {trigger.name} {place_text(place)} {value} @{self.count}")
         if self.every and self.count - self.asked >= self.every:
             self.asked = self.count
             window = self.window(lambda trigger: self.marks(trigger, False))

@@ -811,6 +811,57 @@ class Program(Cases):
         self.assertEqual((status, len(alerts)), (0, 3))
         self.assertEqual([it.split(" @")[0] for it in alerts], ["alert t 7 60"] * 3)
 
+    def test_a_watch_by_key(self) -> None:
+        setup = (
+            b"schema packet\nfilter f *\nfilter g len>=10\naggregate a g len by src\ntrigger t a count >= 2\n"
+            b"trigger u a sum < 100\nask x fired t\nask y groups a\nlive x\n"
+        )
+        told = "alert t 1/167772161 2 @5\nlive x @0..5 fired 1: 1/167772161=2\n"
+        groups = "1/167772161=2/140/60/80 1/167772162=1/70/70/70 2/167772162=1/90/90/90"
+        fired = "ask x fired 1: 1/167772161=2\n"
+        final = "alert t 1/167772161 2\nalert u 1/167772162 70\nalert u 2/167772162 90\n"
+        beat = "at 5 2\ntotal a count 4 sum 300\n"
+        text = f"{told}{beat}records 5\nwindow 0\n{fired}ask y groups 3: {groups}\n{final}"
+        words = ("watch", "--setup", "s", "--every", "5", "--beat", "5", "c")
+        rows = ((1, 1, 60), (2, 1, 70), (1, 1, 80), (1, 1, 9), (2, 2, 90))
+        self.check(words, 0, text, s=setup, c=HEADER + b"".join(sent(*it) for it in rows))
+        # A mark that more records may undo waits for two later buckets, and is told before its bucket is forgotten.
+        rows = [(5, second, 60) for second in range(1, 21)]
+        self.put(c=HEADER + b"".join(sent(*it) for it in rows))
+        status, text = self.answer(("watch", "--setup", "s", "--every", "0", "c"))
+        lines = [it for it in text.splitlines() if it.startswith("alert")]
+        early = [it for it in lines if "@" in it]
+        self.assertEqual((status, [it.split()[2] for it in early]), (0, [f"{it}/167772165" for it in range(1, 19)]))
+        # With the ninth bucket the first is forgotten, of which a round told before; later rounds come every six.
+        self.assertEqual([it.split("@")[1] for it in early], ["8"] * 6 + ["14"] * 6 + ["20"] * 6)
+        self.assertEqual(lines[18:], [f"alert u {it}/167772165 60" for it in range(13, 21)])
+
+    def test_a_watch_keeps_so_many_pairs(self) -> None:
+        setup = b"schema packet\nfilter f *\naggregate a f len by src\ntrigger t a count >= 1\n"
+
+        def one(source: int, second: int) -> bytes:
+            packet = sent(0, second)
+            return packet[:42] + source.to_bytes(4, "big") + packet[46:]
+
+        # A round comes before the record of second 2, with which second 1 is forgotten. The last key of second 1 counted for nothing.
+        many = b"".join(one(source, 1) for source in range(65537))
+        self.put(s=setup, c=HEADER + many + one(8, 2))
+        status, text = self.answer(("watch", "--setup", "s", "--every", "0", "--beat", "65538", "c"))
+        self.assertEqual(status, 0)
+        lines = text.splitlines()
+        told = [it for it in lines if it.startswith("alert") and "@" in it]
+        wanted = [f"alert t 1/{source} 1" for source in range(65536)]
+        self.assertEqual([it.split(" @")[0] for it in told], [*wanted, "alert t 2/8 1"])
+        self.assertEqual(told[-1], "alert t 2/8 1 @65538")
+        self.assertEqual([it for it in lines if it.startswith("crowded")], ["crowded a 1 @65537"])
+        totals = ["at 65538 2", "total a count 65538 sum 3932280"]
+        self.assertEqual(lines[-5:], [*totals, "records 65538", "window 0", "alert t 2/8 1"])
+        # It is told once; later records of other keys count for nothing too, and those of kept keys go on.
+        self.put(s=setup.replace(b">= 1", b"> 1"), c=HEADER + many + one(70000, 1) + one(9, 1) * 2 + one(70001, 1))
+        status, text = self.answer(("watch", "--setup", "s", "--every", "0", "--beat", "65541", "c"))
+        end = ["crowded a 1 @65541", "alert t 1/9 3 @65541", "at 65541 1", "total a count 65541 sum 3932460"]
+        self.assertEqual((status, text.splitlines()), (0, [*end, "records 65541", "window 0", "alert t 1/9 3"]))
+
     def test_questions_of_a_watch_see_its_window(self) -> None:
         setup = (
             b"schema packet\nwidth 10000\nindex k caplen\nfilter f *\naggregate a f len\n"

@@ -1,6 +1,8 @@
 // A bucket whose keys are kept apart.
-ghost use Rattle.std.specs.Prelude.{◌≡◌, ◌<◌, ◌≤◌, ◌^◌, ◌&&◌, length, false, All, IfOk, OnErr, OnOk};
+ghost use Rattle.std.specs.Prelude.{◌≡◌, ◌<◌, ◌≤◌, ◌^◌, ◌&&◌, length, false, true, All, IfOk, OnErr, OnOk};
+ghost use Rattle.std.specs.List.{list_any};
 ghost use Rattle.cf_watch.specs.Kept.{AreApart, is_kept};
+ghost use Rattle.cf_watch.specs.Marks.{is_untold};
 
 use crate::bucket::Bucket;
 use crate::pairs::Pairs;
@@ -82,6 +84,14 @@ impl Apart {
             }
         }
         Ok(())
+    }
+
+    // Whether it is known that no key has a mark of the trigger that was not told, which has that place in the setup.
+    pub(crate) fn is_quiet(&self, trigger: &Trigger, place: u8) -> bool
+        requires { place < MOST_TRIGGERS }
+        ensures { result ≡ true → list_any (is_untold trigger.now place) self.now.pairs ≡ false }
+    {
+        self.pairs.is_quiet(trigger, place)
     }
 
     // Each key in which the trigger fires is told, for its place in the setup.

@@ -1,5 +1,5 @@
 // A bucket that is kept.
-ghost use Rattle.std.specs.Prelude.{◌≡◌, ℕ, ◌<◌, ◌^◌};
+ghost use Rattle.std.specs.Prelude.{◌≡◌, ℕ, ◌<◌, ◌^◌, false};
 ghost use Rattle.cf_row.specs.Expr.{compares};
 
 use crate::MOST_TRIGGERS;
@@ -119,7 +119,8 @@ impl Bucket {
     // It is told for the trigger at a place, if that fires in it.
     pub(crate) fn tell(&mut self, trigger: &Trigger, place: u8)
         requires { place < MOST_TRIGGERS }
-        ensures { self.new ≡ with_told trigger.now place self.old }
+        ensures told { self.new ≡ with_told trigger.now place self.old }
+        ensures quiet { is_untold_of trigger.now place self.new ≡ false }
     {
         if self.meets(trigger) {
             self.told[usize::from(place)] = true;

@@ -1,5 +1,5 @@
 // The marks of triggers on kept buckets.
-ghost use Rattle.std.specs.Prelude.{◌≡◌, ◌<◌, ◌≤◌, ◌++◌, length, take, drop, filter, map, IfOk, OnOk};
+ghost use Rattle.std.specs.Prelude.{◌≡◌, true, ◌<◌, ◌≤◌, ◌++◌, length, take, drop, filter, map, IfOk, OnOk};
 ghost use Rattle.std.specs.BTreeMap.{insert_entry};
 ghost use Rattle.std.specs.List.{list_any, range_with_len};
 ghost use Rattle.std.specs.Ordering.{nat_cmp};
@@ -138,4 +138,11 @@ pub(crate) fn is_untold_for_any(bucket: &Bucket, lane: u8, triggers: &[Trigger])
         }
     }
     is_untold
+}
+
+/// Whether both are the same trigger.
+pub(crate) fn is_same(trigger: &Trigger, other: &Trigger) -> bool
+    ensures { result ≡ true → trigger.now ≡ other.now }
+{
+    *trigger == *other
 }

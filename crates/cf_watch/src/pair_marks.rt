@@ -5,7 +5,7 @@ ghost use Rattle.std.specs.List.{list_any, range_with_len};
 ghost use Rattle.std.specs.Ordering.{nat_cmp};
 ghost use Rattle.cf_plain.specs.declared.answer.Fired.{Fired};
 ghost use Rattle.cf_watch.specs.Marks.{is_untold, meets, put_mark};
-ghost use Rattle.cf_watch.specs.PairMarks.{crowds_on, crowds_told, is_key_untold as is_key_untold_of, marks_in as marks_in_of, pair_fired, pair_mark, with_pairs_told};
+ghost use Rattle.cf_watch.specs.PairMarks.{crowds_on, crowds_told, is_key_untold as is_key_untold_of, marks_at, marks_in as marks_in_of, pair_fired, pair_mark, with_pairs_told};
 
 use crate::MOST_TRIGGERS;
 use crate::apart::Apart;
@@ -71,6 +71,22 @@ fn put_untold_marks(
     Ok(())
 }
 
+// The same of a bucket. It looks at the keys only if there may be one.
+fn put_untold_of(
+    values: &mut BTreeMap<u128, u64>,
+    apart: &Apart,
+    trigger: &Trigger,
+    place: u8,
+) -> Result<(), Memory>
+    requires { place < MOST_TRIGGERS }
+    ensures { OnOk result (map pair_fired values.new.entries ≡ fold put_mark (map pair_fired values.old.entries) (marks_at trigger.now (is_untold trigger.now place) apart.now)) }
+{
+    if apart.is_quiet(trigger, place) {
+        return Ok(());
+    }
+    put_untold_marks(values, apart.number(), apart.pairs(), trigger, place)
+}
+
 // The marks of such a map, ascending.
 fn listed(alloc: Global, values: &BTreeMap<u128, u64>) -> Result<Vec<Fired>, Memory>
     ensures { IfOk result (λ marks. marks.items ≡ map pair_fired values.now.entries) }
@@ -113,7 +129,7 @@ pub(crate) fn untold_marks_in(
 {
     let mut values = BTreeMap::new(alloc);
     for apart in buckets {
-        put_untold_marks(&mut values, apart.number(), apart.pairs(), trigger, place)?;
+        put_untold_of(&mut values, apart, trigger, place)?;
     }
     listed(alloc, &values)
 }

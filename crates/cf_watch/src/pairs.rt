@@ -1,34 +1,40 @@
 // The keys of a bucket that are kept apart.
-ghost use Rattle.std.specs.Prelude.{◌≡◌, ◌<◌, ◌^◌, [], ◌∷◌, ◌++◌, length, map, false, slice_index_or, slice_set, IfOk, MatchOption, OnErr, OnOk};
+ghost use Rattle.std.specs.Prelude.{◌≡◌, ◌<◌, ◌^◌, [], ◌∷◌, ◌++◌, length, map, false, true, slice_index_or, slice_set, IfOk, MatchOption, OnErr, OnOk};
 ghost use Rattle.cf_watch.specs.Kept.{AreApart, begun, is_kept, with_record};
-ghost use Rattle.cf_watch.specs.Marks.{with_told};
+ghost use Rattle.std.specs.List.{list_any};
+ghost use Rattle.cf_watch.specs.Marks.{is_untold, with_told};
 
 use crate::MOST_TRIGGERS;
 use crate::bucket::Bucket;
-use crate::marks::tell_first;
+use crate::marks::is_same;
 use cf_fold::Trigger;
 use cf_row::Memory;
 use std::alloc::Global;
 use std::collections::BTreeMap;
 use std::marker::Model;
 
-// What is kept of each key, in the order in which they came, the key standing for the number of a bucket; and their places by key.
+// What is kept of each key, in the order in which they came, the key standing for the number of a bucket; their places by key; and for each
+// place of the setup the trigger that told its marks there since the last record.
 #[derive(Drop)]
 pub(crate) struct Pairs {
     items: Vec<Bucket>,
     places: BTreeMap<u64, usize>,
+    quiet: [Option<Trigger>; MOST_TRIGGERS],
+    // a record came since, and none of them counts
+    is_changed: bool,
 }
 
 impl Model for Pairs {
     ghost use Rattle.std.specs.Prelude.{List};
     ghost use Rattle.cf_watch.specs.Kept.{BucketValue};
     ghost use Rattle.cf_watch.specs.Pairs.{IsIndexed};
+    ghost use Rattle.cf_watch.specs.PairMarks.{AreQuiet};
 
     ghost Value = { List BucketValue };
 
     ghost view = { λ p. p.items.items };
 
-    ghost invariant = { λ p. IsIndexed p.places p.items.items };
+    ghost invariant = { λ p. IsIndexed p.places p.items.items × AreQuiet p.is_changed p.quiet p.items.items };
 }
 
 impl Pairs {
@@ -39,6 +45,8 @@ impl Pairs {
         let mut pairs = Pairs {
             items: Vec::new(alloc),
             places: BTreeMap::new(alloc),
+            quiet: [None; MOST_TRIGGERS],
+            is_changed: true,
         };
         pairs.push(key, value)?;
         Ok(pairs)
@@ -78,6 +86,7 @@ impl Pairs {
     {
         let pair = &mut self.items[place];
         pair.add(value);
+        self.is_changed = true;
     }
 
     // A key that is not there begins with a record. Without memory nothing has changed.
@@ -86,6 +95,7 @@ impl Pairs {
         ensures ok { OnOk result (self.new ≡ self.old ++ begun key value ∷ []) }
         ensures err { OnErr result (self.new ≡ self.old) }
     {
+        self.is_changed = true;
         let place = self.items.len();
         self.items.push(Bucket::new(key, value))?;
         match self.places.insert(key, place) {
@@ -97,12 +107,44 @@ impl Pairs {
         }
     }
 
+    // Whether it is known that no key has a mark of the trigger that was not told, which has that place in the setup.
+    pub(crate) fn is_quiet(&self, trigger: &Trigger, place: u8) -> bool
+        requires { place < MOST_TRIGGERS }
+        ensures { result ≡ true → list_any (is_untold trigger.now place) self.now ≡ false }
+    {
+        if self.is_changed {
+            return false;
+        }
+        match &self.quiet[usize::from(place)] {
+            Some(told) => is_same(told, trigger),
+            None => false,
+        }
+    }
+
     // Each key in which the trigger fires is told, for its place in the setup.
     pub(crate) fn tell(&mut self, trigger: &Trigger, place: u8)
         requires { place < MOST_TRIGGERS }
         ensures { self.new ≡ map (with_told trigger.now place) self.old }
     {
-        let count = self.items.len();
-        tell_first(&mut self.items, count, trigger, place);
+        if self.is_quiet(trigger, place) {
+            return;
+        }
+        tell_all(&mut self.items, trigger, place);
+        if self.is_changed {
+            self.quiet = [None; MOST_TRIGGERS];
+            self.is_changed = false;
+        }
+        self.quiet[usize::from(place)] = Some(*trigger);
+    }
+}
+
+// Each key in which the trigger fires is told, for its place in the setup.
+fn tell_all(pairs: &mut [Bucket], trigger: &Trigger, place: u8)
+    requires { place < MOST_TRIGGERS }
+    ensures told { pairs.new ≡ map (with_told trigger.now place) pairs.old }
+    ensures quiet { list_any (is_untold trigger.now place) pairs.new ≡ false }
+{
+    for at in 0..pairs.len() {
+        pairs[at].tell(trigger, place);
     }
 }
