@@ -163,9 +163,12 @@ def _added(query: Query, listed: Listed) -> Known:
     sides = ("ts" if query.is_timed_pair else query.key, query.second)
     names = [it for side in sides for it in _names(side)]
     wanted = list(dict.fromkeys([*names, "kind", "etype", query.measure]))
+    is_of_six = any(it in WHOLE for it in sides)
     known: Known = {}
     for values in listed(wanted):
         named = dict(zip(wanted, values))
+        if is_of_six and not (named["kind"] and named["etype"] == ETYPE):
+            continue
         first, second = (_cell(side, named) for side in sides)
         if query.is_timed_pair:
             first = 4, named["ts"] // query.width

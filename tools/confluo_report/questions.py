@@ -316,21 +316,14 @@ def parts_of(query: Query) -> tuple[str, str]:
     Where there are none of a kind it is empty.
     """
     keys = (query.key, query.second)
-    narrower = (
-        ("", IPV6)
-        if any(it in WHOLE for it in keys)
-        else (NO_IPV6, OTHERS)
-        if any(it in BOTH for it in keys)
-        else None
-    )
     try:
-        return (
-            tuple(it and beside(query.expression, it) for it in narrower)
-            if narrower
-            else (query.expression, "")
-        )
+        if any(it in WHOLE for it in keys):
+            return "", beside(query.expression, IPV6)
+        if any(it in BOTH for it in keys):
+            return beside(query.expression, NO_IPV6), beside(query.expression, OTHERS)
     except TooLong:
         return "", query.expression
+    return query.expression, ""
 
 
 def beside(expression: str, narrower: str) -> str:

@@ -191,9 +191,10 @@ class Answers(unittest.TestCase):
     def test_conditions_that_are_too_long_are_listed(self) -> None:
         rows = drawn_rows(random.Random(2), 200, 6)
         condition = " or ".join(f"dport=={it}" for it in range(1, 30))
-        query = parse_question(f"top src, dport by bytes where {condition}")
-        answer = answer_over(query, rows, [])
-        self.assertEqual([(-it.value, it.cells) for it in answer.rows], expected(query, rows)[:10])
+        for keys in ("src, dport", "src6, dport", "dport, len", "second, dst"):
+            query = parse_question(f"top {keys} by bytes where {condition}")
+            answer = answer_over(query, rows, [])
+            self.assertEqual([(-it.value, it.cells) for it in answer.rows], expected(query, rows)[:10], keys)
 
 
 BAD = (
