@@ -150,10 +150,13 @@ def drawn_setup(draw):
     lines += [f"filter {name} {draw.choice(expressions)}" for name in filters]
     lines += [f"aggregate a {draw.choice(filters)} {draw.choice(['len', 'ttl', 'caplen'])}"]
     lines += ["index i src", "tally y dport len *"]
+    keyed = draw.choice(["a", "k"])
+    if keyed == "k":
+        lines += [f"aggregate k {draw.choice(filters)} {draw.choice(['len', 'ttl'])} by {draw.choice(['src', 'sport', 'proto', 'ts'])}"]
     for k in range(draw.randrange(1, 4)):
         part = draw.choice(["count", "sum", "least", "greatest"])
         compared_by = draw.choice([">", ">=", "<", "<=", "==", "!="])
-        lines.append(f"trigger t{k} a {part} {compared_by} {draw.choice([1, 2, 50, 100, 500])}")
+        lines.append(f"trigger t{k} {draw.choice(['a', keyed])} {part} {compared_by} {draw.choice([1, 2, 50, 100, 500])}")
     asks = [
         f"list {draw.choice(expressions)}",
         "find i 10.0.0.0 10.0.0.7",
@@ -162,6 +165,7 @@ def drawn_setup(draw):
         "fired t0",
         f"top y {draw.choice(['sum', 'count', 'least'])} {draw.choice([1, 3, 1000])}",
         "total len len>60",
+        f"groups {keyed}",
     ]
     draw.shuffle(asks)
     names = [f"q{k}" for k in range(draw.randrange(len(asks) + 1))]

@@ -145,6 +145,40 @@ class Rows(unittest.TestCase):
             alerts = [it.split()[2] for it in end.splitlines()[2:]]
             self.assertEqual(alerts, [str(it) for it in sorted(list(seconds)[-4096:])])
 
+    def test_keys_of_a_bucket_are_told_apart(self) -> None:
+        setup = b"schema packet\nfilter f *\naggregate a f len by src\ntrigger t a count >= 2\nask g fired t\nlive g\n"
+        sent = ((1, 1), (2, 1), (1, 1), (2, 1), (2, 2), (1, 2), (1, 2))
+        capture = pcap([(second, frame(source)) for source, second in sent])
+        size = (len(capture) - 24) // len(sent)
+        status, texts, end = plain_watch.watch(setup, capture, [24 + size * 3, size * 4], every=3)
+        first, second = "1/167772161", "1/167772162"
+        self.assertEqual(texts[0], f"alert t {first} 2 @3\nlive g @0..3 fired 1: {first}=2\n")
+        fired = f"fired 3: {first}=2 {second}=2 2/167772161=2"
+        later = f"alert t {second} 2 @7\nalert t 2/167772161 2 @7\nlive g @0..7 {fired}\n"
+        self.assertEqual((status, texts[1]), (0, later))
+        alerts = f"alert t {first} 2\nalert t {second} 2\nalert t 2/167772161 2\n"
+        self.assertEqual(end, f"records 7\nwindow 0\nask g {fired}\n{alerts}")
+
+    def test_so_many_pairs_are_kept(self) -> None:
+        kept = plain_watch.KeptApart()
+        for key in range(plain_watch.MOST_PAIRS - 1):
+            kept.take(60, 1, key)
+        # One more of another bucket goes in, and with the next the first bucket is forgotten.
+        kept.take(60, 2, 0)
+        self.assertEqual((kept.forgotten(1, 7), kept.forgotten(2, 1), kept.forgotten(3, 0)), (None, 1, 1))
+        # A record of a kept pair moves its bucket to the end.
+        kept.take(60, 1, 7)
+        self.assertEqual((kept.forgotten(3, 0), kept.forgotten(2, 1), kept.forgotten(1, 70000)), (2, 1, 2))
+        kept.take(60, 1, 70000)
+        self.assertEqual((list(kept.buckets), kept.crowds()), ([1], []))
+        kept.take(60, 1, 70001)
+        self.assertEqual((len(kept.buckets[1]), kept.crowds(), kept.count), (plain_watch.MOST_PAIRS, [1], 65539))
+        kept.take(60, 5, 0)
+        self.assertEqual((list(kept.buckets), kept.crowds()), ([5], []))
+        for bucket in range(6, 13):
+            kept.take(60, bucket, 0)
+        self.assertEqual((kept.forgotten(13, 0), kept.forgotten(5, 1)), (5, None))
+
     def test_nodes_open_a_segment(self) -> None:
         setup = b"schema packet\nindex i src\nask q find i 0 4294967295\nlive q\n"
         # Each source is a node apart from 6 that all share: 10.0.0.1 and 10.0.0.17 differ in their last digit but one.

@@ -3,6 +3,7 @@ use Rattle.std.proofs.Common.{◌≡◌, ℕ, zero, suc, ◌/◌, ◌<◌, ◌�
 use Rattle.std.proofs.Math.Nat.{div-le_self}
 use Rattle.std.proofs.lemmas.Bool.{and_parts, cases_order, eq-eqb, false≢true, le-ltb, lt-ltb, ltb-true, ne_eqb}
 use Rattle.std.specs.List.{AllByRecursion}
+use Rattle.std.specs.Option.{unwrap_or}
 use Rattle.cf_row.specs.declared.schema.Attr.{Attr}
 use Rattle.cf_row.specs.declared.schema.Kind.{Kind}
 use Rattle.cf_row.specs.declared.schema.Kind.TheVariants.{U8, U16, U32, U64, Bytes}
@@ -44,6 +45,14 @@ by_key shape (keys.BucketBy attr) row fits = bucket_low shape row fits
 
 pub key_low : (shape : ShapeValue) (lane : ℕ) (row : RowValue) → Fits shape.schema row → key_of shape lane row < 2 ^ 64
 key_low shape lane row fits = by_key shape (lane_at shape lane).key row fits
+
+in_low : (shape : ShapeValue) (key : Key) (row : RowValue) → Fits shape.schema row → unwrap_or (by_in key row) 0 < 2 ^ 64
+in_low shape (keys.Attr attr) row fits = omega arith
+in_low shape keys.Bucket row fits = omega arith
+in_low shape (keys.BucketBy attr) row fits = values_low shape.schema row.values attr fits
+
+pub by_low : (shape : ShapeValue) (lane : ℕ) (row : RowValue) → Fits shape.schema row → apart_by shape lane row < 2 ^ 64
+by_low shape lane row fits = in_low shape (lane_at shape lane).key row fits
 
 -- a lane that keeps no keys apart
 no_by : (key : Key) (row : RowValue) → has_by key ≡ false → by_in key row ≡ None

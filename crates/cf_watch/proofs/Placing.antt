@@ -50,7 +50,7 @@ pair_of (a ∷ rest) (suc i) b k d separate lt is =
     let differ : (a.bucket == b) ≡ false = ne_eqb a.bucket b (λ e. false≢true (sym separate.0 ∙ rw e found)) in
     rw differ (pair_of rest i b k d separate.1 below is)
 
-pair_bucket : (kept : List ApartValue) (b k : ℕ) → has_pair kept b k ≡ true → has_bucket kept b ≡ true
+pub pair_bucket : (kept : List ApartValue) (b k : ℕ) → has_pair kept b k ≡ true → has_bucket kept b ≡ true
 pair_bucket kept b k has = elim (cases_Bool (has_bucket kept b)) [
   | inl found ↦ found
   | inr none ↦ absurd (false≢true (sym (no_pair kept b k none) ∙ has))
@@ -101,11 +101,11 @@ not-false true is = refl
 not-false false is = absurd (false≢true (sym is))
 
 -- the bucket is not among the others
-gone : (kept : List ApartValue) (i b : ℕ) (d : ApartValue) → AreSeparate kept → i < length kept → (get_or kept i d).bucket ≡ b → has_bucket (remove kept i) b ≡ false
+pub gone : (kept : List ApartValue) (i b : ℕ) (d : ApartValue) → AreSeparate kept → i < length kept → (get_or kept i d).bucket ≡ b → has_bucket (remove kept i) b ≡ false
 gone kept i b d separate lt is = ap (λ ks. has_bucket ks b) (sym (one_of kept i b d separate lt is).0) ∙ elsewhere_lack kept b
 
 -- what is left is smaller by its pairs
-left_size : (kept : List ApartValue) (i : ℕ) (d : ApartValue) → i < length kept → pair_count (remove kept i) + length (get_or kept i d).pairs ≡ pair_count kept
+pub left_size : (kept : List ApartValue) (i : ℕ) (d : ApartValue) → i < length kept → pair_count (remove kept i) + length (get_or kept i d).pairs ≡ pair_count kept
 left_size kept i d lt = sum_by-remove (λ (a : ApartValue). length a.pairs) kept i d lt
 
 left_kept : (kept : List ApartValue) (count i : ℕ) → i < length kept → IsKeptApart kept count → IsKeptApart (remove kept i) count
@@ -262,7 +262,7 @@ none_left : (xs : List ApartValue) → length xs ≡ 0 → pair_count xs ≡ 0
 none_left [] none = refl
 none_left (x ∷ xs) none = absurd (omega (arith, none))
 
-found_place : (kept : List ApartValue) (b : ℕ) → has_bucket kept b ≡ true → (i : ℕ) × (i < length kept) × ((get_or kept i no_bucket).bucket ≡ b)
+pub found_place : (kept : List ApartValue) (b : ℕ) → has_bucket kept b ≡ true → (i : ℕ) × (i < length kept) × ((get_or kept i no_bucket).bucket ≡ b)
 found_place kept b found =
     let any = Any-from_list_any (is_at b) kept found in
     (any.0, any.2, ap (λ (a : ApartValue). a.bucket) (get_or_default kept any.0 no_bucket any.1 any.2 ∙ any.3) ∙ eqb-true any.1.bucket b any.4)

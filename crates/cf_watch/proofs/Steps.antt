@@ -18,7 +18,7 @@ same_quad : (a b c d a' b' c' d' : ℕ) → a ≡ a' → b ≡ b' → c ≡ c' �
 same_quad a b c d a' b' c' d' e f g h = rw (e, f, g, h) refl
 
 -- one number more
-plus_push : (xs : List ℕ) (n : ℕ) → plus (quad_of xs) n ≡ quad_of (xs ++ n ∷ [])
+pub plus_push : (xs : List ℕ) (n : ℕ) → plus (quad_of xs) n ≡ quad_of (xs ++ n ∷ [])
 plus_push [] n = same_quad 1 n n n 1 (sum (n ∷ [])) n n refl (omega arith) refl refl
 plus_push (x ∷ xs) n =
     let some : (suc (length xs) == 0) ≡ false = ne_eqb (suc (length xs)) 0 (λ e. omega (arith, e)) in

@@ -27,14 +27,14 @@ use Rattle.cf_watch.proofs.Told.{numbers_first}
 use Rattle.cf_watch.proofs.Totals.{row_step, rows_are_steps, selected}
 
 -- the bucket of a record
-abbrev bucket_in : Step → List ℕ
+abbrev pub bucket_in : Step → List ℕ
 bucket_in (took b n) = b ∷ []
 bucket_in (told trigger place) = []
 
-abbrev buckets_in : List Step → List ℕ
+abbrev pub buckets_in : List Step → List ℕ
 buckets_in steps = flat_map bucket_in steps
 
-abbrev has : List ℕ → ℕ → Bool
+abbrev pub has : List ℕ → ℕ → Bool
 has xs q = list_any (λ n. q == n) xs
 
 or_assoc : (a b c : Bool) → (a || b || c) ≡ (a || (b || c))
@@ -46,18 +46,18 @@ or_swap true true c = refl
 or_swap true false c = refl
 or_swap false b c = refl
 
-or_false : (a : Bool) → (a || false) ≡ a
+pub or_false : (a : Bool) → (a || false) ≡ a
 or_false true = refl
 or_false false = refl
 
-eq_swap : (a b : ℕ) → (a == b) ≡ (b == a)
+pub eq_swap : (a b : ℕ) → (a == b) ≡ (b == a)
 eq_swap a b = elim (cases_eq a b) [
   | inl e ↦ eq-eqb a b e ∙ sym (eq-eqb b a (sym e))
   | inr ne ↦ ne_eqb a b ne ∙ sym (ne_eqb b a (λ e. ne (sym e)))
 ]
 
 -- lists that ascend
-grows_by_one : (xs : List ℕ) (b : ℕ) → has xs b ≡ false → length (insert_into xs b) ≡ suc (length xs)
+pub grows_by_one : (xs : List ℕ) (b : ℕ) → has xs b ≡ false → length (insert_into xs b) ≡ suc (length xs)
 grows_by_one [] b none = refl
 grows_by_one (m ∷ ms) b none =
     let parts = or_parts (b == m) (has ms b) none in
@@ -75,7 +75,7 @@ never_shorter (m ∷ ms) b = elim (cases_order b m) [
   | inr (inr above) ↦ rw (le-ltb b m (omega (arith, above)), ne_eqb b m (λ e. omega (arith, e, above))) (omega (arith, never_shorter ms b))
 ]
 
-longer : (ms ns : List ℕ) → length ms ≤ length (fold insert_into ms ns)
+pub longer : (ms ns : List ℕ) → length ms ≤ length (fold insert_into ms ns)
 longer ms [] = omega arith
 longer ms (n ∷ ns) = omega (arith, never_shorter ms n, longer (insert_into ms n) ns)
 
@@ -83,7 +83,7 @@ none_above : (q m : ℕ) (xs : List ℕ) → q < m → AllByRecursion (λ x. m <
 none_above q m [] lt all = refl
 none_above q m (x ∷ xs) lt all = rw (ne_eqb q x (λ e. omega (arith, e, lt, all.0))) (none_above q m xs lt all.1)
 
-stays_as_long : (xs : List ℕ) (b : ℕ) → Rise xs → has xs b ≡ true → length (insert_into xs b) ≡ length xs
+pub stays_as_long : (xs : List ℕ) (b : ℕ) → Rise xs → has xs b ≡ true → length (insert_into xs b) ≡ length xs
 stays_as_long [] b rise found = absurd (false≢true found)
 stays_as_long (m ∷ ms) b rise found = elim (cases_order b m) [
   | inl e ↦ rw (le-ltb b m (omega (arith, e)), eq-eqb b m e) refl
@@ -122,13 +122,13 @@ split_length (k ∷ ks) b n = elim (cases_Bool (k.bucket == b)) [
   | inr other ↦ rw other (omega (arith, split_length ks b n))
 ]
 
-ascending_push : (bs : List ℕ) (b : ℕ) → ascending (bs ++ b ∷ []) ≡ insert_into (ascending bs) b
+pub ascending_push : (bs : List ℕ) (b : ℕ) → ascending (bs ++ b ∷ []) ≡ insert_into (ascending bs) b
 ascending_push bs b = fold_push insert_into [] bs b
 
-has_push : (bs : List ℕ) (b q : ℕ) → has (bs ++ b ∷ []) q ≡ (has bs q || (q == b))
+pub has_push : (bs : List ℕ) (b q : ℕ) → has (bs ++ b ∷ []) q ≡ (has bs q || (q == b))
 has_push bs b q = list_any-append (λ n. q == n) bs (b ∷ []) ∙ ap (λ t. has bs q || t) (or_false (q == b))
 
-has_again : (bs : List ℕ) (b q : ℕ) → has bs b ≡ true → has bs q ≡ (has bs q || (q == b))
+pub has_again : (bs : List ℕ) (b q : ℕ) → has bs b ≡ true → has bs q ≡ (has bs q || (q == b))
 has_again bs b q found = elim (cases_eq q b) [
   | inl e ↦ let here : has bs q ≡ true = ap (has bs) e ∙ found in rw here refl
   | inr ne ↦ rw (ne_eqb q b ne) (sym (or_false (has bs q)))
@@ -169,7 +169,7 @@ more_all : (kept : List BucketValue) (bs : List ℕ) (s : Step) → IsAll kept b
 more_all kept bs (took b n) is few = took_all kept bs b n is few
 more_all kept bs (told trigger place) is few = rw (append-nil bs) (told_all kept bs trigger place is)
 
-shorter_front : (xs ys : List ℕ) → length (ascending xs) ≤ length (ascending (xs ++ ys))
+pub shorter_front : (xs ys : List ℕ) → length (ascending xs) ≤ length (ascending (xs ++ ys))
 shorter_front xs ys = let e = ap length (fold-append insert_into [] xs ys) in omega (arith, e, longer (ascending xs) ys)
 
 from_all : (kept : List BucketValue) (bs : List ℕ) (steps : List Step) → IsAll kept bs → length (ascending (bs ++ buckets_in steps)) ≤ most_kept
@@ -184,7 +184,7 @@ from_all kept bs (s ∷ steps) is few =
 all_kept : (steps : List Step) → length (ascending (buckets_in steps)) ≤ most_kept → IsAll (after_steps steps) (buckets_in steps)
 all_kept steps few = from_all [] [] steps (record { members = λ q. refl; size = refl }) few
 
-no_values : (b : ℕ) (steps : List Step) → has (buckets_in steps) b ≡ false → values_of b steps ≡ []
+pub no_values : (b : ℕ) (steps : List Step) → has (buckets_in steps) b ≡ false → values_of b steps ≡ []
 no_values b [] none = refl
 no_values b (took q n ∷ steps) none =
     let parts = or_parts (b == q) (has (buckets_in steps) b) none in
@@ -256,7 +256,7 @@ above_filter p m (x ∷ xs) all = elim (cases_Bool (p x)) [
   | inr fail ↦ rw fail (above_filter p m xs all.1)
 ]
 
-rise_filter : (p : ℕ → Bool) (xs : List ℕ) → Rise xs → Rise (filter p xs)
+pub rise_filter : (p : ℕ → Bool) (xs : List ℕ) → Rise xs → Rise (filter p xs)
 rise_filter p [] rise = tt
 rise_filter p (x ∷ xs) rise = elim (cases_Bool (p x)) [
   | inl pass ↦ rw pass (above_filter p x xs rise.0, rise_filter p xs rise.1)
@@ -267,7 +267,7 @@ and_none : (a : Bool) → false ≡ (a && false)
 and_none true = refl
 and_none false = refl
 
-has_filter : (p : ℕ → Bool) (xs : List ℕ) (q : ℕ) → has (filter p xs) q ≡ (p q && has xs q)
+pub has_filter : (p : ℕ → Bool) (xs : List ℕ) (q : ℕ) → has (filter p xs) q ≡ (p q && has xs q)
 has_filter p [] q = and_none (p q)
 has_filter p (x ∷ xs) q = elim (cases_eq q x) [
   | inl e ↦ elim (cases_Bool (p x)) [

@@ -1,14 +1,17 @@
 -- What is so of buckets whose keys are kept apart, whatever records come and whenever marks and crowded buckets are told.
 use Rattle.std.specs.Prelude.{◌≡◌, ℕ, ◌<◌, ◌≤◌, true, false, ◌==◌, List, [], ◌∷◌, ◌++◌, length, filter, fold, map, All, Some}
 use Rattle.std.specs.List.{list_any}
-use Rattle.cf_row.specs.Row.{RowValue}
+use Rattle.cf_row.specs.Row.{Fits, RowValue}
 use Rattle.cf_fold.specs.declared.trigger.Trigger.{Trigger}
-use Rattle.cf_shape.specs.Lanes.{ShapeValue, key_of, measure_of, selected_by}
+use Rattle.cf_shape.specs.Lanes.{ShapeValue, has_by, key_of, lane_at, measure_of, selected_by}
+use Rattle.cf_plain.specs.Asks.{marks_over}
+use Rattle.cf_plain.specs.Groups.{ascending, keys_in}
 use Rattle.cf_plain.specs.declared.answer.Fired.{Fired}
 use Rattle.cf_watch.specs.Kept.{AreApart, most_triggers}
+use Rattle.cf_watch.specs.Laws.{shown_mark}
 use Rattle.cf_watch.specs.New.{is_on}
 use Rattle.cf_watch.specs.Pairs.{ApartValue, AreSeparate, apart_after, apart_by, has_bucket, most_apart, most_pairs, pair_count, taking_apart}
-use Rattle.cf_watch.specs.PairMarks.{apart_fresh, apart_telling, crowds_on, crowds_told}
+use Rattle.cf_watch.specs.PairMarks.{apart_fresh, apart_marks, apart_telling, crowds_on, crowds_told}
 
 -- what happens to the buckets of an aggregate by key: a record of a bucket and a key comes, of which so much is measured; the marks of the
 -- trigger at a place are told; or the crowded buckets are
@@ -65,3 +68,12 @@ RowsArePairSteps =
     (shape : ShapeValue) (lane : ℕ) (rows : List RowValue)
     → (apart_after shape lane rows).buckets
     ≡ after_pair_steps (map (λ row. took (key_of shape lane row) (apart_by shape lane row) (measure_of shape lane row)) (filter (selected_by shape lane) rows))
+
+-- If the records of an aggregate by key fit the schema and are in no more buckets, and in no more pairs of a bucket and a key, than are kept,
+-- then its triggers' marks in the final part are what they mean on all of them.
+abbrev pub WholePairs : Type 0
+WholePairs =
+    (shape : ShapeValue) (trigger : Trigger) (rows : List RowValue) → has_by (lane_at shape trigger.agg).key ≡ true → All (Fits shape.schema) rows
+    → length (ascending (map (key_of shape trigger.agg) (filter (selected_by shape trigger.agg) rows))) ≤ most_apart
+    → length (keys_in shape trigger.agg rows) ≤ most_pairs
+    → apart_marks trigger true (apart_after shape trigger.agg rows).buckets ≡ map shown_mark (marks_over shape trigger rows)

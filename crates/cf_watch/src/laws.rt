@@ -1,5 +1,5 @@
 // Laws of kept buckets.
-ghost use Rattle.cf_watch.specs.PairLaws.{KeepsFewPairs, RowsArePairSteps, TellsCrowdsOnce, TellsPairsOnce};
+ghost use Rattle.cf_watch.specs.PairLaws.{KeepsFewPairs, RowsArePairSteps, TellsCrowdsOnce, TellsPairsOnce, WholePairs};
 ghost use Rattle.cf_watch.specs.Laws.{GrowingStays, KeepsFew, QuadsAreWhole, RowsAreSteps, TellsOnce, TotalsAreOfAll, WholeStreams};
 
 /// At most [`MOST_KEPT`](crate::MOST_KEPT) buckets are kept of an aggregate, each once.
@@ -49,4 +49,10 @@ pub fn pairs_are_told_once()
 /// The buckets that are kept of an aggregate by key are those after the records that the lane selects.
 pub fn rows_are_kept_by_key()
     ensures { RowsArePairSteps }
+{}
+
+/// If the records of an aggregate by key are in at most [`MOST_APART`](crate::MOST_APART) buckets, and in at most
+/// [`MOST_PAIRS`](crate::MOST_PAIRS) pairs of a bucket and a key, then its triggers' marks in the final part are what they mean on all of them.
+pub fn whole_pairs_are_seen()
+    ensures { WholePairs }
 {}
