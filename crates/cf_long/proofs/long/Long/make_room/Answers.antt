@@ -13,7 +13,7 @@ use Rattle.cf_long.proofs.long.Long.make_room.Goals as goal
 pub returns-in_err-more-clause-unmade : goal.returns-in_err-more-clause-unmade
 returns-in_err-more-clause-unmade g c =
     let i = c.self.inside in
-    let v : LongValue = record { plan = i.plan; filling = i.filling; found = i.found.items; gone = i.gone } in
+    let v : LongValue = record { plan = i.plan; small = i.small; segment = i.segment; found = i.found.items; gone = i.gone } in
     let full = c.replace-full.result in
     let full_is : full ≡ i.filling = c.replace-full.ensures.value in
     let why = c.in_err-more.field-0.0 in
@@ -28,7 +28,7 @@ returns-in_err-more-clause-unmade g c =
 pub join_each-requires : goal.join_each-requires
 join_each-requires g c =
     let i = c.self.inside in
-    let v : LongValue = record { plan = i.plan; filling = i.filling; found = i.found.items; gone = i.gone } in
+    let v : LongValue = record { plan = i.plan; small = i.small; segment = i.segment; found = i.found.items; gone = i.gone } in
     let full = c.replace-full.result in
     let full_is : full ≡ i.filling = c.replace-full.ensures.value in
     let rows = c.requires.long.0 in
@@ -43,7 +43,7 @@ join_each-requires g c =
 pub returns-clause-long : goal.returns-clause-long
 returns-clause-long g c = λ rows is.
     let i = c.self.inside in
-    let v : LongValue = record { plan = i.plan; filling = i.filling; found = i.found.items; gone = i.gone } in
+    let v : LongValue = record { plan = i.plan; small = i.small; segment = i.segment; found = i.found.items; gone = i.gone } in
     let full = c.replace-full.result in
     let full_is : full ≡ i.filling = c.replace-full.ensures.value in
     let next = c.replace-full.new.dest in

@@ -23,7 +23,7 @@ pub returns-clause-takes : goal.returns-clause-takes
 returns-clause-takes g c =
     let old = c.args.self.now in
     let i = c.self.inside in
-    let v : LongValue = record { plan = i.plan; filling = i.filling; found = i.found.items; gone = i.gone } in
+    let v : LongValue = record { plan = i.plan; small = i.small; segment = i.segment; found = i.found.items; gone = i.gone } in
     let all = c.args.rows.now.items in
     let front = c.split_off.new.self.items in
     let rest = c.in_ok-rest.rest.items in
@@ -38,7 +38,7 @@ returns-clause-takes g c =
     let least = c.min-most.ensures in
     let cap : c.capacity.result ≡ (shape_in v).capacity = c.capacity.ensures.capacity ∙ ap (λ (h : ShapeValue). h.capacity) c.shape.ensures.shape in
     let has = c.count.ensures in
-    let low = subst (λ (l : LongValue). l.filling.count < (shape_in l).capacity) (sym c.self.view_is) c.in_ok-make_room.ensures.room in
+    let low = subst (λ (l : LongValue). count_in l.segment < (shape_in l).capacity) (sym c.self.view_is) c.in_ok-make_room.ensures.room in
     let room : v.filling.count + length front ≤ (shape_in v).capacity = omega (arith, size, short, least, cap, has, low) in
     takes_some old v keep count all front rest c.requires.follow split c.take_rows.new.self c.take_rows.ensures.keeps
     c.in_ok-take_rows.ensures.filled room
@@ -47,7 +47,7 @@ pub returns-clause-some : goal.returns-clause-some
 returns-clause-some g c =
     let old = c.args.self.now in
     let i = c.self.inside in
-    let v : LongValue = record { plan = i.plan; filling = i.filling; found = i.found.items; gone = i.gone } in
+    let v : LongValue = record { plan = i.plan; small = i.small; segment = i.segment; found = i.found.items; gone = i.gone } in
     let all = c.args.rows.now.items in
     let front = c.split_off.new.self.items in
     let rest = c.in_ok-rest.rest.items in
@@ -62,7 +62,7 @@ returns-clause-some g c =
     let least = c.min-most.ensures in
     let cap : c.capacity.result ≡ (shape_in v).capacity = c.capacity.ensures.capacity ∙ ap (λ (h : ShapeValue). h.capacity) c.shape.ensures.shape in
     let has = c.count.ensures in
-    let low = subst (λ (l : LongValue). l.filling.count < (shape_in l).capacity) (sym c.self.view_is) c.in_ok-make_room.ensures.room in
+    let low = subst (λ (l : LongValue). count_in l.segment < (shape_in l).capacity) (sym c.self.view_is) c.in_ok-make_room.ensures.room in
     let room : v.filling.count + length front ≤ (shape_in v).capacity = omega (arith, size, short, least, cap, has, low) in (
       c.requires.long.0 ++ front,
       takes_front old v keep count all front rest c.requires.follow split c.take_rows.new.self c.take_rows.ensures.keeps
@@ -73,7 +73,7 @@ pub returns-clause-follow : goal.returns-clause-follow
 returns-clause-follow g c =
     let old = c.args.self.now in
     let i = c.self.inside in
-    let v : LongValue = record { plan = i.plan; filling = i.filling; found = i.found.items; gone = i.gone } in
+    let v : LongValue = record { plan = i.plan; small = i.small; segment = i.segment; found = i.found.items; gone = i.gone } in
     let all = c.args.rows.now.items in
     let front = c.split_off.new.self.items in
     let rest = c.in_ok-rest.rest.items in
@@ -88,7 +88,7 @@ returns-clause-follow g c =
     let least = c.min-most.ensures in
     let cap : c.capacity.result ≡ (shape_in v).capacity = c.capacity.ensures.capacity ∙ ap (λ (h : ShapeValue). h.capacity) c.shape.ensures.shape in
     let has = c.count.ensures in
-    let low = subst (λ (l : LongValue). l.filling.count < (shape_in l).capacity) (sym c.self.view_is) c.in_ok-make_room.ensures.room in
+    let low = subst (λ (l : LongValue). count_in l.segment < (shape_in l).capacity) (sym c.self.view_is) c.in_ok-make_room.ensures.room in
     let room : v.filling.count + length front ≤ (shape_in v).capacity = omega (arith, size, short, least, cap, has, low) in
     follows old v keep count all front rest c.requires.follow split c.take_rows.new.self c.take_rows.ensures.keeps
     c.in_ok-take_rows.ensures.filled room c.requires.long.0 c.requires.long.1
