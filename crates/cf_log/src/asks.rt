@@ -135,7 +135,8 @@ pub fn measure<P: Pass>(log: &MultiLog, pass: &mut P, lane: u8, low: u64, high: 
 }
 
 /// The groups of a lane that measures something: for each key that a record has which is covered then, ascending, the key and the quad of
-/// what the lane measures of its records; and how many records are covered.
+/// what the lane measures of its records; and how many records are covered. Where the lane keeps the rows of a bucket apart, a group has
+/// those of one bucket and one value, and all records are gone over.
 pub fn groups<P: Pass>(
     log: &MultiLog,
     alloc: Global,

@@ -198,7 +198,7 @@ pub(crate) fn groups_seen_by<P: Pass, L: Ledger>(
     ensures walked { OnlyWalked (P.held pass.old) (P.held pass.new) }
 {
     let mut steps = Steps::<L>::new(blank);
-    cf_walk::groups(log, alloc, pass, lane, &mut steps)
+    cf_query::groups_seen(log, alloc, pass, lane, &mut steps)
 }
 
 pub(crate) fn row_by<P: Pass, L: Ledger>(

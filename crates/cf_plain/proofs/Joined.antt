@@ -13,7 +13,7 @@ use Rattle.cf_row.specs.Expr.{holds_of}
 use Rattle.cf_row.specs.Times.{number_at}
 use Rattle.cf_fold.specs.Quads.{QuadValue, quad_of, both}
 use Rattle.cf_fold.proofs.Together.{quad_together}
-use Rattle.cf_shape.specs.Lanes.{ShapeValue, selected_by, key_of, measure_of}
+use Rattle.cf_shape.specs.Lanes.{ShapeValue, selected_by, group_key, measure_of}
 use Rattle.cf_plain.specs.Asks.{row_at, no_row, places, counts_for, total_over, eval_rows}
 use Rattle.cf_plain.specs.Groups.{ascending, keys_in, has_key, group_of, groups}
 use Rattle.cf_plain.specs.Totals.{total}
@@ -96,11 +96,11 @@ total_append attr expr xs ys =
     let f : RowValue → ℕ = λ row. number_at row attr in
     ap quad_of (taken_append f (holds_of expr) xs ys) ∙ quad_append (map f (filter (holds_of expr) xs)) (map f (filter (holds_of expr) ys))
 
-none_above : (f : ℕ → QuadValue) (k m : ℕ) (ks : List ℕ) → k ≤ m → AllByRecursion (λ n. m < n) ks → quads_at k (pairs f ks) ≡ []
+pub none_above : (f : ℕ → QuadValue) (k m : ℕ) (ks : List ℕ) → k ≤ m → AllByRecursion (λ n. m < n) ks → quads_at k (pairs f ks) ≡ []
 none_above f k m [] le above = refl
 none_above f k m (n ∷ ks) le above = rw (ne_eqb n k (λ e. omega (arith, e, le, above.0))) (none_above f k m ks le above.1)
 
-quads_of_pairs : (f : ℕ → QuadValue) (k : ℕ) (ks : List ℕ) → Rise ks → quads_at k (pairs f ks) ≡ cond (list_any (λ n. k == n) ks) (f k ∷ []) []
+pub quads_of_pairs : (f : ℕ → QuadValue) (k : ℕ) (ks : List ℕ) → Rise ks → quads_at k (pairs f ks) ≡ cond (list_any (λ n. k == n) ks) (f k ∷ []) []
 quads_of_pairs f k [] rise = refl
 quads_of_pairs f k (m ∷ ks) rise = elim (cases_eq m k) [
   | inl e ↦ rw (eq-eqb m k e, eq-eqb k m (sym e))
@@ -108,9 +108,9 @@ quads_of_pairs f k (m ∷ ks) rise = elim (cases_eq m k) [
   | inr ne ↦ rw (ne_eqb m k ne, ne_eqb k m (λ e. ne (sym e))) (quads_of_pairs f k ks rise.1)
 ]
 
-keys_back : (f : ℕ → QuadValue) (ks : List ℕ) → map (λ (g : Pair). g.0) (pairs f ks) ≡ ks
-keys_back f [] = refl
-keys_back f (k ∷ ks) = ap (λ ns. k ∷ ns) (keys_back f ks)
+pub firsts_back : (f : ℕ → QuadValue) (ks : List ℕ) → map (λ (g : Pair). g.0) (pairs f ks) ≡ ks
+firsts_back f [] = refl
+firsts_back f (k ∷ ks) = ap (λ ns. k ∷ ns) (firsts_back f ks)
 
 map_agree : {X Y : Type 0} (f g : X → Y) → ((x : X) → f x ≡ g x) → (xs : List X) → map f xs ≡ map g xs
 map_agree f g same [] = refl
@@ -135,7 +135,7 @@ module _ (shape : ShapeValue) (lane : ℕ) where
 
   -- the keys of the selected rows, in order
   abbrev keys : List RowValue → List ℕ
-  keys rows = map (key_of shape lane) (filter (selected_by shape lane) rows)
+  keys rows = map (group_key shape lane) (filter (selected_by shape lane) rows)
 
   -- what the lane measures of one key's rows
   abbrev measures : ℕ → List RowValue → List ℕ
@@ -150,10 +150,10 @@ module _ (shape : ShapeValue) (lane : ℕ) where
       ap (λ gs. any (first gs)) (flat_map-cons (groups shape lane) rows parts)
       ∙ ap any (map-append (λ (g : Pair). g.0) (groups shape lane rows) (all_groups parts))
       ∙ list_any-append (λ n. q == n) (first (groups shape lane rows)) (first (all_groups parts))
-      ∙ ap₂ (λ a b. a || b) (ap any (keys_back (λ k. quad_of (measures k rows)) (keys_in shape lane rows)) ∙ any_ascending (keys rows) q) (any_keys q parts)
+      ∙ ap₂ (λ a b. a || b) (ap any (firsts_back (λ k. quad_of (measures k rows)) (keys_in shape lane rows)) ∙ any_ascending (keys rows) q) (any_keys q parts)
       ∙ sym (
       ap (λ rs. any (keys rs)) (flat_map-cons (λ (rs : List RowValue). rs) rows parts)
-      ∙ ap any (taken_append (key_of shape lane) (selected_by shape lane) rows (all_rows parts))
+      ∙ ap any (taken_append (group_key shape lane) (selected_by shape lane) rows (all_rows parts))
       ∙ list_any-append (λ n. q == n) (keys rows) (keys (all_rows parts))
       )
 
@@ -226,12 +226,12 @@ findings_tell shape (asks.Groups lane) rows = refl
 findings_tell shape (asks.Total attr expr) rows = refl
 
 module _ (shape : ShapeValue) (lane : ℕ) where
-  none_of_others : (row : RowValue) (k : ℕ) (ks : List ℕ) → key_of shape lane row ≤ k → AllByRecursion (λ n. k < n) ks
+  none_of_others : (row : RowValue) (k : ℕ) (ks : List ℕ) → group_key shape lane row ≤ k → AllByRecursion (λ n. k < n) ks
       → sum_by (λ n. cond (has_key shape lane n row) 1 0) ks ≡ 0
   none_of_others row k [] le above = refl
   none_of_others row k (n ∷ ks) le above =
       let here : has_key shape lane n row ≡ false =
-      rw (ne_eqb (key_of shape lane row) n (λ e. omega (arith, e, le, above.0))) (and_false (selected_by shape lane row)) in
+      rw (ne_eqb (group_key shape lane row) n (λ e. omega (arith, e, le, above.0))) (and_false (selected_by shape lane row)) in
       let none : ◌≡◌ {A = ℕ} (cond (has_key shape lane n row) 1 0) 0 = ap (λ b. cond b 1 0) here in
       let parts = sum_by-cons (λ m. cond (has_key shape lane m row) 1 0) n ks in
       omega (arith, parts, none, none_of_others row k ks le above.1)
@@ -241,14 +241,14 @@ module _ (shape : ShapeValue) (lane : ℕ) where
   one_key row [] rise = omega arith
   one_key row (k ∷ ks) rise =
       let parts = sum_by-cons (λ n. cond (has_key shape lane n row) 1 0) k ks in
-      elim (cases_eq (key_of shape lane row) k) [
+      elim (cases_eq (group_key shape lane row) k) [
         | inl e ↦
             let rest = none_of_others row k ks (omega (arith, e)) rise.0 in
             let most : cond {A = ℕ} (has_key shape lane k row) 1 0 ≤ 1 =
             elim (has_key shape lane k row) as (λ b. cond {A = ℕ} b 1 0 ≤ 1) [ true ↦ omega arith | false ↦ omega arith ] in
             omega (arith, parts, rest, most)
         | inr ne ↦
-            let here : has_key shape lane k row ≡ false = rw (ne_eqb (key_of shape lane row) k ne) (and_false (selected_by shape lane row)) in
+            let here : has_key shape lane k row ≡ false = rw (ne_eqb (group_key shape lane row) k ne) (and_false (selected_by shape lane row)) in
             let none : ◌≡◌ {A = ℕ} (cond (has_key shape lane k row) 1 0) 0 = ap (λ b. cond b 1 0) here in
             omega (arith, parts, none, one_key row ks rise.1)
       ]
@@ -293,7 +293,7 @@ module _ (shape : ShapeValue) (lane : ℕ) where
   pub groups_are_few : (rows : List RowValue) → numbers_in (groups shape lane rows) ≤ length rows
   groups_are_few rows =
       let ks = keys_in shape lane rows in
-      let rise = rise_ascending (map (key_of shape lane) (filter (selected_by shape lane) rows)) in
+      let rise = rise_ascending (map (group_key shape lane) (filter (selected_by shape lane) rows)) in
       omega (arith, numbers_of rows ks, no_more_than_rows ks rise rows)
 
 below : (p : ℕ → Bool) (m most a n : ℕ) → m + (a + n) ≤ most → AllByRecursion (λ place. m + place < most) (filter p (range_with_len a n))

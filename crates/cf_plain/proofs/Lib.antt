@@ -1,3 +1,4 @@
+pub mod BothKeys
 pub mod Grouped
 pub mod Scanned
 pub mod Rising
@@ -9,5 +10,7 @@ pub mod TopLaws
 pub mod Replays
 pub mod Joined
 pub mod Merging
+pub mod Ones
+pub mod Halves
 pub mod Ascending
 pub mod Beyond

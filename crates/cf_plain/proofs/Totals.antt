@@ -6,7 +6,7 @@ use Rattle.std.proofs.lemmas.List.Sums.{sum_by-cons}
 use Rattle.cf_row.specs.Row.{RowValue}
 use Rattle.cf_fold.specs.Quads.{QuadValue}
 use Rattle.cf_fold.proofs.Sorted.{AsOften, quad_is_one}
-use Rattle.cf_shape.specs.Lanes.{ShapeValue, selected_by, key_of, measure_of}
+use Rattle.cf_shape.specs.Lanes.{ShapeValue, selected_by, group_key, measure_of}
 use Rattle.cf_plain.specs.Asks.{total_over}
 use Rattle.cf_plain.specs.Groups.{keys_in, has_key, group_of, groups}
 use Rattle.cf_plain.proofs.Rising.{same_keys}
@@ -64,8 +64,8 @@ module _ (shape : ShapeValue) (rows others : List RowValue) (same : SameRows row
       map_agree (group_of shape lane rows) (group_of shape lane others) (λ k. ap (λ (q : QuadValue). (k, q)) (same_total lane (has_key shape lane k)))
       (keys_in shape lane rows)
       ∙ ap (map (group_of shape lane others))
-      (same_keys (map (key_of shape lane) (filter (selected_by shape lane) rows)) (map (key_of shape lane) (filter (selected_by shape lane) others))
-      (often (key_of shape lane) (selected_by shape lane) rows others same))
+      (same_keys (map (group_key shape lane) (filter (selected_by shape lane) rows)) (map (group_key shape lane) (filter (selected_by shape lane) others))
+      (often (group_key shape lane) (selected_by shape lane) rows others same))
 
   pub same_length : length rows ≡ length others
   same_length = sym (length_sum rows) ∙ same (λ row. 1) ∙ length_sum others

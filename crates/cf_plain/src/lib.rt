@@ -20,6 +20,7 @@ pub use calls::{Call, Reply, run_calls};
 pub use finding::Finding;
 pub use heaviest::{top, tops_are_heaviest};
 pub use history::{replies_are_histories, spelled_are_histories};
+pub use keys::read_keys;
 pub use loaded::{Live, Loaded};
 pub use plain::Plain;
 pub use segments::{findings_tell_answers, merge_groups};

@@ -6,7 +6,7 @@ ghost use Rattle.cf_plain.specs.Asks.{Suits, eval, rows_in};
 ghost use Rattle.cf_plain.specs.Groups.{as_group, groups as groups_by};
 
 use crate::scan::{grouped_by, groups_of, marks_of, places_of, tops_of, total_of};
-use crate::{Answer, Ask, Body, Group, total_of_expr};
+use crate::{Answer, Ask, Body, Group, read_keys, total_of_expr};
 use cf_row::{Entry, Memory, Row};
 use cf_shape::Shape;
 use std::alloc::Global;
@@ -90,7 +90,9 @@ impl Plain {
         requires measured { is_measured self.now.shape lane ≡ true }
         ensures { IfOk result (λ found. found.items ≡ map as_group (groups_by self.now.shape lane (rows_in self.now.entries))) }
     {
-        grouped_by(alloc, &self.shape, lane, self.entries.as_slice())
+        let found = grouped_by(alloc, &self.shape, lane, self.entries.as_slice())?;
+        read_keys(&found);
+        Ok(found)
     }
 
     fn body(&self, alloc: Global, ask: &Ask) -> Result<Body, Memory>

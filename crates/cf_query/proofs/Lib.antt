@@ -1,3 +1,4 @@
+pub mod Entries
 pub mod Asked
 pub mod Loaded
 pub mod Sealing

@@ -10,6 +10,7 @@ ghost use Rattle.cf_walk.specs.Walks.{OnlyWalked};
 ghost use Rattle.cf_query.specs.Asking.{HasAsked};
 ghost use Rattle.cf_query.specs.Walking.{AsksBucket, AsksOne, lane_of, steps_of_one, steps_of_bucket};
 
+use crate::apart::groups_seen;
 use crate::findings::{finding, finding_seen};
 use cf_fold::Quad;
 use cf_plain::{Answer, Ask, Group};
@@ -30,11 +31,11 @@ pub fn tail<P: Pass, L: Ledger>(log: &MultiLog, pass: &mut P, steps: &mut Steps<
     log.load_tail(pass, true, steps)
 }
 
-/// The question's meaning on the entries that are covered then, and how many they are. The read tail is loaded once, and
-/// the pass notes it. `List` and `Total` go over all entries; all others walk the lane's tree and chains. A question for one key
-/// takes one step for the read tail, one for each level of the tree and each writer, one for each place found, and at most
-/// one for each place past the tail; for the other kinds no bound is stated. If memory runs out, there is no answer, but the
-/// pass has asked all the same.
+/// The question's meaning on the entries that are covered then, and how many they are. The read tail is loaded once, and the
+/// pass notes it. `List` and `Total` go over all entries, and so do `Fired` and `Groups` where their lane keeps the rows of a
+/// bucket apart; all others walk the lane's tree and chains. A question for one key takes one step for the read tail, one for
+/// each level of the tree and each writer, one for each place found, and at most one for each place past the tail; for the
+/// other kinds no bound is stated. If memory runs out, there is no answer, but the pass has asked all the same.
 pub fn ask<P: Pass, L: Ledger>(
     log: &MultiLog,
     alloc: Global,
@@ -108,9 +109,10 @@ pub fn measure<P: Pass, L: Ledger>(
     (tail, quad)
 }
 
-/// The groups of a lane that measures something: for each key that an entry has which is covered then, ascending, the key and the
-/// quad of what the lane measures of its entries; and how many entries are covered. The read tail is loaded once, and the pass
-/// notes it. The lane's tree and chains are walked. If memory runs out, there is no answer, but the pass has asked all the same.
+/// The groups of a lane that measures something: for each key that an entry has which is covered then, ascending, the key and
+/// the quad of what the lane measures of its entries; and how many entries are covered. The read tail is loaded once, and the
+/// pass notes it. The lane's tree and chains are walked, or all entries are gone over where it keeps the rows of a bucket
+/// apart. If memory runs out, there is no answer, but the pass has asked all the same.
 pub fn groups<P: Pass, L: Ledger>(
     log: &MultiLog,
     alloc: Global,
@@ -128,6 +130,6 @@ pub fn groups<P: Pass, L: Ledger>(
     ensures loads { CountsLoads (P.held pass.old) (P.held pass.new) steps.old steps.new }
 {
     let tail = tail(log, pass, steps);
-    let groups = cf_walk::groups(log, alloc, pass, lane, steps)?;
+    let groups = groups_seen(log, alloc, pass, lane, steps)?;
     Ok((tail, groups))
 }

@@ -12,6 +12,7 @@ ghost use Rattle.cf_walk.specs.Walks.{OnlyWalked};
 ghost use Rattle.cf_query.specs.Asking.{HasAsked};
 ghost use Rattle.cf_query.specs.Walking.{AsksOne, AsksBucket, lane_of, steps_of_one, steps_of_bucket};
 
+use crate::apart::groups_seen;
 use crate::asks::tail;
 use crate::scans::finding_stretch;
 use cf_plain::{Ask, Finding, Groups};
@@ -21,7 +22,7 @@ use cf_walk::{find, measure_range};
 use std::alloc::Global;
 use std::sync::ledger::Ledger;
 
-// The groups of the lane, by its tree and chains.
+// The groups of the lane.
 fn groups_of<P: Pass, L: Ledger>(
     log: &MultiLog,
     alloc: Global,
@@ -38,14 +39,15 @@ fn groups_of<P: Pass, L: Ledger>(
     ensures walked { OnlyWalked (P.held pass.old) (P.held pass.new) }
     ensures loads { CountsLoads (P.held pass.old) (P.held pass.new) steps.old steps.new }
 {
-    let groups = cf_walk::groups(log, alloc, pass, lane, steps)?;
+    let groups = groups_seen(log, alloc, pass, lane, steps)?;
     Ok(Finding::Groups(Groups::new(groups)))
 }
 
 /// What the question finds in the entries that the pass has seen: in place of marks the groups of its lane. The read tail is not
 /// loaded, no ask is noted, and the pass only walks, so that several questions are asked of the same entries. `List` and `Total`
-/// go over all of them; all others walk the lane's tree and chains, in a step less than `ask` and `measure` say. If memory runs
-/// out, nothing is found, and the pass has only walked.
+/// go over all of them, and so do `Fired` and `Groups` where their lane keeps the rows of a bucket apart; all others walk the
+/// lane's tree and chains, in a step less than `ask` and `measure` say. If memory runs out, nothing is found, and the pass has
+/// only walked.
 pub fn finding_seen<P: Pass, L: Ledger>(
     log: &MultiLog,
     alloc: Global,
@@ -88,9 +90,9 @@ pub fn finding_seen<P: Pass, L: Ledger>(
 
 /// What the question finds in the entries that are covered then, and how many they are: in place of marks the groups of its
 /// lane, so that what it finds in another log can be joined to it. The read tail is loaded once, and the pass notes it. `List`
-/// and `Total` go over all entries; all others walk the lane's tree and chains, so that a question for one key or one bucket
-/// reads few words: as many as `ask` and `measure` say. If memory runs out, nothing is found, but the pass has asked all the
-/// same.
+/// and `Total` go over all entries, and so do `Fired` and `Groups` where their lane keeps the rows of a bucket apart; all
+/// others walk the lane's tree and chains, so that a question for one key or one bucket reads few words: as many as `ask` and
+/// `measure` say. If memory runs out, nothing is found, but the pass has asked all the same.
 pub fn finding<P: Pass, L: Ledger>(
     log: &MultiLog,
     alloc: Global,

@@ -1,5 +1,5 @@
 -- The keys of lanes, and how many nibbles they have.
-use Rattle.std.proofs.Common.{◌≡◌, ◌∙◌, ℕ, zero, suc, ◌^◌, ◌<◌, ◌≤◌, List, [], ◌∷◌, length, get_or, true, ◌&&◌, Option, Some, None, slice_get, refl, sym, ap, arith}
+use Rattle.std.proofs.Common.{◌≡◌, ◌∙◌, ℕ, zero, suc, ◌^◌, ◌<◌, ◌≤◌, List, [], ◌∷◌, length, get_or, true, false, ◌&&◌, Option, Some, None, slice_get, refl, sym, ap, arith}
 use Rattle.std.specs.List.{list_all}
 use Rattle.std.proofs.lemmas.Bool.{ltb-true}
 use Rattle.std.proofs.Math.Nat.{div-le_self}
@@ -16,7 +16,7 @@ use Rattle.cf_row.proofs.Bytes.{both}
 use Rattle.cf_shape.specs.declared.lane.Lane.{Lane}
 use Rattle.cf_shape.specs.declared.lane.Key.{Key}
 use Rattle.cf_shape.specs.declared.lane.Key.TheVariants as keys
-use Rattle.cf_shape.specs.Lanes.{ShapeValue, IsShape, no_lane, lane_at, key_by, key_of, option_passes, is_number, is_lawful_key, is_lawful_measure, is_lawful_lane}
+use Rattle.cf_shape.specs.Lanes.{ShapeValue, IsShape, no_lane, lane_at, bucket_of, key_by, key_of, has_by, by_in, both_keys, group_key, option_passes, is_number, is_lawful_key, is_lawful_measure, is_lawful_lane}
 use Rattle.cf_shape.specs.Nodes.{nibbles_of_kind, nibbles_of_attr, nibbles_of_key, levels_of}
 
 lawful_at : (attrs : List Attr) (lanes : List Lane) (l : ℕ) → list_all (is_lawful_lane attrs) lanes ≡ true → l < length lanes
@@ -46,6 +46,7 @@ attr_levels (Some attr) h = kind_levels attr.kind h
 key_levels : (attrs : List Attr) (key : Key) → is_lawful_key attrs key ≡ true → (2 ≤ nibbles_of_key attrs key) × (nibbles_of_key attrs key ≤ 16)
 key_levels attrs (keys.Attr a) h = attr_levels (slice_get attrs a) h
 key_levels attrs keys.Bucket h = (omega arith, omega arith)
+key_levels attrs (keys.BucketBy a) h = (omega arith, omega arith)
 
 -- a lane's keys have between 2 and 16 nibbles
 pub some_levels : (shape : ShapeValue) (l : ℕ) → IsShape shape → l < length shape.lanes → (2 ≤ levels_of shape l) × (levels_of shape l ≤ 16)
@@ -95,14 +96,27 @@ attr_small : (attrs : List Attr) (row : RowValue) (a : ℕ) (attr : Option Attr)
 attr_small attrs row a None fits at lawful = absurd (cc)
 attr_small attrs row a (Some attr) fits at lawful = number_small attr.kind (value_at row a) (value_fits attrs row.values a attr fits at) lawful
 
-key_small_by : (shape : ShapeValue) (row : RowValue) (key : Key) → Fits shape.schema row → is_lawful_key shape.schema key ≡ true
-    → key_by shape key row < 16 ^ nibbles_of_key shape.schema key
-key_small_by shape row (keys.Attr a) fits lawful = attr_small shape.schema row a (slice_get shape.schema a) fits refl lawful
-key_small_by shape row keys.Bucket fits lawful =
+bucket_small : (shape : ShapeValue) (row : RowValue) → Fits shape.schema row → bucket_of shape row < 16 ^ 16
+bucket_small shape row fits =
     let t = number_fits shape.schema row.values (ts_place shape.schema) fits in
     let d = div-le_self (time_of shape.schema row) shape.width in
     omega (arith, t, d)
 
+key_small_by : (shape : ShapeValue) (row : RowValue) (key : Key) → Fits shape.schema row → is_lawful_key shape.schema key ≡ true
+    → key_by shape key row < 16 ^ nibbles_of_key shape.schema key
+key_small_by shape row (keys.Attr a) fits lawful = attr_small shape.schema row a (slice_get shape.schema a) fits refl lawful
+key_small_by shape row keys.Bucket fits lawful = bucket_small shape row fits
+key_small_by shape row (keys.BucketBy a) fits lawful = bucket_small shape row fits
+
 pub key_small : (shape : ShapeValue) (l : ℕ) (row : RowValue) → IsShape shape → l < length shape.lanes → Fits shape.schema row
     → key_of shape l row < 16 ^ levels_of shape l
 key_small shape l row is lt fits = key_small_by shape row (lane_at shape l).key fits (lawful_key shape l is lt)
+
+-- The rows of a key that aren't kept apart go by the key alone.
+alone_by : (shape : ShapeValue) (row : RowValue) (key : Key) → has_by key ≡ false → both_keys (key_by shape key row) (by_in key row) ≡ key_by shape key row
+alone_by shape row (keys.Attr a) alone = refl
+alone_by shape row keys.Bucket alone = refl
+alone_by shape row (keys.BucketBy a) alone = absurd (cc)
+
+pub key_alone : (shape : ShapeValue) (l : ℕ) → has_by (lane_at shape l).key ≡ false → (row : RowValue) → group_key shape l row ≡ key_of shape l row
+key_alone shape l alone row = alone_by shape row (lane_at shape l).key alone

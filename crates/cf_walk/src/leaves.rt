@@ -1,5 +1,6 @@
 // The groups of a lane's entries by their keys.
-ghost use Rattle.std.specs.Prelude.{◌≡◌, ◌^◌, ◌<◌, ◌≤◌, length, map, true, IfOk};
+ghost use Rattle.std.specs.Prelude.{◌≡◌, ◌^◌, ◌<◌, ◌≤◌, length, map, true, false, IfOk};
+ghost use Rattle.cf_shape.specs.Lanes.{has_by, lane_at};
 ghost use Rattle.cf_shape.specs.Nodes.{levels_of};
 ghost use Rattle.cf_shape.specs.Uses.{is_measured};
 ghost use Rattle.cf_plain.specs.Asks.{rows_in};
@@ -35,6 +36,7 @@ fn add_group<P: Pass, L: Ledger>(
     requires range { keys.low ≤ keys.high }
     requires top { keys.high < 16 ^ levels_of log.now.shape keys.lane }
     requires measured { is_measured log.now.shape keys.lane ≡ true }
+    requires alone { has_by (lane_at log.now.shape keys.lane).key ≡ false }
     requires fit { AreFit log.now.shape (P.held pass.old).view }
     requires few { length (P.held pass.old).view.seen ≤ log.now.shape.capacity }
     requires path { IsPath log.now.shape keys.lane path.old (P.held pass.old).view }
@@ -48,6 +50,7 @@ fn add_group<P: Pass, L: Ledger>(
     if quad.count() > 0 {
         groups.push(Group {
             key: keys.low,
+            by: None,
             quad,
         })?;
     }
@@ -55,7 +58,7 @@ fn add_group<P: Pass, L: Ledger>(
 }
 
 /// For each key that an entry that was seen has, ascending, the key and the quad of what the lane measures of its entries.
-/// They are found by the lane's tree and chains.
+/// They are found by the lane's tree and chains. The lane doesn't keep the rows of a key apart.
 pub fn groups<P: Pass, L: Ledger>(
     log: &MultiLog,
     alloc: Global,
@@ -66,6 +69,7 @@ pub fn groups<P: Pass, L: Ledger>(
     requires of { IsOf (P.held pass.old) log.now }
     requires lane { lane < length log.now.shape.lanes }
     requires measured { is_measured log.now.shape lane ≡ true }
+    requires alone { has_by (lane_at log.now.shape lane).key ≡ false }
     requires fit { AreFit log.now.shape (P.held pass.old).view }
     requires few { length (P.held pass.old).view.seen ≤ log.now.shape.capacity }
     ensures found { IfOk result (λ found. found.items ≡ map as_group (groups_by log.now.shape lane (rows_in (P.held pass.old).view.seen))) }

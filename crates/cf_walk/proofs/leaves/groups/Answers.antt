@@ -40,5 +40,5 @@ returns-clause-found g c =
     let test = c.loop-last-test.false in
     let upto = v.grouped.upto in
     let end' : c.loop-last.last ≡ high = omega (arith, test, upto) in
-    all_groups s l high seen (c.loop-last.groups).items c.shape.ensures.lawful c.requires.lane c.requires.fit most
+    all_groups s l high seen (c.loop-last.groups).items c.shape.ensures.lawful c.requires.alone c.requires.lane c.requires.fit most
     (subst (λ (k : ℕ). HasGrouped s l 0 high (rows_in seen) [] (c.loop-last.groups).items k) end' v.grouped)
