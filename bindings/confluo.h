@@ -96,11 +96,11 @@
 ** adds calls or codes, and a patch mends what was not as this text says. All else that a program was built with stays while the soname
 ** (libconfluo.so.0) is the same; if it changes, also below 1.0, the soname's number is raised. abi.txt, beside this file in the sources,
 ** lists what C sees, and a test compares. The library is for Linux on x86-64. */
-#define CONFLUO_VERSION 4000
+#define CONFLUO_VERSION 5000
 
 /* The version of this text, counted in the same way: that of the release it comes with. A later one may ask for changes in the source of a
 ** program, and CHANGELOG.md names them; what was built with an earlier one goes on while the soname is the same. */
-#define CONFLUO_HEADER_VERSION 19000
+#define CONFLUO_HEADER_VERSION 20000
 
 /* A log, a writer and a reader. */
 typedef struct confluo_log confluo_log;
@@ -121,7 +121,7 @@ typedef enum confluo_code {
     CONFLUO_UNFIT = 8,        /* the row does not fit the schema of the log */
     CONFLUO_FRAME = 9,        /* the frame has 2^32 bytes or more, its link is not read, it is not in the buffer, or a reserved field is not 0 */
     CONFLUO_NO_QUESTION = 10, /* the setup has no question of that number or name, or the line says none */
-    CONFLUO_NO_LANE = 11,     /* the setup has no lane of that number, or it measures nothing */
+    CONFLUO_NO_LANE = 11,     /* the setup has no lane of that number, it measures nothing, or it is an aggregate by a key */
     CONFLUO_NO_ROW = 12,      /* the reader has seen no record at that offset */
     CONFLUO_NO_NAME = 13,     /* the setup has nothing of that sort and number */
     CONFLUO_NO_GROUPS = 14,   /* the words are no list of groups, or both lists have more than 2^20 numbers together */
@@ -188,7 +188,9 @@ typedef enum confluo_kind {
     CONFLUO_QUAD = 1,   /* measure, total: count, sum, least, greatest; of no record four times 0 */
     CONFLUO_MARKS = 2,  /* fired: pairs of a bucket and its value, by ascending bucket */
     CONFLUO_TOPS = 3,   /* top: pairs of a key and its value, the heaviest first, ties by ascending key */
-    CONFLUO_GROUPS = 4  /* groups, confluo_groups: a bucket or key, count, sum, least, greatest, and so on, by ascending bucket or key */
+    CONFLUO_GROUPS = 4, /* groups, confluo_groups: a bucket or key, count, sum, least, greatest, and so on, by ascending bucket or key */
+    CONFLUO_KEYED_MARKS = 5, /* fired, of an aggregate by a key: a bucket, a key and its value, and so on, ascending */
+    CONFLUO_KEYED_GROUPS = 6 /* groups, of an aggregate by a key: a bucket, a key, count, sum, least, greatest, and so on, ascending */
 } confluo_kind;
 
 /* What a setup names. Each sort is numbered from 0, in the order of the lines. */
@@ -202,8 +204,8 @@ typedef enum confluo_sort {
 /* What the setup says of a thing that it names. Fields that are not listed for its sort are 0.
 **
 **   attribute    kind: 8, 16, 32 or 64 for a number of so many bits, or 0 for a string of bytes; size: how many bytes the string has
-**   lane         kind: 0 index, 1 filter, 2 aggregate, 3 tally; of: the attribute of the keys (index, tally); size: the attribute that is
-**                measured (aggregate, tally)
+**   lane         kind: 0 index, 1 filter, 2 aggregate, 3 tally, 4 aggregate by a key; of: the attribute of the keys (0, 3, 4); size: the
+**                attribute that is measured (2, 3, 4)
 **   trigger      of: the lane of its aggregate; part; op; low: its number
 **   question     kind: 0 list, 1 find, 2 between, 3 measure, 4 fired, 5 top, 6 total, 7 groups; of: the lane it is about, of a total the
 **                attribute, of a list 0; part: of a fired or a top; op: of a fired; low: the least value of its range, of a fired the number; high: the
@@ -234,7 +236,7 @@ static inline const char *confluo_error_name(uint32_t code) {
                                         "the row does not fit the log's schema",
                                         "the frame is too long, not in the buffer, or of a link not read",
                                         "the setup has no such question, or the line says none",
-                                        "the setup has no such lane, or it measures nothing",
+                                        "the setup has no such lane, it measures nothing or is by a key",
                                         "the reader has seen no record at that offset",
                                         "the setup has nothing of that sort and number",
                                         "the words are no groups, or of too many numbers",
@@ -252,7 +254,7 @@ static inline const char *confluo_fault_rule(uint32_t code) {
                                         "a new name is new, and a question is `live` once",
                                         "a name stands for an attribute, or for a thing of that kind on a line above",
                                         "a number or value has its form and range",
-                                        "an index and a tally are over numbers; measured are numbers below 2^32",
+                                        "an index, a tally and `by` are over numbers; measured are numbers below 2^32",
                                         "at most 16 indexes, filters, aggregates and tallies, 16 triggers, 32 questions, 65536 bytes",
                                         "the expression can be read: comparisons joined by && and ||, no parentheses",
                                         "the names in an expression are attributes",
@@ -413,10 +415,11 @@ confluo_ask_seen(confluo_reader *reader, uint32_t question, confluo_head *head) 
 
 /* Tells the groups of an aggregate or a tally on the records that the reader has seen, as for confluo_ask_seen: for each bucket of the
 ** aggregate, or each key of the tally, that a record has which it selects, what it measures. These are the words of an answer of kind
-** CONFLUO_GROUPS, which the reader keeps. Groups of several logs can be merged; marks and tops cannot. The thread that has `reader`.
+** CONFLUO_GROUPS, which the reader keeps. Groups of several logs can be merged; marks and tops cannot. Groups of an aggregate by a key are
+** told by a question of the kind groups, and cannot be merged. The thread that has `reader`.
 **
 **   CONFLUO_NOTHING    `reader` leads to nothing
-**   CONFLUO_NO_LANE    the setup has no lane of that number, or it is an index or a filter
+**   CONFLUO_NO_LANE    the setup has no lane of that number, or it is an index, a filter or an aggregate by a key
 **   CONFLUO_MEMORY */
 static inline CONFLUO_CHECKED CONFLUO_NEEDS(3) uint32_t
 confluo_groups(confluo_reader *reader, uint32_t lane, confluo_head *head) CONFLUO_CALL(groups);

@@ -3,7 +3,8 @@
 
 static const char setup[] =
     "schema records ts:u64,key:u16,len:u32,mac:b6\nwidth 1000\nindex keys key\nfilter every *\naggregate sums every len\n"
-    "tally kinds key len len>5\ntrigger large sums sum >= 40\nask all list *\nask some find keys 7 8\nask early between every 0 1\n"
+    "tally kinds key len len>5\naggregate apart every len by key\ntrigger large sums sum >= 40\n"
+    "ask all list *\nask some find keys 7 8\nask early between every 0 1\n"
     "ask both measure sums 0 9\nask marks fired large\nask first top kinds greatest 2\nask whole total len *\n";
 
 static void append(parts *it, uint64_t ns, uint64_t key, uint64_t len) {
@@ -56,7 +57,7 @@ static void groups(void) {
     } cases[] = {
         {2, CONFLUO_OK, 10, {0, 2, 40, 10, 30, 1, 1, 4, 4, 4}},         {3, CONFLUO_OK, 10, {7, 1, 10, 10, 10, 8, 1, 30, 30, 30}},
         {0, CONFLUO_NO_LANE, 10, {7, 1, 10, 10, 10, 8, 1, 30, 30, 30}}, {1, CONFLUO_NO_LANE, 10, {7, 1, 10, 10, 10, 8, 1, 30, 30, 30}},
-        {4, CONFLUO_NO_LANE, 10, {7, 1, 10, 10, 10, 8, 1, 30, 30, 30}},
+        {4, CONFLUO_NO_LANE, 10, {7, 1, 10, 10, 10, 8, 1, 30, 30, 30}}, {5, CONFLUO_NO_LANE, 10, {7, 1, 10, 10, 10, 8, 1, 30, 30, 30}},
     };
     is(confluo_groups(it.reader, 2, &head), CONFLUO_OK, "groups of what is seen");
     is(head.tail == 0 && head.kind == CONFLUO_GROUPS && head.count == 0, 1, "none");
@@ -75,12 +76,13 @@ static void groups(void) {
 static void lines(void) {
     static const char setup[] =
         "schema records ts:u64,key:u16,len:u32\nindex keys key\nfilter every *\naggregate sums every len\ntrigger large sums sum > 40\n"
-        "tally kinds key len *\nask all list *";
+        "tally kinds key len *\naggregate apart every len by key\ntrigger many apart count >= 2\n"
+        "trigger none apart count >= 9\nask all list *";
     static const struct {
         const char *line;
         uint32_t code, fault, kind;
         size_t count;
-        uint64_t words[5];
+        uint64_t words[12];
     } cases[] = {
         {"ask some find keys 7 7", CONFLUO_OK, 7, CONFLUO_PLACES, 2, {0, 2}},
         {"  ask long list len>20", CONFLUO_OK, 7, CONFLUO_PLACES, 1, {1}},
@@ -89,6 +91,10 @@ static void lines(void) {
         {"ask marks fired large", CONFLUO_OK, 7, CONFLUO_MARKS, 2, {0, 55}},
         {"ask best top kinds sum 1", CONFLUO_OK, 7, CONFLUO_TOPS, 2, {7, 30}},
         {"ask each groups sums", CONFLUO_OK, 7, CONFLUO_GROUPS, 5, {0, 3, 55, 10, 25}},
+        {"ask pairs fired many", CONFLUO_OK, 7, CONFLUO_KEYED_MARKS, 3, {0, 7, 2}},
+        {"ask none_now fired none", CONFLUO_OK, 7, CONFLUO_KEYED_MARKS, 0, {0}},
+        {"ask parts groups apart", CONFLUO_OK, 7, CONFLUO_KEYED_GROUPS, 12, {0, 7, 2, 30, 10, 20, 0, 8, 1, 25, 25, 25}},
+        {"ask other measure apart 0 9", CONFLUO_SETUP, 6, 0, 0, {0}},
         {"ask all list *", CONFLUO_SETUP, 5, 0, 0, {0}},
         {"ask other find lost 7 7", CONFLUO_SETUP, 6, 0, 0, {0}},
         {"ask other find keys 7", CONFLUO_SETUP, 3, 0, 0, {0}},
@@ -103,24 +109,24 @@ static void lines(void) {
     };
     static const uint64_t rows[3][3] = {{1, 7, 10}, {2, 8, 25}, {3, 7, 20}};
     parts it = parts_of(setup, 8, 64);
-    uint64_t words[5];
+    uint64_t words[12];
     uint32_t offset;
     for (uint32_t k = 0; k < 3; k++) is(confluo_append_values(it.writer, k, rows[k], 3, &offset), CONFLUO_OK, "append");
     for (int twice = 0; twice < 2; twice++)
         for (size_t k = 0; k < sizeof cases / sizeof *cases; k++) {
             confluo_head head = {9, 9, 9};
             confluo_fault fault = {7, 7};
-            size_t kept = confluo_words(it.reader, 0, words, 5);
+            size_t kept = confluo_words(it.reader, 0, words, 12);
             is(confluo_ask_text(it.reader, cases[k].line, strlen(cases[k].line), &head, &fault), cases[k].code, cases[k].line);
             is(fault.code, cases[k].fault, cases[k].line);
             is(fault.line, fault.code == 7 ? 7 : 1, "the line is one");
             if (cases[k].code == CONFLUO_OK) {
                 is(head.tail == 3 && head.kind == cases[k].kind && head.count == cases[k].count, 1, cases[k].line);
-                is(confluo_words(it.reader, 0, words, 5), cases[k].count, cases[k].line);
+                is(confluo_words(it.reader, 0, words, 12), cases[k].count, cases[k].line);
                 is(memcmp(words, cases[k].words, cases[k].count * sizeof *words), 0, cases[k].line);
             } else {
                 is(head.tail == 9 && head.count == 9, 1, "what a refused line leaves");
-                is(confluo_words(it.reader, 0, words, 5), kept, "the words that it keeps");
+                is(confluo_words(it.reader, 0, words, 12), kept, "the words that it keeps");
             }
         }
     confluo_head head;

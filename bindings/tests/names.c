@@ -3,7 +3,8 @@
 
 static const char setup[] =
     "schema records ts:u64,key:u16,len:u32,mac:b6\nwidth 1000\nindex keys key\nfilter every *\naggregate sums every len\n"
-    "tally kinds key len len>5\ntrigger large sums sum >= 40\nask all list *\nask some find keys 7 8\nask early between every 0 1\n"
+    "tally kinds key len len>5\naggregate apart every len by key\ntrigger large sums sum >= 40\n"
+    "ask all list *\nask some find keys 7 8\nask early between every 0 1\n"
     "ask both measure sums 0 9\nask marks fired large\nask first top kinds greatest 2\nask whole total len *\nask each groups kinds\n";
 
 static const struct {
@@ -18,6 +19,7 @@ static const struct {
     {CONFLUO_LANES, 1, "every", {.kind = 1}},
     {CONFLUO_LANES, 2, "sums", {.kind = 2, .size = 2}},
     {CONFLUO_LANES, 3, "kinds", {.kind = 3, .of = 1, .size = 2}},
+    {CONFLUO_LANES, 4, "apart", {.kind = 4, .of = 1, .size = 2}},
     {CONFLUO_TRIGGERS, 0, "large", {.of = 2, .part = 1, .op = 5, .low = 40}},
     {CONFLUO_QUESTIONS, 0, "all", {.kind = 0}},
     {CONFLUO_QUESTIONS, 1, "some", {.kind = 1, .of = 0, .low = 7, .high = 8}},
@@ -28,7 +30,7 @@ static const struct {
     {CONFLUO_QUESTIONS, 6, "whole", {.kind = 6, .of = 2}},
     {CONFLUO_QUESTIONS, 7, "each", {.kind = 7, .of = 3}},
 };
-static const uint32_t ends[][2] = {{CONFLUO_ATTRIBUTES, 4}, {CONFLUO_LANES, 4}, {CONFLUO_TRIGGERS, 1}, {CONFLUO_QUESTIONS, 8}, {4, 0}};
+static const uint32_t ends[][2] = {{CONFLUO_ATTRIBUTES, 4}, {CONFLUO_LANES, 5}, {CONFLUO_TRIGGERS, 1}, {CONFLUO_QUESTIONS, 8}, {4, 0}};
 
 /* A name, and what is told of it, by the log or by the reader. */
 static uint32_t name_of(const parts *it, bool by_reader, uint32_t sort, uint32_t number, char *name, size_t room, size_t *count) {

@@ -68,6 +68,12 @@ def changed(data: bytes, place: int, byte: int, size: int | None = None) -> byte
     return (data[:place] + bytes([byte]) + data[place + 1 :])[:size]
 
 
+def sent(source: int, second: int, length: int = 60) -> bytes:
+    """A record of the segment, from 10.0.0.SOURCE."""
+    data = ADDRESSES + SEGMENT
+    return record(data[:29] + bytes([source]) + data[30:], length, second)
+
+
 def empty(count: int) -> bytes:
     """A capture of so many packets without bytes, that had 200."""
     return HEADER + record(b"", 200) * count

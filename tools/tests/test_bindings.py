@@ -201,9 +201,9 @@ class StandIn(unittest.TestCase):
 
     def test_versions_are_compared(self):
         cases = [
-            (3999, "version 0.3.999 of the library"),
+            (4999, "version 0.4.999 of the library"),
             (1000000, "version 1.0.0 of the library"),
-            (4000, ""),
+            (5000, ""),
             (9007, ""),
         ]
         for version, said in cases:

@@ -33,7 +33,29 @@ from program_cases import (
     line,
     record,
     segment,
+    sent,
 )
+
+# Two hosts send in two seconds.
+KEYED_SETUP = (
+    b"schema packet\nfilter f *\naggregate a f len by src\ntrigger t a count >= 2\ntrigger u a greatest > 70\n"
+    b"ask x fired t\nask y fired u\nask g groups a\n"
+)
+KEYED = HEADER + b"".join(sent(*it) for it in ((1, 1, 60), (2, 1, 70), (1, 1, 80), (2, 2, 90)))
+KEYED_ANSWERS = (
+    "ask x fired 1: 1/167772161=2\nask y fired 2: 1/167772161=80 2/167772162=90\n"
+    "ask g groups 3: 1/167772161=2/140/60/80 1/167772162=1/70/70/70 2/167772162=1/90/90/90\n"
+)
+
+
+def drawn(seed: int, count: int) -> list[tuple[int, int, int]]:
+    """Second, source and length of each packet that `synth` makes."""
+    found, x = [], seed
+    for k in range(count):
+        x = (x * 6364136223846793005 + 1442695040888963407) % 2**64
+        r = x >> 32
+        found.append((1 + k // 1000, 0x0A000000 + r % 16, 64 + (r >> 20) % 1024))
+    return found
 
 
 class Program(Cases):
@@ -471,6 +493,47 @@ class Program(Cases):
             words = ("synth", "--setup", "s", "--seed", "1", "--count", "50000", "--writers", writers)
             self.check(words, 0, text, s=setup)
 
+    def test_aggregates_by_a_key(self) -> None:
+        alerts = "alert t 1/167772161 2\nalert u 1/167772161 80\nalert u 2/167772162 90\n"
+        final = f"records 4\n{KEYED_ANSWERS}{alerts}"
+        hosts = "".join(f"host {it} @4\n{KEYED_ANSWERS}" for it in range(2))
+        self.put(s=KEYED_SETUP, c=KEYED)
+        for words, text in (
+            ("run --setup s --writers 1 c", f"{final}order 0*4\n"),
+            ("run --setup s --long --writers 3 c", final),
+            ("run --setup s --long --writers 1 --capacity 1 c", final),
+            ("snapshot --setup s --after 9 c c", f"cut 8\n{hosts}"),
+        ):
+            self.assertEqual(self.answer(tuple(words.split())), (0, text), words)
+        # Buckets ascend, and keys in them. The key of a packet without an address is 0.
+        self.put(c=HEADER + sent(9, 3) + sent(0, 3) + record(b"", 5, 3) + sent(9, 2))
+        groups = "2/167772169=1/60/60/60 3/0=1/5/5/5 3/167772160=1/60/60/60 3/167772169=1/60/60/60"
+        text = f"records 4\nask x fired 0:\nask y fired 0:\nask g groups 4: {groups}\norder 0*4\n"
+        self.assertEqual(self.answer(RUN), (0, text))
+        # Keys of 64 bits.
+        setup = b"schema records ts:u64,key:u64,n:u32\nwidth 1\nfilter f *\naggregate a f n by key\ntrigger t a sum >= 2\n"
+        rows = b"ts,key,n\n18446744073709551615,18446744073709551615,1\n18446744073709551615,0,3\n0,18446744073709551615,2\n"
+        text = "records 3\nalert t 0/18446744073709551615 2\nalert t 18446744073709551615/0 3\norder 0*3\n"
+        self.check(RUN, 0, text, s=setup, c=rows)
+
+    def test_aggregates_by_a_key_of_many_packets(self) -> None:
+        setup = b"schema packet\nfilter f len>=200\naggregate a f len by src\ntrigger t a sum > 45000\nask g groups a\n"
+        groups: dict[tuple[int, int], list[int]] = {}
+        for second, source, length in drawn(7, 9000):
+            if length >= 200:
+                groups.setdefault((second, source), []).append(length)
+        parts = sorted(groups.items())
+        shown = "".join(
+            f" {second}/{source}={len(it)}/{sum(it)}/{min(it)}/{max(it)}" for (second, source), it in parts
+        )
+        alerts = "".join(
+            f"alert t {second}/{source} {sum(it)}\n" for (second, source), it in parts if sum(it) > 45_000
+        )
+        self.assertGreater(alerts.count("\n"), 10)
+        text = f"records 9000\nask g groups {len(parts)}:{shown}\n{alerts}"
+        for words in (("--writers", "1"), ("--writers", "15"), ("--capacity", "4096", "--segments", "3")):
+            self.check(("synth", "--setup", "s", "--seed", "7", "--count", "9000", *words), 0, text, s=setup)
+
     def test_segments(self) -> None:
         setup = b"schema packet\nwidth 1000000\nfilter f *\nask n between f 1000 1003\n"
         drawn = ("synth", "--setup", "s", "--seed", "1")
@@ -705,6 +768,32 @@ class Program(Cases):
                 self.assertEqual(rest, " ".join(["list", f"{covered}:", *map(str, range(covered))]))
         # Four rounds beside each of two batches, of three lines each.
         self.assertEqual([it[:2] for it in lines], [["live", "g"], ["new", "g"], ["live", "q"]] * 8)
+
+    def test_what_is_new_goes_by_bucket_and_key(self) -> None:
+        setup = (
+            b"schema records ts:u64,key:u8,n:u32\nwidth 1\nfilter f *\naggregate a f n by key\n"
+            b"trigger t a count > 1\nask g fired t\nask p groups a\nlive g\nlive p\n"
+        )
+        rows = [(at * 7 % 40, at % 3) for at in range(5000)]
+        self.put(s=setup, c=b"ts,key,n\n" + b"".join(b"%d,%d,1\n" % it for it in rows))
+        status, text = self.answer(("run", "--setup", "s", "--writers", "1", "--live", "4", "c"))
+        self.assertEqual(status, 0)
+        known: set[tuple[int, int]] = set()
+        told = [it.split(" ", 3) for it in text.splitlines() if it.startswith(("live ", "new "))]
+        for word, name, tail, rest in told:
+            seen = rows[: int(tail[1:])]
+            counts = {it: seen.count(it) for it in sorted(set(seen))}
+            marks = {it: count for it, count in counts.items() if count > 1}
+            if name == "p":
+                parts = [f"{bucket}/{key}={count}/{count}/1/1" for (bucket, key), count in counts.items()]
+                self.assertEqual(rest, " ".join(["groups", f"{len(parts)}:", *parts]))
+                continue
+            if word == "new":
+                marks = {it: count for it, count in marks.items() if it not in known}
+                known |= set(marks)
+            parts = [f"{bucket}/{key}={count}" for (bucket, key), count in marks.items()]
+            self.assertEqual(rest, " ".join(["fired", f"{len(parts)}:", *parts]))
+        self.assertEqual([it[:2] for it in told], [["live", "g"], ["new", "g"], ["live", "p"]] * 8)
 
     def test_watched_buckets(self) -> None:
         setup = b"schema packet\nfilter f len>=10\naggregate a f len\ntrigger t a sum >= 50\n"

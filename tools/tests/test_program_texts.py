@@ -8,6 +8,8 @@ from program_cases import MISSING, NO_COMMAND, Cases, empty
 
 RECORDS = b"schema records ts:u64,src:u32,dport:u16,len:u32,dmac:b6\n"
 COLUMNS = b"schema records ts:u64,src:u32,sport:u16,dport:u16,len:u32,ttl:u8,dmac:b6\nask q list "
+# An aggregate by a key: only `trigger` and `groups` take it.
+KEYED = b"filter f *\naggregate a f len by src\n"
 
 # Lines behind RECORDS with the line and the code of their first fault; 0 and 0 if there is none.
 LINES = (
@@ -42,6 +44,31 @@ LINES = (
     (b"width 0x00000000000000001", 2, 7),
     (b"index i dmac", 2, 8),
     (b"filter f *\naggregate a f ts", 3, 8),
+    (b"filter f *\naggregate a f len x", 3, 3),
+    (b"filter f *\naggregate a f len by", 3, 3),
+    (b"filter f *\naggregate a f len on src", 3, 3),
+    (b"filter f *\naggregate a f len By src", 3, 3),
+    (b"filter f *\naggregate a f len by src x", 3, 3),
+    (b"filter f *\naggregate a f len   by   src  ", 0, 0),
+    (b"filter f *\naggregate a f len by ts", 0, 0),
+    (b"filter f *\naggregate a f len by len", 0, 0),
+    (b"filter f *\naggregate f f len by src", 3, 5),
+    (b"filter f *\naggregate a g len by src", 3, 6),
+    (b"filter f *\naggregate a f nosuch by src", 3, 6),
+    (b"filter f *\naggregate a f len by nosuch", 3, 6),
+    (b"filter f *\naggregate a f ts by nosuch", 3, 6),
+    (b"filter f *\naggregate a f ts by src", 3, 8),
+    (b"filter f *\naggregate a f len by dmac", 3, 8),
+    (KEYED + b"trigger t a sum > 3\nask q fired t\nlive q", 0, 0),
+    (KEYED + b"ask q groups a\nlive q", 0, 0),
+    (KEYED + b"ask q measure a 0 9", 4, 6),
+    (KEYED + b"ask q between a 0 9", 4, 6),
+    (KEYED + b"ask q find a 0 9", 4, 6),
+    (KEYED + b"ask q top a sum 2", 4, 6),
+    (KEYED + b"aggregate b a len", 4, 6),
+    (KEYED + b"aggregate b a len by src", 4, 6),
+    (KEYED + b"aggregate a f len", 4, 5),
+    (b"filter f *\n" + b"".join(b"aggregate a%d f len by src\n" % k for k in range(16)), 18, 9),
     (b"tally t src len *", 0, 0),
     (b"tally t ts len *", 0, 0),
     (b"tally t src", 2, 3),

@@ -21,6 +21,8 @@ class Kind(enum.IntEnum):
     MARKS = 2  # pairs of a bucket and its value, by ascending bucket
     TOPS = 3  # pairs of a key and its value, the heaviest first
     GROUPS = 4  # of each bucket or key, ascending: it, count, sum, least, greatest
+    KEYED_MARKS = 5  # threes of a bucket, a key and its value, ascending
+    KEYED_GROUPS = 6  # of each bucket and key, ascending: both, count, sum, least, greatest
 
 
 COLUMNS = {
@@ -29,6 +31,8 @@ COLUMNS = {
     Kind.MARKS: ["bucket", "value"],
     Kind.TOPS: ["key", "value"],
     Kind.GROUPS: ["key", "count", "sum", "least", "greatest"],
+    Kind.KEYED_MARKS: ["bucket", "key", "value"],
+    Kind.KEYED_GROUPS: ["bucket", "key", "count", "sum", "least", "greatest"],
 }
 
 
@@ -94,9 +98,10 @@ class Answer:
         )
 
     def merge(self, other: Answer) -> Answer:
-        """The groups of this answer and of another, of the same lane of another log with one setup, as one."""
+        """The groups of this answer and of another, of the same lane of another log with one setup, as one. Those of an aggregate by a
+        key are not merged."""
         if self.kind != Kind.GROUPS or other.kind != Kind.GROUPS:
-            raise ValueError("only groups can be merged")
+            raise ValueError("only groups of one key can be merged")
         (one, length), (two, more), count = array(self.numbers), array(other.numbers), SIZE()
         out = (LONG * max(1, length + more))()
         wanted(call("merge")(one, length, two, more, out, length + more, count))

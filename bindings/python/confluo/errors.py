@@ -39,7 +39,7 @@ RULES = {
     5: "a new name is new, and a question is `live` once",
     6: "a name stands for an attribute, or for a thing of that kind on a line above",
     7: "a number or value has its form and range",
-    8: "an index and a tally are over numbers; measured are numbers below 2^32",
+    8: "an index, a tally and `by` are over numbers; measured are numbers below 2^32",
     9: "at most 16 indexes, filters, aggregates and tallies, 16 triggers, 32 questions, 65536 bytes",
     10: "the expression can be read: comparisons joined by && and ||, no parentheses",
     11: "the names in an expression are attributes",

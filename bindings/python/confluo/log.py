@@ -293,7 +293,8 @@ class Reader(Part):
         return self._answer("ask_seen", self.names.number("questions", question))
 
     def groups(self, lane: Union[str, int]) -> Answer:
-        """All groups of an aggregate or a tally, given by its name or its number, on the records that the reader has seen."""
+        """All groups of an aggregate or a tally, given by its name or its number, on the records that the reader has seen. Those of an
+        aggregate by a key are told by a question."""
         return self._answer("groups", self.names.number("lanes", lane))
 
     def row(self, offset: int) -> Row:

@@ -10,7 +10,7 @@ from . import calls
 from .calls import LONG, SIZE, call
 from .errors import Code, wanted
 
-LANES = ["index", "filter", "aggregate", "tally"]
+LANES = ["index", "filter", "aggregate", "tally", "aggregate by"]
 QUESTIONS = ["list", "find", "between", "measure", "fired", "top", "total", "groups"]
 PARTS = ["count", "sum", "least", "greatest"]
 OPERATORS = ["==", "!=", "<", "<=", ">", ">="]
@@ -24,8 +24,8 @@ class Attribute(NamedTuple):
 
 
 class Lane(NamedTuple):
-    """An index, a filter, an aggregate or a tally: its name and kind, and the names of the attributes of its keys
-    (index, tally), and of what it measures (aggregate, tally)."""
+    """An index, a filter, an aggregate, a tally, or an `aggregate by` (a key): its name and kind, and the names of the attributes of
+    its keys (index, tally, aggregate by), and of what it measures (aggregate, tally, aggregate by)."""
 
     name: str
     kind: str
@@ -103,8 +103,8 @@ class Names:
             Lane(
                 name,
                 LANES[it.kind],
-                keys[it.of] if it.kind in (0, 3) else None,
-                keys[it.size] if it.kind in (2, 3) else None,
+                keys[it.of] if it.kind in (0, 3, 4) else None,
+                keys[it.size] if it.kind in (2, 3, 4) else None,
             )
             for name, it in told(handle, 1)
         ]

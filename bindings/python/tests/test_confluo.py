@@ -21,15 +21,16 @@ RECORDS = (
 )
 LANES = (
     "schema records ts:u64,host:u16,len:u32,mac:b6\nindex hosts host\nfilter every *\naggregate sums every len\n"
-    "tally keys host len *\ntrigger large sums sum > 40\nask all total len *\nask one find hosts 1 1\n"
-    "ask marks fired large\nask first top keys count 2\nask each groups keys\n"
+    "tally keys host len *\naggregate apart every len by host\ntrigger large sums sum > 40\ntrigger many apart count >= 2\n"
+    "ask all total len *\nask one find hosts 1 1\nask marks fired large\nask first top keys count 2\nask each groups keys\n"
+    "ask pairs fired many\nask parts groups apart\n"
 )
 FRAME = bytes([0] * 12 + [8, 0, 0x45, 0, 0, 20] + [0] * 8 + [10, 0, 0, 1] + [0] * 4)
 
 
 class Calls(unittest.TestCase):
     def test_version(self):
-        self.assertEqual(confluo.version(), 4000)
+        self.assertEqual(confluo.version(), 5000)
 
     def test_the_example_of_the_documents(self):
         page = (HERE.parents[2] / "docs" / "LIBRARY.md").read_text()
@@ -154,9 +155,12 @@ class Calls(unittest.TestCase):
                 ("every", "filter", None, None),
                 ("sums", "aggregate", None, "len"),
                 ("keys", "tally", "host", "len"),
+                ("apart", "aggregate by", "host", "len"),
             ],
         )
-        self.assertEqual(names.triggers, [("large", "sums", "sum", ">", 40)])
+        self.assertEqual(
+            names.triggers, [("large", "sums", "sum", ">", 40), ("many", "apart", "count", ">=", 2)]
+        )
         self.assertEqual(
             names.questions,
             [
@@ -165,6 +169,8 @@ class Calls(unittest.TestCase):
                 confluo.Question("marks", "fired", "sums", part="sum", operator=">", number=40),
                 confluo.Question("first", "top", "keys", part="count", count=2),
                 confluo.Question("each", "groups", "keys"),
+                confluo.Question("pairs", "fired", "apart", part="count", operator=">=", number=2),
+                confluo.Question("parts", "groups", "apart"),
             ],
         )
         setup = "schema packet\nwidth 50\n"
@@ -206,6 +212,8 @@ class Calls(unittest.TestCase):
             ("marks", confluo.Kind.MARKS, [(0, 55)]),
             ("first", confluo.Kind.TOPS, [(7, 2), (8, 1)]),
             ("each", confluo.Kind.GROUPS, [(7, 2, 30, 10, 20), (8, 1, 25, 25, 25)]),
+            ("pairs", confluo.Kind.KEYED_MARKS, [(0, 7, 2)]),
+            ("parts", confluo.Kind.KEYED_GROUPS, [(0, 7, 2, 30, 10, 20), (0, 8, 1, 25, 25, 25)]),
         ]
         for name, kind, found in cases:
             answer = reader.ask_seen(name)
@@ -218,6 +226,9 @@ class Calls(unittest.TestCase):
             confluo.Answer(1, confluo.Kind.GROUPS, [1, 0, 1, 0, 0]).merge(groups)
         self.assertEqual(caught.exception.code, confluo.Code.NO_GROUPS)
         self.assertRaises(ValueError, reader.ask("all").merge, groups)
+        with self.assertRaises(confluo.Error) as caught:
+            reader.groups("apart")
+        self.assertEqual(caught.exception.code, confluo.Code.NO_LANE)
         self.assertEqual(reader.row(2), (12, {"ts": 3, "host": 7, "len": 20, "mac": b"ghijkl"}))
 
     def test_logs_are_closed(self):

@@ -25,6 +25,10 @@ pub enum Body {
     Tops(Vec<Top>),
     /// All groups of an aggregate or a tally, by ascending bucket or key, of `groups`.
     Groups(Vec<Group>),
+    /// Where a trigger on an aggregate by a key fires, by ascending bucket and then key, of `fired`.
+    KeyedMarks(Vec<KeyedMark>),
+    /// All groups of an aggregate by a key, by ascending bucket and then key, of `groups`.
+    KeyedGroups(Vec<KeyedGroup>),
     /// Of a kind that this crate does not know: the library is a later one.
     Unknown {
         /// The kind.
@@ -57,6 +61,17 @@ pub struct Mark {
     pub value: u64,
 }
 
+/// A bucket and a key for which a trigger on an aggregate by a key fires.
+#[derive(Clone, Copy, Debug, PartialEq, Eq, Hash)]
+pub struct KeyedMark {
+    /// The bucket: the time over the width of buckets, rounded down.
+    pub bucket: u64,
+    /// The value of the key's attribute.
+    pub key: u64,
+    /// The trigger's part of the records of both.
+    pub value: u64,
+}
+
 /// A key of a tally.
 #[derive(Clone, Copy, Debug, PartialEq, Eq, Hash)]
 pub struct Top {
@@ -71,6 +86,17 @@ pub struct Top {
 #[derive(Clone, Copy, Debug, PartialEq, Eq, Hash)]
 pub struct Group {
     /// The bucket of the aggregate, or the key of the tally.
+    pub key: u64,
+    /// What was measured.
+    pub quad: Quad,
+}
+
+/// What an aggregate by a key measured for one bucket and one key.
+#[derive(Clone, Copy, Debug, PartialEq, Eq, Hash)]
+pub struct KeyedGroup {
+    /// The bucket: the time over the width of buckets, rounded down.
+    pub bucket: u64,
+    /// The value of the key's attribute.
     pub key: u64,
     /// What was measured.
     pub quad: Quad,
@@ -107,6 +133,24 @@ fn groups_of(words: &[u64]) -> Vec<Group> {
     words.chunks_exact(GROUP).map(group).collect()
 }
 
+fn keyed_groups_of(words: &[u64]) -> Vec<KeyedGroup> {
+    let group = |words: &[u64]| KeyedGroup {
+        bucket: words[0],
+        key: words[1],
+        quad: Quad::of(&words[2..]),
+    };
+    words.chunks_exact(GROUP + 1).map(group).collect()
+}
+
+fn keyed_marks_of(words: &[u64]) -> Vec<KeyedMark> {
+    let mark = |words: &[u64]| KeyedMark {
+        bucket: words[0],
+        key: words[1],
+        value: words[2],
+    };
+    words.chunks_exact(3).map(mark).collect()
+}
+
 impl Body {
     /// The body of that kind with these words.
     pub(crate) fn of(kind: u32, words: &[u64]) -> Self {
@@ -118,6 +162,8 @@ impl Body {
             raw::MARKS => Body::Marks(pairs().map(|(bucket, value)| Mark { bucket, value }).collect()),
             raw::TOPS => Body::Tops(pairs().map(|(key, value)| Top { key, value }).collect()),
             raw::GROUPS => Body::Groups(groups_of(words)),
+            raw::KEYED_MARKS => Body::KeyedMarks(keyed_marks_of(words)),
+            raw::KEYED_GROUPS => Body::KeyedGroups(keyed_groups_of(words)),
             _ => Body::Unknown {
                 kind,
                 words: words.to_vec(),

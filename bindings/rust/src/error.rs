@@ -12,7 +12,7 @@ const RULES: [&str; 14] = [
     "a new name is new, and a question is `live` once",
     "a name stands for an attribute, or for a thing of that kind on a line above",
     "a number or value has its form and range",
-    "an index and a tally are over numbers; measured are numbers below 2^32",
+    "an index, a tally and `by` are over numbers; measured are numbers below 2^32",
     "at most 16 indexes, filters, aggregates and tallies, 16 triggers, 32 questions, 65536 bytes",
     "the expression can be read: comparisons joined by && and ||, no parentheses",
     "the names in an expression are attributes",
@@ -43,7 +43,7 @@ pub enum Code {
     Frame,
     /// The setup has no such question, or the line says none.
     NoQuestion,
-    /// The setup has no such lane, or it measures nothing.
+    /// The setup has no such lane, it measures nothing, or it is an aggregate by a key.
     NoLane,
     /// The reader has seen no record at that offset.
     NoRow,
@@ -294,7 +294,7 @@ errors! {
     GroupsError {
         /// Out of memory.
         Memory = MEMORY,
-        /// The setup has no lane of that number, or it is an index or a filter.
+        /// The setup has no lane of that number, or it is an index, a filter or an aggregate by a key.
         NoLane = NO_LANE,
     }
     /// Why lists of groups were not merged.
@@ -473,8 +473,8 @@ mod tests {
     #[test]
     fn versions_fit() {
         let cases = [
-            (3_999, false),
-            (4_000, true),
+            (4_999, false),
+            (5_000, true),
             (9_007, true),
             (999_999, true),
             (1_000_000, false),
@@ -483,7 +483,7 @@ mod tests {
             assert_eq!(fits(version), wanted, "{version}");
         }
         let said = OpenError::Version(3_002).to_string();
-        assert!(said.starts_with("libconfluo has version 0.3.2, and this crate needs 0.4.0"));
+        assert!(said.starts_with("libconfluo has version 0.3.2, and this crate needs 0.5.0"));
     }
 
     #[test]

@@ -63,7 +63,7 @@ mod row;
 mod shared;
 mod writer;
 
-pub use answer::{merge, Answer, Body, Group, Groups, Mark, Quad, Top};
+pub use answer::{merge, Answer, Body, Group, Groups, KeyedGroup, KeyedMark, Mark, Quad, Top};
 pub use error::{
     AppendError, AskError, CloseError, Code, Error, Fault, GroupsError, LineError, MergeError, OpenError, ReportError,
     RowError, TakeError,

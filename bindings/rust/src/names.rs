@@ -154,6 +154,13 @@ pub enum LaneKind {
         /// The attribute that is measured.
         measure: u32,
     },
+    /// It measures an attribute by bucket and by the attribute `key`.
+    KeyedAggregate {
+        /// The attribute of the keys.
+        key: u32,
+        /// The attribute that is measured.
+        measure: u32,
+    },
     /// Of a kind that this crate does not know: the library is a later one.
     Unknown(u32),
 }
@@ -267,6 +274,7 @@ impl Lane {
             1 => LaneKind::Filter,
             2 => LaneKind::Aggregate { measure },
             3 => LaneKind::Tally { key, measure },
+            4 => LaneKind::KeyedAggregate { key, measure },
             other => LaneKind::Unknown(other),
         };
         Lane { name, kind }

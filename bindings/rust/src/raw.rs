@@ -116,7 +116,7 @@ pub struct Head {
 }
 
 /// `CONFLUO_VERSION` of the header that this crate is written for.
-pub const VERSION: u32 = 4_000;
+pub const VERSION: u32 = 5_000;
 
 pub const OK: u32 = 0;
 pub const MEMORY: u32 = 1;
@@ -138,6 +138,8 @@ pub const QUAD: u32 = 1;
 pub const MARKS: u32 = 2;
 pub const TOPS: u32 = 3;
 pub const GROUPS: u32 = 4;
+pub const KEYED_MARKS: u32 = 5;
+pub const KEYED_GROUPS: u32 = 6;
 
 pub const NUMBER: u32 = 0;
 pub const BYTES: u32 = 1;

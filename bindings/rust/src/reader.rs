@@ -157,7 +157,8 @@ impl Reader {
     ///
     /// # Errors
     ///
-    /// [`GroupsError::NoLane`] if the setup has none of that number, or it is an index or a filter; [`GroupsError::Memory`].
+    /// [`GroupsError::NoLane`] if the setup has none of that number, or it is an index, a filter or an aggregate by a key, whose groups a
+    /// question tells; [`GroupsError::Memory`].
     pub fn groups(&mut self, lane: u32) -> Result<Groups, GroupsError> {
         let mut head = raw::Head::default();
         // SAFETY: the memory is ours.

@@ -3,8 +3,8 @@
 
 use confluo::{
     check, merge, Answer, AppendError, AskError, Asks, Body, Capture, CloseError, Fault, Group, Groups, GroupsError,
-    LaneKind, Log, Mark, MergeError, Op, OpenError, Part, Quad, Reader, Row, RowError, Sizes, TakeError, Top, Trigger,
-    Value, Writer,
+    KeyedGroup, KeyedMark, LaneKind, Log, Mark, MergeError, Op, OpenError, Part, Quad, Reader, Row, RowError, Sizes,
+    TakeError, Top, Trigger, Value, Writer,
 };
 use std::error::Error;
 use std::sync::mpsc;
@@ -13,8 +13,9 @@ use std::time::{Duration, Instant};
 
 const RECORDS: &str =
     "schema records ts:u64,host:u32,len:u32\nindex hosts host\nfilter every *\naggregate sums every len\n\
-    trigger large sums sum > 40\ntally keys host len *\nask all total len *\nask one find hosts 1 1\n\
-    ask marks fired large\nask top top keys sum 2\nask each groups sums\n";
+    trigger large sums sum > 40\ntally keys host len *\naggregate apart every len by host\ntrigger many apart count >= 2\n\
+    ask all total len *\nask one find hosts 1 1\nask marks fired large\nask top top keys sum 2\nask each groups sums\n\
+    ask pairs fired many\nask parts groups apart\n";
 
 fn sizes(capacity: u32, writers: u32, nodes: u32) -> Sizes {
     Sizes {
@@ -92,7 +93,7 @@ fn calls_are_refused() -> Result<(), Box<dyn Error>> {
     assert_eq!(writer.append_values(0, &[1, 1, 10]), Ok(0));
     assert_eq!(writer.append_values(0, &[2, 1, 40]), Ok(1));
     assert_eq!(writer.append_values(0, &[3, 1, 10]), Err(AppendError::Full));
-    assert_eq!(reader.ask(5), Err(AskError::NoQuestion));
+    assert_eq!(reader.ask(7), Err(AskError::NoQuestion));
     assert_eq!((writer.room().capacity, writer.room().covered), (2, 2));
     let mut other = Log::open("schema packet\n", sizes(1, 1, 0))?;
     let unread = Capture {
@@ -117,12 +118,28 @@ fn answers_have_forms() -> Result<(), Box<dyn Error>> {
         least: 10,
         greatest: 25,
     };
+    let part = |key, count, sum, least, greatest| KeyedGroup {
+        bucket: 0,
+        key,
+        quad: Quad {
+            count,
+            sum,
+            least,
+            greatest,
+        },
+    };
     let answers = [
         Body::Quad(quad),
         Body::Places(vec![1]),
         Body::Marks(vec![Mark { bucket: 0, value: 55 }]),
         Body::Tops(vec![Top { key: 7, value: 30 }, Top { key: 1, value: 25 }]),
         Body::Groups(vec![Group { key: 0, quad }]),
+        Body::KeyedMarks(vec![KeyedMark {
+            bucket: 0,
+            key: 7,
+            value: 2,
+        }]),
+        Body::KeyedGroups(vec![part(1, 1, 25, 25, 25), part(7, 2, 30, 10, 20)]),
     ];
     for (question, body) in (0..).zip(answers) {
         assert_eq!(reader.ask(question)?, Answer { tail: 3, body });
@@ -147,6 +164,7 @@ fn names_are_told() -> Result<(), Box<dyn Error>> {
         LaneKind::Filter,
         LaneKind::Aggregate { measure: 2 },
         LaneKind::Tally { key: 1, measure: 2 },
+        LaneKind::KeyedAggregate { key: 1, measure: 2 },
     ];
     assert_eq!(lanes, kinds);
     let (part, op, number) = (Part::Sum, Op::Greater, 40);
@@ -157,7 +175,14 @@ fn names_are_told() -> Result<(), Box<dyn Error>> {
         op,
         number,
     };
-    assert_eq!(setup.triggers(), [trigger]);
+    let many = Trigger {
+        name: "many".into(),
+        lane: 4,
+        part: Part::Count,
+        op: Op::AtLeast,
+        number: 2,
+    };
+    assert_eq!(setup.triggers(), [trigger, many]);
     let asks: Vec<_> = setup.questions().iter().map(|it| it.asks).collect();
     let asked = [
         Asks::Total { attribute: 2 },
@@ -178,6 +203,13 @@ fn names_are_told() -> Result<(), Box<dyn Error>> {
             count: 2,
         },
         Asks::Groups { lane: 2 },
+        Asks::Fired {
+            lane: 4,
+            part: Part::Count,
+            op: Op::AtLeast,
+            number: 2,
+        },
+        Asks::Groups { lane: 4 },
     ];
     assert_eq!(asks, asked);
     assert_eq!((setup.question("marks"), setup.question("large")), (Some(2), None));
@@ -235,8 +267,10 @@ fn all_is_asked_at_one_tail() -> Result<(), Box<dyn Error>> {
         quad: Quad { count: 0, ..quad },
     };
     assert_eq!(merge(&[wrong], &[]), Err(MergeError::NoGroups));
-    assert_eq!(reader.groups(0), Err(GroupsError::NoLane));
-    assert_eq!(reader.ask_seen(5), Err(AskError::NoQuestion));
+    for lane in [0, 4, 5] {
+        assert_eq!(reader.groups(lane), Err(GroupsError::NoLane));
+    }
+    assert_eq!(reader.ask_seen(7), Err(AskError::NoQuestion));
     let row = Row {
         number: 7,
         values: vec![Value::Number(1), Value::Number(9), Value::Number(30)],

@@ -108,7 +108,7 @@ text_of n =
     else (if n == 8 then codes "the row does not fit the log's schema"
     else (if n == 9 then codes "the frame is too long, not in the buffer, or of a link not read"
     else (if n == 10 then codes "the setup has no such question, or the line says none"
-    else (if n == 11 then codes "the setup has no such lane, it measures nothing, or it is by a key"
+    else (if n == 11 then codes "the setup has no such lane, it measures nothing or is by a key"
     else (if n == 12 then codes "the reader has seen no record at that offset"
     else (if n == 13 then codes "the setup has nothing of that sort and number"
     else (if n == 14 then codes "the words are no groups, or of too many numbers"

@@ -174,7 +174,7 @@ pub fn message_of(number: u32) -> &'static [u8]
         8 => b"the row does not fit the log's schema",
         9 => b"the frame is too long, not in the buffer, or of a link not read",
         10 => b"the setup has no such question, or the line says none",
-        11 => b"the setup has no such lane, it measures nothing, or it is by a key",
+        11 => b"the setup has no such lane, it measures nothing or is by a key",
         12 => b"the reader has seen no record at that offset",
         13 => b"the setup has nothing of that sort and number",
         14 => b"the words are no groups, or of too many numbers",

@@ -2,8 +2,9 @@
 ghost use Rattle.std.specs.Prelude.{◌≡◌, ℕ, List, ◌<◌, ◌++◌, All, length, map, OnOk, IfOk, string_bytes};
 ghost use Rattle.std.specs.List.{flat_map};
 ghost use Rattle.cf_fold.specs.Sort.{sort};
+ghost use Rattle.cf_shape.specs.Lanes.{both_keys};
 ghost use Rattle.cf_plain.specs.Asks.{rows_in, row_at};
-ghost use Rattle.cf_plain.specs.Groups.{pair_of};
+ghost use Rattle.cf_plain.specs.Groups.{first_key, other_key, pair_of};
 ghost use Rattle.cf_report.specs.Answered.{IsWithin};
 ghost use Rattle.cf_report.specs.Bodies.{numbers_text, number_text, quad_text, bound_text, keys_text, mark_text, marks_text, parts_text, group_text, groups_text, word_of, shown, nums_at, places_in};
 
@@ -117,9 +118,19 @@ fn push_group(text: &mut String, group: &Group) -> Result<(), Memory>
 {
     let quad = group.quad;
     text.push_str(" ")?;
-    push_keys(text, group.key, group.by)?;
+    push_both_keys(text, group.key, group.by)?;
     text.push_str("=")?;
     push_parts(text, quad)
+}
+
+// The keys, which are those of the number that they make.
+fn push_both_keys(text: &mut String, key: u64, by: Option<u64>) -> Result<(), Memory>
+    ensures { OnOk result (string_bytes text.new ≡ string_bytes text.old ++ keys_text (first_key (both_keys key by)) (other_key (both_keys key by))) }
+{
+    match by {
+        None => push_keys(text, key, None),
+        Some(by) => push_keys(text, key, Some(by)),
+    }
 }
 
 // The count, sum, least and greatest number of a quad of some numbers.

@@ -2,8 +2,9 @@
 ghost use Rattle.std.specs.Prelude.{◌≡◌, ◌<◌, [], ◌∷◌, ◌++◌, length, map, IfOk, IfErr, OnOk, MatchOption};
 ghost use Rattle.std.specs.List.{flat_map};
 ghost use Rattle.std.specs.Arc.{arc_value};
+ghost use Rattle.cf_shape.specs.Lanes.{both_keys};
 ghost use Rattle.cf_plain.specs.Asks.{Suits};
-ghost use Rattle.cf_plain.specs.Groups.{pair_of};
+ghost use Rattle.cf_plain.specs.Groups.{first_key, other_key, pair_of};
 ghost use Rattle.cf_table.specs.Moves.{IsReading};
 ghost use Rattle.cf_calls.specs.declared.refusals.AskRefusal.TheVariants.{Memory};
 ghost use Rattle.cf_store.specs.Asks.{AnswersQuestion, AnswersSeen, AsksAt, AsksSeen, AsksTail, FindsGroups, IsMeasured, IsTold, ReadsRow, ShowsRowAt, TellsGroups, is_keyed as is_keyed_of, keys_words, mark_words as mark_words_of, group_words as group_words_of, groups_words, body_words as body_words_of, body_kind as body_kind_of};
@@ -110,10 +111,20 @@ pub(crate) struct Told {
     pub(crate) keyed: bool,
 }
 
+// The same of keys, which are those of the number that they make.
+fn push_both_keys(words: &mut Vec<u64>, key: u64, by: Option<u64>) -> Result<(), NoMemory>
+    ensures { OnOk result (words.new.items ≡ words.old.items ++ keys_words (first_key (both_keys key by)) (other_key (both_keys key by))) }
+{
+    match by {
+        None => push_keys(words, key, None),
+        Some(by) => push_keys(words, key, Some(by)),
+    }
+}
+
 fn push_group(words: &mut Vec<u64>, group: Group) -> Result<(), NoMemory>
     ensures { OnOk result (words.new.items ≡ words.old.items ++ group_words_of (pair_of group)) }
 {
-    push_keys(words, group.key, group.by)?;
+    push_both_keys(words, group.key, group.by)?;
     words.push(group.quad.count())?;
     words.push(group.quad.sum())?;
     words.push(group.quad.least())?;

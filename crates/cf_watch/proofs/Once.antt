@@ -7,17 +7,18 @@ use Rattle.std.proofs.lemmas.List.Elements.{All-cons, All-contains, All-get_or, 
 use Rattle.std.proofs.lemmas.List.Folds.{Any-from_list_any, list_any_at}
 use Rattle.std.specs.List.{list_any}
 use Rattle.cf_fold.specs.declared.trigger.Trigger.{Trigger}
+use Rattle.cf_plain.specs.Groups.{key_of_mark}
 use Rattle.cf_plain.specs.declared.answer.Fired.{Fired}
 use Rattle.cf_watch.specs.Kept.{AreApart, BucketValue, is_kept, is_of, most_triggers}
 use Rattle.cf_watch.specs.Laws.{HasMarkOf, Step, told, after_step, after_steps}
 use Rattle.cf_watch.specs.Marks.{fresh_on, is_told, is_untold, mark_in, meets, put_mark, settled, settled_count, telling, with_told}
-use Rattle.cf_watch.proofs.Apart.{kept_same}
+use Rattle.cf_watch.proofs.Distinct.{kept_same}
 use Rattle.cf_watch.proofs.Since.{few_kept}
 use Rattle.cf_watch.proofs.Steps.{origin}
 use Rattle.cf_watch.proofs.Told.{numbers_first, told_number}
 
 abbrev marks_bucket : ℕ → Fired → Bool
-marks_bucket q mark = mark.bucket == q
+marks_bucket q mark = key_of_mark mark == q
 
 or_twice : (a b : Bool) → (a || b) ≡ (a || (a || b))
 or_twice true b = refl
@@ -47,13 +48,15 @@ none_and false = refl
 
 any_put : (ms : List Fired) (mark : Fired) (q : ℕ) → list_any (marks_bucket q) (put_mark ms mark) ≡ (marks_bucket q mark || list_any (marks_bucket q) ms)
 any_put [] mark q = refl
-any_put (m ∷ ms) mark q = elim (cases_order mark.bucket m.bucket) [
-  | inl e ↦ rw (le-ltb mark.bucket m.bucket (omega (arith, e)), eq-eqb mark.bucket m.bucket e)
-      (rw (sym e) (or_twice (mark.bucket == q) (list_any (marks_bucket q) ms)))
-  | inr (inl below) ↦ rw (lt-ltb mark.bucket m.bucket below) refl
-  | inr (inr above) ↦ rw (le-ltb mark.bucket m.bucket (omega (arith, above)), ne_eqb mark.bucket m.bucket (λ e. omega (arith, e, above)), any_put ms mark q)
-      (or_swap (m.bucket == q) (mark.bucket == q) (list_any (marks_bucket q) ms))
-]
+any_put (m ∷ ms) mark q =
+    let mine : ℕ = key_of_mark mark in
+    let its : ℕ = key_of_mark m in
+    elim (cases_order mine its) [
+      | inl e ↦ rw (le-ltb mine its (omega (arith, e)), eq-eqb mine its e) (rw (sym e) (or_twice (mine == q) (list_any (marks_bucket q) ms)))
+      | inr (inl below) ↦ rw (lt-ltb mine its below) refl
+      | inr (inr above) ↦ rw (le-ltb mine its (omega (arith, above)), ne_eqb mine its (λ e. omega (arith, e, above)), any_put ms mark q)
+          (or_swap (its == q) (mine == q) (list_any (marks_bucket q) ms))
+    ]
 
 any_from : (ms ns : List Fired) (q : ℕ) → list_any (marks_bucket q) (fold put_mark ms ns) ≡ (list_any (marks_bucket q) ms || list_any (marks_bucket q) ns)
 any_from ms [] q = or_none (list_any (marks_bucket q) ms)

@@ -11,7 +11,7 @@ use Rattle.std.specs.declared.cmp.Ordering.TheVariants.{Less, Equal, Greater}
 use Rattle.cf_plain.specs.declared.answer.Fired.{Fired}
 use Rattle.cf_watch.specs.New.{newly, has_place_of, is_on, place_cmp}
 
-is_eq-nat_cmp : (a b : ℕ) → is_eq (nat_cmp a b) ≡ (a == b)
+pub is_eq-nat_cmp : (a b : ℕ) → is_eq (nat_cmp a b) ≡ (a == b)
 is_eq-nat_cmp a b = elim (cases_order a b) [
   | inl e ↦ rw (le-ltb a b (omega (arith, e)), eq-eqb a b e) refl
   | inr (inl below) ↦ rw (lt-ltb a b below, ne_eqb a b (λ e. omega (arith, e, below))) refl

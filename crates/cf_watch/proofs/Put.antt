@@ -11,14 +11,13 @@ use Rattle.cf_plain.specs.declared.answer.Fired.{Fired}
 use Rattle.cf_watch.specs.Kept.{BucketValue}
 use Rattle.cf_watch.specs.Marks.{fired_of, mark_in, marks_of, put_mark}
 
-pub put_entry : (es : List (ℕ × ℕ)) (mark : Fired) → map fired_of (insert_entry nat_cmp es mark.bucket mark.value) ≡ put_mark (map fired_of es) mark
-put_entry [] mark = refl
-put_entry (e ∷ es) mark = elim (cases_order mark.bucket e.0) [
-  | inl same ↦ rw (le-ltb mark.bucket e.0 (omega (arith, same)), eq-eqb mark.bucket e.0 same)
-      (ap (λ (b : ℕ). fired_of (b, mark.value) ∷ map fired_of es) (sym same))
-  | inr (inl below) ↦ rw (lt-ltb mark.bucket e.0 below) refl
-  | inr (inr above) ↦ rw (le-ltb mark.bucket e.0 (omega (arith, above)), ne_eqb mark.bucket e.0 (λ same. omega (arith, same, above)))
-      (ap (λ (ms : List Fired). fired_of e ∷ ms) (put_entry es mark))
+pub put_entry : (es : List (ℕ × ℕ)) (b value : ℕ) → map fired_of (insert_entry nat_cmp es b value) ≡ put_mark (map fired_of es) (fired_of (b, value))
+put_entry [] b value = refl
+put_entry (e ∷ es) b value = elim (cases_order b e.0) [
+  | inl same ↦ rw (le-ltb b e.0 (omega (arith, same)), eq-eqb b e.0 same) (ap (λ (q : ℕ). fired_of (q, value) ∷ map fired_of es) (sym same))
+  | inr (inl below) ↦ rw (lt-ltb b e.0 below) refl
+  | inr (inr above) ↦ rw (le-ltb b e.0 (omega (arith, above)), ne_eqb b e.0 (λ same. omega (arith, same, above)))
+      (ap (λ (ms : List Fired). fired_of e ∷ ms) (put_entry es b value))
 ]
 
 -- a bucket more that passes
@@ -30,7 +29,7 @@ marks_more trigger passes kept i d before after lt pass is put =
     let mark : Fired = mark_in trigger (get_or kept i d) in
     let some : filter passes (take (i + 1) kept) ≡ filter passes (take i kept) ++ get_or kept i d ∷ [] =
     filter_more passes kept i d lt ∙ ap (λ b. filter passes (take i kept) ++ cond b (get_or kept i d ∷ []) []) pass in
-    rw (put, put_entry before mark, is, some, map-append (mark_in trigger) (filter passes (take i kept)) (get_or kept i d ∷ []))
+    rw (put, put_entry before mark.bucket mark.value, is, some, map-append (mark_in trigger) (filter passes (take i kept)) (get_or kept i d ∷ []))
     (sym (fold_push put_mark [] (map (mark_in trigger) (filter passes (take i kept))) mark))
 
 -- a bucket more that does not

@@ -8,10 +8,10 @@ use Rattle.std.proofs.lemmas.List.Folds.{Any-from_list_any, list_any_at}
 use Rattle.std.specs.List.{remove}
 use Rattle.cf_fold.specs.Quads.{QuadValue, plus}
 use Rattle.cf_watch.specs.Kept.{AreApart, BucketValue, IsKept, begun, is_kept, is_of, is_other, most_kept, taking, with_record, with_room}
-use Rattle.cf_watch.proofs.Apart.{apart_push, apart_rest, one_of, other_apart, others_lack, rest_fewer}
+use Rattle.cf_watch.proofs.Distinct.{apart_push, apart_rest, one_of, other_apart, others_lack, rest_fewer}
 
 -- a bucket that was changed at its place and then moved to the end
-pub moved : (kept : List BucketValue) (i : ℕ) (k d : BucketValue) → i < length kept
+pub moved : {X : Type 0} → (kept : List X) (i : ℕ) (k d : X) → i < length kept
     → remove (set kept i k) i ++ get_or (set kept i k) i d ∷ [] ≡ remove kept i ++ k ∷ []
 moved kept i k d lt =
     let same : remove (set kept i k) i ≡ remove kept i = rw (take-set kept i k, drop-set-lt (suc i) kept i k (omega arith)) refl in
@@ -29,7 +29,7 @@ taken_at kept i b n d apart lt is =
 pub begun_at : (kept : List BucketValue) (b n : ℕ) → is_kept kept b ≡ false → with_room kept ++ begun b n ∷ [] ≡ taking kept b n
 begun_at kept b n none = rw none refl
 
-more_counted : (q : QuadValue) (n count : ℕ) → q.count ≤ count → (plus q n).count ≤ count + 1
+pub more_counted : (q : QuadValue) (n count : ℕ) → q.count ≤ count → (plus q n).count ≤ count + 1
 more_counted q n count le = elim (cases_eq q.count 0) [
   | inl e ↦ rw (eq-eqb q.count 0 e) (omega arith)
   | inr ne ↦ rw (ne_eqb q.count 0 ne) (omega (arith, le))

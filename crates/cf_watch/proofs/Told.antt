@@ -8,10 +8,10 @@ use Rattle.std.specs.Option.{MatchOption, is_some}
 use Rattle.cf_fold.specs.declared.trigger.Trigger.{Trigger}
 use Rattle.cf_watch.specs.Kept.{BucketValue, IsKept, is_kept, most_kept}
 use Rattle.cf_watch.specs.Marks.{forgets_untold, grows, is_bucket_untold, is_first_untold, is_untold, meets, no_trigger, settled, settled_count, telling, with_told}
-use Rattle.cf_watch.proofs.Apart.{apart_same, numbers}
+use Rattle.cf_watch.proofs.Distinct.{apart_same, numbers}
 
 -- one more of them is changed in its place
-pub told_more : (f : BucketValue → BucketValue) (xs ys : List BucketValue) (i : ℕ) (d x : BucketValue) → i < length xs → ys ≡ map f (take i xs) ++ drop i xs
+pub told_more : {X : Type 0} → (f : X → X) (xs ys : List X) (i : ℕ) (d x : X) → i < length xs → ys ≡ map f (take i xs) ++ drop i xs
     → x ≡ f (get_or ys i d) → set ys i x ≡ map f (take (i + 1) xs) ++ drop (i + 1) xs
 told_more f xs ys i d x lt is new =
     let front : length (map f (take i xs)) ≡ i = length-map (take i xs) f ∙ length-take-le i xs (omega (arith, lt)) in
@@ -52,7 +52,7 @@ told_number trigger place k = elim (cases_Bool (meets trigger k)) [ inl met ↦ 
 pub told_quad : (trigger : Trigger) (place : ℕ) (k : BucketValue) → (with_told trigger place k).quad ≡ k.quad
 told_quad trigger place k = elim (cases_Bool (meets trigger k)) [ inl met ↦ rw met refl | inr unmet ↦ rw unmet refl ]
 
-told_numbers : (trigger : Trigger) (place : ℕ) (kept : List BucketValue) → numbers (map (with_told trigger place) kept) ≡ numbers kept
+pub told_numbers : (trigger : Trigger) (place : ℕ) (kept : List BucketValue) → numbers (map (with_told trigger place) kept) ≡ numbers kept
 told_numbers trigger place [] = refl
 told_numbers trigger place (k ∷ ks) = rw (told_number trigger place k, told_numbers trigger place ks) refl
 

@@ -1,5 +1,5 @@
 -- Streams of few buckets, of which none is forgotten.
-use Rattle.std.proofs.Common.{◌≡◌, ℕ, suc, ◌+◌, ◌-◌, ◌^◌, ◌≤◌, ◌<◌, Bool, true, false, ◌||◌, ◌&&◌, ◌==◌, List, [], ◌∷◌, ◌++◌, length, map, filter, fold, min, All, refl, sym, ap, ap₂, ◌∙◌, inl, inr, arith, append-nil, append_assoc, get_or}
+use Rattle.std.proofs.Common.{◌≡◌, ℕ, suc, ◌+◌, ◌-◌, ◌^◌, ◌≤◌, ◌<◌, Bool, true, false, ◌||◌, ◌&&◌, ◌==◌, List, [], ◌∷◌, ◌++◌, length, map, filter, fold, min, All, refl, sym, ap, ap₂, ◌∙◌, inl, inr, arith, append-nil, append_assoc, get_or, None}
 use Rattle.std.proofs.lemmas.Bool.{cases_Bool, cond-false, cond-true, cases_eq, cases_order, eq-eqb, eqb-false, false≢true, le-ltb, lt-leb, lt-ltb, ne_eqb, or_parts}
 use Rattle.std.proofs.lemmas.List.{length-append, length_push, length-map, take_all}
 use Rattle.std.proofs.lemmas.List.Concat.{flat_map-append}
@@ -7,12 +7,12 @@ use Rattle.std.proofs.lemmas.List.Elements.{All-weaker, recursion_from_All}
 use Rattle.std.proofs.lemmas.List.Folds.{list_any-append}
 use Rattle.std.proofs.lemmas.List.Sums.{fold-append, fold_push}
 use Rattle.std.specs.List.{AllByRecursion, flat_map, list_any}
-use Rattle.cf_row.specs.Row.{RowValue}
+use Rattle.cf_row.specs.Row.{Fits, RowValue}
 use Rattle.cf_fold.specs.Quads.{QuadValue, quad_of}
 use Rattle.cf_fold.specs.Triggers.{fires_of, part_of}
 use Rattle.cf_fold.specs.declared.trigger.Trigger.{Trigger}
-use Rattle.cf_shape.specs.Lanes.{ShapeValue, key_of, measure_of, selected_by}
-use Rattle.cf_plain.specs.Asks.{mark_of, marks_over}
+use Rattle.cf_shape.specs.Lanes.{ShapeValue, group_key, has_by, key_of, lane_at, measure_of, selected_by}
+use Rattle.cf_plain.specs.Asks.{mark_of, marks_in, marks_over}
 use Rattle.cf_plain.specs.Groups.{ascending, group_of, has_key, insert_into, keys_in}
 use Rattle.cf_plain.specs.declared.answer.Fired.{Fired}
 use Rattle.cf_plain.proofs.Grouped.{Rise, any_ascending, rise_ascending}
@@ -20,7 +20,8 @@ use Rattle.cf_plain.proofs.Rising.{rising_is_one}
 use Rattle.cf_watch.specs.Kept.{BucketValue, begun, is_full, is_kept, is_of, is_other, kept_after, most_kept, taking, with_record}
 use Rattle.cf_watch.specs.Laws.{Step, took, told, after_step, after_steps, shown_mark, value_in, values_of}
 use Rattle.cf_watch.specs.Marks.{by_bucket, mark_in, marks_on, meets, put_mark, settled_count, telling}
-use Rattle.cf_watch.proofs.Apart.{kept_same, numbers}
+use Rattle.cf_watch.proofs.Keys.{AreLow, key_low, low_ascending, plain_key, plain_keys}
+use Rattle.cf_watch.proofs.Distinct.{kept_same, numbers}
 use Rattle.cf_watch.proofs.Since.{all_since}
 use Rattle.cf_watch.proofs.Told.{numbers_first}
 use Rattle.cf_watch.proofs.Totals.{row_step, rows_are_steps, selected}
@@ -207,7 +208,7 @@ whole_quads steps few = λ i d lt.
 
 -- marks by the numbers of buckets
 abbrev mark_at : Trigger → (ℕ → QuadValue) → ℕ → Fired
-mark_at trigger quad q = record { bucket = q; value = min (part_of trigger.part (quad q)) (2 ^ 64 - 1) }
+mark_at trigger quad q = record { bucket = q; key = None; value = min (part_of trigger.part (quad q)) (2 ^ 64 - 1) }
 
 abbrev fires_at : Trigger → (ℕ → QuadValue) → ℕ → Bool
 fires_at trigger quad q = fires_of trigger (quad q)
@@ -222,7 +223,7 @@ marks_by_numbers trigger quad (k ∷ ks) all =
           let met : meets trigger k ≡ true = ap (fires_of trigger) all.0 ∙ fired in
           ap (map (mark_in trigger)) (cond-true (meets trigger k) (k ∷ filter (meets trigger) ks) (filter (meets trigger) ks) met)
           ∙ ap₂ (λ (m : Fired) (ms : List Fired). m ∷ ms)
-          (ap (λ (q : QuadValue). record { bucket = k.bucket; value = min (part_of trigger.part q) (2 ^ 64 - 1) }) all.0) rest
+          (ap (λ (q : QuadValue). record { bucket = k.bucket; key = None; value = min (part_of trigger.part q) (2 ^ 64 - 1) }) all.0) rest
           ∙ sym (ap (map (mark_at trigger quad)) (cond-true (fires_at trigger quad k.bucket) (k.bucket ∷ filter (fires_at trigger quad) (numbers ks)) (filter (fires_at trigger quad) (numbers ks)) fired))
       | inr quiet ↦
           let unmet : meets trigger k ≡ false = ap (fires_of trigger) all.0 ∙ quiet in
@@ -284,45 +285,59 @@ has_numbers [] q = refl
 has_numbers (k ∷ ks) q = ap₂ (λ s t. s || t) (eq_swap q k.bucket) (has_numbers ks q)
 
 -- the marks of groups
-shown_groups : (shape : ShapeValue) (trigger : Trigger) (rows : List RowValue) (qs : List ℕ)
+shown_groups : (shape : ShapeValue) (trigger : Trigger) (rows : List RowValue) (qs : List ℕ) → AreLow qs
     → map shown_mark (map (mark_of trigger) (filter (λ g. fires_of trigger g.1) (map (group_of shape trigger.agg rows) qs)))
     ≡ map (mark_at trigger (λ q. (group_of shape trigger.agg rows q).1)) (filter (fires_at trigger (λ q. (group_of shape trigger.agg rows q).1)) qs)
-shown_groups shape trigger rows [] = refl
-shown_groups shape trigger rows (q ∷ qs) = elim (cases_Bool (fires_of trigger (group_of shape trigger.agg rows q).1)) [
-  | inl fired ↦ rw fired (ap (λ (ms : List Fired). mark_at trigger (λ b. (group_of shape trigger.agg rows b).1) q ∷ ms) (shown_groups shape trigger rows qs))
-  | inr quiet ↦ rw quiet (shown_groups shape trigger rows qs)
+shown_groups shape trigger rows [] low = refl
+shown_groups shape trigger rows (q ∷ qs) low = elim (cases_Bool (fires_of trigger (group_of shape trigger.agg rows q).1)) [
+  | inl fired ↦ rw (fired, lt-ltb q (2 ^ 64) low.0)
+      (ap (λ (ms : List Fired). mark_at trigger (λ b. (group_of shape trigger.agg rows b).1) q ∷ ms) (shown_groups shape trigger rows qs low.1))
+  | inr quiet ↦ rw quiet (shown_groups shape trigger rows qs low.1)
 ]
 
 -- what steps of rows bring
-values_are : (shape : ShapeValue) (lane q : ℕ) (rows : List RowValue)
+values_are : (shape : ShapeValue) (lane q : ℕ) (rows : List RowValue) → has_by (lane_at shape lane).key ≡ false
     → values_of q (map (row_step shape lane) (selected shape lane rows)) ≡ map (measure_of shape lane) (filter (has_key shape lane q) rows)
-values_are shape lane q [] = refl
-values_are shape lane q (row ∷ rows) = elim (cases_Bool (selected_by shape lane row)) [
-  | inl takes ↦ elim (cases_Bool (key_of shape lane row == q)) [
-    | inl same ↦ rw (takes, same) (ap (λ vs. measure_of shape lane row ∷ vs) (values_are shape lane q rows))
-    | inr other ↦ rw (takes, other) (values_are shape lane q rows)
-  ]
-  | inr passes ↦ rw passes (values_are shape lane q rows)
+values_are shape lane q [] plain = refl
+values_are shape lane q (row ∷ rows) plain =
+    let key : (group_key shape lane row == q) ≡ (key_of shape lane row == q) = ap (λ k. k == q) (plain_key shape lane row plain) in
+    elim (cases_Bool (selected_by shape lane row)) [
+      | inl takes ↦ elim (cases_Bool (key_of shape lane row == q)) [
+        | inl same ↦ rw (takes, key ∙ same, same) (ap (λ vs. measure_of shape lane row ∷ vs) (values_are shape lane q rows plain))
+        | inr other ↦ rw (takes, key ∙ other, other) (values_are shape lane q rows plain)
+      ]
+      | inr passes ↦ rw passes (values_are shape lane q rows plain)
+    ]
+
+keys_low : (shape : ShapeValue) (lane : ℕ) (rows : List RowValue) → AllByRecursion (Fits shape.schema) rows → AreLow (map (key_of shape lane) (selected shape lane rows))
+keys_low shape lane [] fit = tt
+keys_low shape lane (row ∷ rows) fit = elim (cases_Bool (selected_by shape lane row)) [
+  | inl takes ↦ rw takes (key_low shape lane row fit.0, keys_low shape lane rows fit.1)
+  | inr passes ↦ rw passes (keys_low shape lane rows fit.1)
 ]
 
 buckets_are : (shape : ShapeValue) (lane : ℕ) (rows : List RowValue) → buckets_in (map (row_step shape lane) rows) ≡ map (key_of shape lane) rows
 buckets_are shape lane [] = refl
 buckets_are shape lane (row ∷ rows) = ap (λ bs. key_of shape lane row ∷ bs) (buckets_are shape lane rows)
 
-pub whole_streams : (shape : ShapeValue) (trigger : Trigger) (rows : List RowValue) → length (keys_in shape trigger.agg rows) ≤ most_kept
+pub whole_streams : (shape : ShapeValue) (trigger : Trigger) (rows : List RowValue) → has_by (lane_at shape trigger.agg).key ≡ false → All (Fits shape.schema) rows
+    → length (keys_in shape trigger.agg rows) ≤ most_kept
     → marks_on trigger true (kept_after shape trigger.agg rows).buckets ≡ map shown_mark (marks_over shape trigger rows)
-whole_streams shape trigger rows few =
+whole_streams shape trigger rows plain fit few =
     let lane = trigger.agg in
     let steps : List Step = map (row_step shape lane) (selected shape lane rows) in
     let keys : List ℕ = map (key_of shape lane) (selected shape lane rows) in
     let kept : List BucketValue = after_steps steps in
     let quad : ℕ → QuadValue = λ q. (group_of shape lane rows q).1 in
     let cut : buckets_in steps ≡ keys = buckets_are shape lane (selected shape lane rows) in
-    let room : length (ascending (buckets_in steps)) ≤ most_kept = rw cut few in
+    let same_keys : keys_in shape lane rows ≡ ascending keys = ap ascending (plain_keys shape lane (selected shape lane rows) plain) in
+    let fewer : length (ascending keys) ≤ most_kept = rw same_keys at few in
+    let room : length (ascending (buckets_in steps)) ≤ most_kept = rw cut fewer in
+    let low : AreLow (ascending keys) = low_ascending keys (keys_low shape lane rows (recursion_from_All (Fits shape.schema) rows fit)) in
     let all = all_kept steps room in
     let quads : All (λ k. k.quad ≡ quad k.bucket) kept =
     All-weaker (λ k. k.quad ≡ quad_of (values_of k.bucket steps)) (λ k. k.quad ≡ quad k.bucket)
-    (λ k is. is ∙ ap quad_of (values_are shape lane k.bucket rows)) kept (whole_quads steps room) in
+    (λ k is. is ∙ ap quad_of (values_are shape lane k.bucket rows plain)) kept (whole_quads steps room) in
     let same : (q : ℕ) → has (numbers kept) q ≡ has (ascending keys) q =
     λ q. has_numbers kept q ∙ all.members q ∙ ap (λ bs. has bs q) cut ∙ sym (any_ascending keys q) in
     let fires : ℕ → Bool = fires_at trigger quad in
@@ -335,4 +350,5 @@ whole_streams shape trigger rows few =
     ∙ ap by_bucket (marks_by_numbers trigger quad kept (recursion_from_All (λ k. k.quad ≡ quad k.bucket) kept quads))
     ∙ by_at trigger quad [] (filter fires (numbers kept))
     ∙ ap (map (mark_at trigger quad)) order
-    ∙ sym (shown_groups shape trigger rows (ascending keys))
+    ∙ sym (shown_groups shape trigger rows (ascending keys) low)
+    ∙ ap (λ qs. map shown_mark (marks_in trigger (map (group_of shape lane rows) qs))) (sym same_keys)

@@ -1,12 +1,12 @@
 -- What is so of kept buckets, whatever records come and whenever marks are told.
 use Rattle.std.specs.Prelude.{◌≡◌, ℕ, ◌<◌, ◌≤◌, ◌%◌, ◌^◌, true, false, ◌==◌, List, [], ◌∷◌, ◌++◌, length, take, map, filter, fold, sum, min, ◌-◌, All, if◌then◌else◌}
 use Rattle.std.specs.List.{flat_map, list_any}
-use Rattle.cf_row.specs.Row.{RowValue}
+use Rattle.cf_row.specs.Row.{Fits, RowValue}
 use Rattle.cf_fold.specs.Quads.{quad_of}
 use Rattle.cf_fold.specs.declared.trigger.Trigger.{Trigger}
-use Rattle.cf_shape.specs.Lanes.{ShapeValue, selected_by, key_of, measure_of}
+use Rattle.cf_shape.specs.Lanes.{ShapeValue, has_by, lane_at, selected_by, key_of, measure_of}
 use Rattle.cf_plain.specs.Asks.{marks_over}
-use Rattle.cf_plain.specs.Groups.{keys_in}
+use Rattle.cf_plain.specs.Groups.{key_of_mark, keys_in}
 use Rattle.cf_plain.specs.declared.answer.Fired.{Fired}
 use Rattle.cf_watch.specs.Kept.{AreApart, BucketValue, is_kept, kept_after, most_kept, most_triggers, taking, with_record}
 use Rattle.cf_watch.specs.Marks.{fresh_on, grows, marks_on, meets, telling}
@@ -53,7 +53,7 @@ QuadsAreWhole =
 
 -- a mark of that bucket is among them
 abbrev pub HasMarkOf : List Fired → ℕ → Type 0
-HasMarkOf marks b = list_any (λ mark. mark.bucket == b) marks ≡ true
+HasMarkOf marks b = list_any (λ mark. key_of_mark mark == b) marks ≡ true
 
 -- Between two times at which a bucket is told for the trigger of one place there is a time at which it isn't kept.
 abbrev pub TellsOnce : Type 0
@@ -83,11 +83,12 @@ RowsAreSteps =
 
 -- a mark as a watch shows it: a value above 2^64 - 1 counts as that
 abbrev pub shown_mark : Fired → Fired
-shown_mark mark = record { bucket = mark.bucket; value = min mark.value (2 ^ 64 - 1) }
+shown_mark mark = record { bucket = mark.bucket; key = mark.key; value = min mark.value (2 ^ 64 - 1) }
 
--- If the records of an aggregate are in no more buckets than are kept, then its triggers' marks in the final part are what they mean
--- on all of them.
+-- If the records of an aggregate that keeps no keys apart fit the schema and are in no more buckets than are kept, then its triggers'
+-- marks in the final part are what they mean on all of them.
 abbrev pub WholeStreams : Type 0
 WholeStreams =
-    (shape : ShapeValue) (trigger : Trigger) (rows : List RowValue) → length (keys_in shape trigger.agg rows) ≤ most_kept
+    (shape : ShapeValue) (trigger : Trigger) (rows : List RowValue) → has_by (lane_at shape trigger.agg).key ≡ false → All (Fits shape.schema) rows
+    → length (keys_in shape trigger.agg rows) ≤ most_kept
     → marks_on trigger true (kept_after shape trigger.agg rows).buckets ≡ map shown_mark (marks_over shape trigger rows)

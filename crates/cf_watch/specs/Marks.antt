@@ -1,5 +1,5 @@
 -- The marks of triggers on whole buckets, and which of them were told.
-use Rattle.std.specs.Prelude.{ℕ, ◌-◌, ◌^◌, Bool, true, false, not, ◌&&◌, ◌||◌, nat_lt, ◌==◌, List, [], ◌∷◌, ◌++◌, length, take, drop, map, filter, fold, min, slice_index_or, slice_set, if◌then◌else◌}
+use Rattle.std.specs.Prelude.{ℕ, ◌-◌, ◌^◌, Bool, true, false, not, ◌&&◌, ◌||◌, nat_lt, ◌==◌, List, [], ◌∷◌, ◌++◌, length, take, drop, map, filter, fold, min, slice_index_or, slice_set, None, if◌then◌else◌}
 use Rattle.std.specs.List.{list_any, range_with_len}
 use Rattle.cf_row.specs.declared.expr.Op.{Op}
 use Rattle.cf_row.specs.declared.expr.Op.TheVariants.{Eq, Ne, Lt, Le, Gt, Ge, Within, Outside}
@@ -7,6 +7,7 @@ use Rattle.cf_fold.specs.Triggers.{fires_of, part_of}
 use Rattle.cf_fold.specs.declared.trigger.Part.{Part}
 use Rattle.cf_fold.specs.declared.trigger.Part.TheVariants.{Count, Sum, Least, Greatest}
 use Rattle.cf_fold.specs.declared.trigger.Trigger.{Trigger}
+use Rattle.cf_plain.specs.Groups.{key_of_mark}
 use Rattle.cf_plain.specs.declared.answer.Fired.{Fired}
 use Rattle.cf_watch.specs.Kept.{BucketValue, is_full, is_kept}
 
@@ -54,16 +55,16 @@ meets trigger kept = fires_of trigger kept.quad
 
 -- The mark of a bucket in which it fires. A part above 2^64 - 1, which is a sum, counts as that; the trigger has seen the whole one.
 abbrev pub mark_in : Trigger → BucketValue → Fired
-mark_in trigger kept = record { bucket = kept.bucket; value = min (part_of trigger.part kept.quad) (2 ^ 64 - 1) }
+mark_in trigger kept = record { bucket = kept.bucket; key = None; value = min (part_of trigger.part kept.quad) (2 ^ 64 - 1) }
 
--- a mark put into its place among marks that ascend by bucket; of one bucket the later stays
+-- a mark put into its place among marks that ascend by bucket and, where a lane keeps keys apart, by key; of one place the later stays
 abbrev pub put_mark : List Fired → Fired → List Fired
 put_mark [] mark = mark ∷ []
 put_mark (m ∷ ms) mark =
-    if nat_lt mark.bucket m.bucket then mark ∷ m ∷ ms
-    else (if mark.bucket == m.bucket then mark ∷ ms else m ∷ put_mark ms mark)
+    if nat_lt (key_of_mark mark) (key_of_mark m) then mark ∷ m ∷ ms
+    else (if key_of_mark mark == key_of_mark m then mark ∷ ms else m ∷ put_mark ms mark)
 
--- marks, ascending by bucket
+-- marks, ascending
 abbrev pub by_bucket : List Fired → List Fired
 by_bucket marks = fold put_mark [] marks
 
@@ -122,4 +123,4 @@ is_bucket_untold lane triggers kept place =
 
 -- a bucket with a value, as a mark
 abbrev pub fired_of : ℕ × ℕ → Fired
-fired_of pair = record { bucket = pair.0; value = pair.1 }
+fired_of pair = record { bucket = pair.0; key = None; value = pair.1 }

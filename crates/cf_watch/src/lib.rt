@@ -6,23 +6,36 @@ ghost use Rattle.std.specs.List.{list_any};
 ghost use Rattle.std.specs.BTreeSet.{contains};
 ghost use Rattle.cf_watch.specs.New.{is_on, newly as newly_of, place_cmp};
 
+mod apart;
 mod bucket;
 mod kept;
+mod kept_apart;
 mod laws;
 mod marks;
+mod pair_marks;
+mod pairs;
+mod watched;
 
 use cf_plain::Fired;
 use cf_row::Memory;
 pub use kept::Kept;
+pub use kept_apart::KeptApart;
 pub use laws::{
     buckets_are_told_once, few_are_kept, growing_marks_stay, quads_are_whole, rows_are_kept,
     whole_streams_are_seen,
 };
 use std::alloc::Global;
 use std::collections::BTreeSet;
+pub use watched::Watched;
 
 /// How many buckets are kept of an aggregate.
 pub const MOST_KEPT: usize = 4096;
+
+/// How many buckets are kept of an aggregate by key.
+pub const MOST_APART: usize = 8;
+
+/// How many pairs of a bucket and a key are kept in them.
+pub const MOST_PAIRS: usize = 65_536;
 
 /// How many triggers there may be.
 pub const MOST_TRIGGERS: usize = 16;

@@ -18,9 +18,9 @@ use std::alloc::Global;
 /// The version of these calls: 1,000,000 for the major number, 1,000 for the minor one, 1 for the patch.
 #[unsafe(no_mangle)]
 pub extern "C" fn confluo_version() -> u32
-    ensures { result ≡ 4000 }
+    ensures { result ≡ 5000 }
 {
-    4_000
+    5_000
 }
 
 /// Copies the text of the code of that number, from that byte on, as far as there is room. Answers how many bytes.

@@ -1,0 +1,108 @@
+// The keys of a bucket that are kept apart.
+ghost use Rattle.std.specs.Prelude.{◌≡◌, ◌<◌, ◌^◌, [], ◌∷◌, ◌++◌, length, map, false, slice_index_or, slice_set, IfOk, MatchOption, OnErr, OnOk};
+ghost use Rattle.cf_watch.specs.Kept.{AreApart, begun, is_kept, with_record};
+ghost use Rattle.cf_watch.specs.Marks.{with_told};
+
+use crate::MOST_TRIGGERS;
+use crate::bucket::Bucket;
+use crate::marks::tell_first;
+use cf_fold::Trigger;
+use cf_row::Memory;
+use std::alloc::Global;
+use std::collections::BTreeMap;
+use std::marker::Model;
+
+// What is kept of each key, in the order in which they came, the key standing for the number of a bucket; and their places by key.
+#[derive(Drop)]
+pub(crate) struct Pairs {
+    items: Vec<Bucket>,
+    places: BTreeMap<u64, usize>,
+}
+
+impl Model for Pairs {
+    ghost use Rattle.std.specs.Prelude.{List};
+    ghost use Rattle.cf_watch.specs.Kept.{BucketValue};
+    ghost use Rattle.cf_watch.specs.Pairs.{IsIndexed};
+
+    ghost Value = { List BucketValue };
+
+    ghost view = { λ p. p.items.items };
+
+    ghost invariant = { λ p. IsIndexed p.places p.items.items };
+}
+
+impl Pairs {
+    // One key with one record.
+    pub(crate) fn new(alloc: Global, key: u64, value: u32) -> Result<Pairs, Memory>
+        ensures { IfOk result (λ pairs. pairs ≡ begun key value ∷ []) }
+    {
+        let mut pairs = Pairs {
+            items: Vec::new(alloc),
+            places: BTreeMap::new(alloc),
+        };
+        pairs.push(key, value)?;
+        Ok(pairs)
+    }
+
+    // What is kept of each key.
+    pub(crate) fn as_slice(&self) -> &[Bucket]
+        ensures is { result.now ≡ self.now }
+        ensures apart { AreApart self.now }
+    {
+        self.items.as_slice()
+    }
+
+    // How many keys there are.
+    pub(crate) fn len(&self) -> usize
+        ensures { result ≡ length self.now }
+    {
+        self.items.len()
+    }
+
+    // The place of the key.
+    pub(crate) fn place(&self, key: u64) -> Option<usize>
+        ensures place { MatchOption result (is_kept self.now key ≡ false) (λ place. (place < length self.now) × ((slice_index_or self.now place (begun 0 0)).bucket ≡ key)) }
+        ensures apart { AreApart self.now }
+    {
+        match self.places.get(&key) {
+            Some(place) => Some(*place),
+            None => None,
+        }
+    }
+
+    // The key at a place takes a record.
+    pub(crate) fn add(&mut self, place: usize, value: u32)
+        requires exists { place < length self.old }
+        requires few { (slice_index_or self.old place (begun 0 0)).quad.count < 2 ^ 53 }
+        ensures { self.new ≡ slice_set self.old place (with_record value (slice_index_or self.old place (begun 0 0))) }
+    {
+        let pair = &mut self.items[place];
+        pair.add(value);
+    }
+
+    // A key that is not there begins with a record. Without memory nothing has changed.
+    pub(crate) fn push(&mut self, key: u64, value: u32) -> Result<(), Memory>
+        requires { is_kept self.old key ≡ false }
+        ensures ok { OnOk result (self.new ≡ self.old ++ begun key value ∷ []) }
+        ensures err { OnErr result (self.new ≡ self.old) }
+    {
+        let place = self.items.len();
+        self.items.push(Bucket::new(key, value))?;
+        match self.places.insert(key, place) {
+            Ok(_) => Ok(()),
+            Err(failed) => {
+                self.items.truncate(place);
+                Err(Memory::from(failed))
+            }
+        }
+    }
+
+    // Each key in which the trigger fires is told, for its place in the setup.
+    pub(crate) fn tell(&mut self, trigger: &Trigger, place: u8)
+        requires { place < MOST_TRIGGERS }
+        ensures { self.new ≡ map (with_told trigger.now place) self.old }
+    {
+        let count = self.items.len();
+        tell_first(&mut self.items, count, trigger, place);
+    }
+}
