@@ -2,7 +2,7 @@ pub mod ByRow
 pub mod Found
 pub mod Nodes
 pub mod Smaller
-pub mod Growing
+pub mod Takes
 pub mod Longs
 pub mod Texts
 pub mod Setups

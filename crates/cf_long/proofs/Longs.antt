@@ -26,7 +26,7 @@ use Rattle.cf_long.specs.Growing.{GrowingValue, HasTaken, IsSmaller, TakesMore, 
 use Rattle.cf_long.specs.Longs.{HaveNodes, IsLetGo, IsLong, LongValue, MayFollow, TakesSome, count_of, shape_in}
 use Rattle.cf_long.proofs.ByRow.{all_told, each_within}
 use Rattle.cf_long.proofs.Found.{can_join_each, joined_in}
-use Rattle.cf_long.proofs.Growing.{taken_count}
+use Rattle.cf_long.proofs.Takes.{taken_count}
 use Rattle.cf_long.proofs.Nodes.{few_both, unmade_behind}
 
 -- Rows that are numbered one by one.
