@@ -42,6 +42,7 @@ RUN = [
     "examples/README.md",
     "examples/formats/README.md",
     "examples/dual_stack/README.md",
+    "examples/flood/README.md",
 ]
 SECONDS = 60
 

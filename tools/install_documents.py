@@ -34,7 +34,7 @@ EXAMPLES = [
     "incidents/*.report",
 ]
 EXAMPLES += ["formats/*.md", "formats/*.dump", "formats/*.pcap*", "dual_stack/*.md", "dual_stack/*.pcap"]
-EXAMPLES += ["monitoring/*"]
+EXAMPLES += ["flood/*.md", "flood/*.pcap", "flood/*.setup", "flood/*.report", "monitoring/*"]
 LINK = re.compile(r"(!?)\[([^\]]*)\]\(([^)\s]+)\)")
 
 

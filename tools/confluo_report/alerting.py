@@ -14,7 +14,7 @@ from .outputs import Output, Silent, Stopper, json_line, report_trouble
 from .reports import RoundAlert, Told, told_text
 from .setups import Setup
 from .show import condition_text
-from .values import utc
+from .values import by_text, utc
 
 MOST_WAITING = 65536
 # How often commands are looked at, in seconds, if none has ended.
@@ -162,8 +162,12 @@ def environment_of(event: Event, setup: Setup | None) -> dict[str, str]:
         "CONFLUO_VALUE": str(alert.value),
         "CONFLUO_RECORDS": str(alert.prefix),
     }
+    if alert.by is not None:
+        found["CONFLUO_KEY"] = str(alert.by)
     trigger = setup.trigger(alert.trigger) if setup else None
     if setup and trigger:
+        if alert.by is not None and trigger.aggregate.by is not None:
+            found["CONFLUO_KEY_TEXT"] = by_text(setup, trigger.aggregate, alert.by)
         found["CONFLUO_TIME"] = utc(alert.bucket * setup.nanoseconds)
         found["CONFLUO_CONDITION"] = condition_text(setup, trigger)
     return found

@@ -14,6 +14,8 @@ from typing import Iterable, Iterator, Mapping, Sequence
 from . import program
 from .addresses import Again, Answer, Asker, Ranked, both_families, whole_addresses
 from .details import details_of, details_of_all, dumped_values, split_rows
+from .doubled import Asker as PairAsker
+from .doubled import Doubled, doubled, doubled_lines
 from .errors import Complaint
 from .explain import Case, explain
 from .expressions import Attribute
@@ -38,7 +40,20 @@ from .questions import (
     whole_of,
     write_setup,
 )
-from .reports import Body, Fired, Found, Pair, Quad, Report, Top, lines_of, parse_report, refusal_of
+from .reports import (
+    Body,
+    Fired,
+    Found,
+    Group,
+    Groups,
+    Pair,
+    Quad,
+    Report,
+    Top,
+    lines_of,
+    parse_report,
+    refusal_of,
+)
 from .setups import PARTS, Setup, SetupFault, parse_setup
 from .show import Viewer, bucket_lines, count_text, body_lines, silence_line, top_lines
 from .tables import Style
@@ -247,6 +262,8 @@ class Answered:
     ranked: dict[int, Ranked] = field(default_factory=dict)
     # By the places of their questions, what is said of two kinds of packets.
     paired: dict[int, Paired] = field(default_factory=dict)
+    # The same of those over two attributes.
+    doubled: dict[int, Doubled] = field(default_factory=dict)
 
     def joined(self, name: str) -> Joined | None:
         return next((it for it in self.merged.asks if it.name == name), None)
@@ -332,6 +349,8 @@ def _answer(job: Job, queries: list[Query], files: Files, style: Style, most: in
         ranked = _ranked_again(job, it, merged.asks[at], setup, files)
         if ranked:
             answered.ranked[at] = ranked
+        if it.second:
+            answered.doubled[at] = doubled(it, _pair_asker_of(job, it, files))
         if it.is_paired:
             answered.paired[at] = _paired(job, it, (merged.asks[at], answered.joined(answers_of(at))), files)
     return _with_flows(job, answered, files)
@@ -410,24 +429,51 @@ def asker_of(job: Job, query: Query, files: Files) -> Asker:
     )
 
 
-def _values(job: Job, query: Query, expression: str, files: Files) -> dict[int, int]:
-    """The part of every address: the packets are listed, and what `confluo dump` prints of them is added up."""
+def _listed(job: Job, expression: str, names: Sequence[str], files: Files) -> Iterator[tuple[int, ...]]:
+    """These values of all packets of the expression: they are listed, and `confluo dump` prints them."""
     text = f"schema {job.schema}\nask q list {expression}\n"
     valid(text)
-    names = (query.key, f"{query.key}_low", query.measure)
-    parts: dict[int, list[int]] = {}
     bodies = [it.body for named in _reports(job, text, *files) for it in named.report.asks]
     rows: Iterable[set[int]] = (set(it.rows) for it in bodies if isinstance(it, Found))
     if job.as_one:
         (all_rows,) = rows
         rows = split_rows(files[1], sorted(all_rows), job.may_be_cut)
     for its, capture in zip(rows, files[1]):
-        for high, low, value in dumped_values(capture, its, job.may_be_cut, names):
-            address = (high << 64) + low
-            known = parts.setdefault(address, [0, 0, value, value])
-            known[:] = known[0] + 1, known[1] + value, min(known[2], value), max(known[3], value)
+        yield from dumped_values(capture, its, job.may_be_cut, names)
+
+
+def _values(job: Job, query: Query, expression: str, files: Files) -> dict[int, int]:
+    """The part of every address, added up by packets."""
+    names = (query.key, f"{query.key}_low", query.measure)
+    parts: dict[int, list[int]] = {}
+    for high, low, value in _listed(job, expression, names, files):
+        address = (high << 64) + low
+        known = parts.setdefault(address, [0, 0, value, value])
+        known[:] = known[0] + 1, known[1] + value, min(known[2], value), max(known[3], value)
     place = PARTS.index(query.part)
     return {address: it[place] for address, it in parts.items()}
+
+
+def _pair_asker_of(job: Job, query: Query, files: Files) -> PairAsker:
+    """Asks about two attributes."""
+
+    def groups(asked: Sequence[tuple[str, str]]) -> list[Mapping[int, Group]]:
+        lines = [f"schema {job.schema}"]
+        for at, (key, expression) in enumerate(asked):
+            lines += [f"tally t{at} {key} {query.measure} {expression}", f"ask q{at} groups t{at}"]
+        text = "\n".join(lines) + "\n"
+        merged = merge(_reports(job, text, *files), valid(text))
+        bodies = [it.body for it in merged.asks if isinstance(it.body, Groups)]
+        return [{it.key: it for it in body.groups} for body in bodies]
+
+    def timed(expression: str) -> Sequence[Group]:
+        lines = [f"schema {job.schema}", f"width {query.width}", f"filter f {expression}"]
+        lines += [f"aggregate a f {query.measure} by {query.second}", "ask q groups a"]
+        text = "\n".join(lines) + "\n"
+        body = merge(_reports(job, text, *files), valid(text)).asks[0].body
+        return body.groups if isinstance(body, Groups) else ()
+
+    return PairAsker(groups, timed, lambda expression, names: _listed(job, expression, names, files))
 
 
 def again_of(job: Job, query: Query, again: Sequence[Again], files: Files) -> list[Answer]:
@@ -479,6 +525,9 @@ def _one_shown(answered: Answered, query: Query, joined: Joined) -> list[str]:
     if query.is_paired:
         answer = answered.paired[answered.queries.index(query)]
         return [*lines[:1], lines[1] + count_of(query, answer), *paired_lines(viewer, query, answer)]
+    if query.second:
+        answer = answered.doubled[answered.queries.index(query)]
+        return lines + doubled_lines(viewer, joined.name, query, answer)
     if query.is_of_buckets:
         lines += _buckets(answered, query, joined)
     elif isinstance(joined.body, Top):

@@ -8,6 +8,7 @@ import json
 from typing import Any, Iterator, Sequence
 
 from .ask import Answered, Job, fired_in, in_order, joined_marks, meant_buckets, ranking
+from .doubled import doubled_object
 from .exports import FORMAT, body_object
 from .merge import Joined
 from .paired import paired_object
@@ -48,6 +49,10 @@ def _answer(answered: Answered, query: Query, joined: Joined) -> dict[str, Any]:
     front = {"question": query.text}
     if query.is_paired:
         return front | paired_object(query, answered.paired[answered.queries.index(query)])
+    if query.second:
+        setup = answered.viewers[0].setup
+        assert setup
+        return front | doubled_object(setup, query, answered.doubled[answered.queries.index(query)])
     if query.is_of_buckets:
         return front | _marks(answered, query, joined)
     if isinstance(joined.body, Top):

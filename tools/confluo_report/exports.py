@@ -10,6 +10,7 @@ from typing import Any, Iterator, Mapping, Sequence
 from .addresses import Ranked
 from .merge import Joined, Merged
 from .reports import (
+    Alert,
     Ask,
     Body,
     Fired,
@@ -22,12 +23,13 @@ from .reports import (
     Report,
     RoundAlert,
     RoundBeat,
+    RoundCrowded,
     RoundTotal,
     Snapshot,
     Told,
 )
-from .setups import SECOND, Question, Setup
-from .values import key_text, utc
+from .setups import SECOND, Lane, Question, Setup, Trigger
+from .values import by_text, key_text, utc
 
 FORMAT = "confluo-report/1"
 Addresses = Mapping[str, Ranked]
@@ -39,12 +41,36 @@ def _time(setup: Setup | None, bucket: int) -> dict[str, Any]:
     return {"time": utc(bucket * setup.nanoseconds)} if setup else {}
 
 
+def _by(setup: Setup | None, lane: Lane | None, by: int | None) -> dict[str, Any]:
+    """The key beside a bucket, and how it is written."""
+    if by is None:
+        return {}
+    is_known = setup is not None and lane is not None and lane.by is not None
+    return {"key": by, **({"text": by_text(setup, lane, by)} if is_known and setup and lane else {})}
+
+
+def _lane_of(trigger: Trigger | None) -> Lane | None:
+    return trigger.aggregate if trigger else None
+
+
+def _alert(it: Alert | RoundAlert, setup: Setup | None) -> dict[str, Any]:
+    """The members of an alert."""
+    found = {"trigger": it.trigger, "bucket": it.bucket, "value": it.value}
+    if isinstance(it, RoundAlert):
+        found["prefix"] = it.prefix
+    lane = _lane_of(setup.trigger(it.trigger) if setup else None)
+    return {**found, **_by(setup, lane, it.by), **_time(setup, it.bucket)}
+
+
 def _pairs(
     pairs: Sequence[Pair], name: str, setup: Setup | None, question: Question | None
 ) -> list[dict[str, Any]]:
     found: list[dict[str, Any]] = []
+    lane = _lane_of(question.trigger if question else None)
     for it in pairs:
-        more: dict[str, Any] = _time(setup, it.key) if name == "bucket" else {}
+        more: dict[str, Any] = {}
+        if name == "bucket":
+            more = {**_by(setup, lane, it.by), **_time(setup, it.key)}
         if name == "key" and setup and question and question.lane and question.lane.key is not None:
             more = {"text": key_text(setup, question.lane, it.key)}
         found.append({name: it.key, "value": it.value, **more})
@@ -58,7 +84,8 @@ def _groups(body: Groups, setup: Setup | None, question: Question | None) -> lis
         more: dict[str, Any] = {}
         if setup and lane:
             more = _time(setup, it.key) if lane.key is None else {"text": key_text(setup, lane, it.key)}
-        found.append({"key": it.key, **{part: getattr(it, part) for part in QUAD_PARTS}, **more})
+        keys = {"key": it.key} if it.by is None else {"bucket": it.key, **_by(setup, lane, it.by)}
+        found.append({**keys, **{part: getattr(it, part) for part in QUAD_PARTS}, **more})
     return found
 
 
@@ -96,8 +123,10 @@ def _live(live: Live, setup: Setup | None) -> dict[str, Any]:
 def told_object(it: Told, setup: Setup | None = None) -> dict[str, Any]:
     """The members of a line of a round of `watch`."""
     if isinstance(it, RoundAlert):
-        found = {"trigger": it.trigger, "bucket": it.bucket, "value": it.value, "prefix": it.prefix}
-        return {"kind": "alert", **found, **_time(setup, it.bucket)}
+        return {"kind": "alert", **_alert(it, setup)}
+    if isinstance(it, RoundCrowded):
+        found = {"name": it.name, "bucket": it.bucket, "prefix": it.prefix}
+        return {"kind": "crowded", **found, **_time(setup, it.bucket)}
     if isinstance(it, RoundBeat):
         found = {"prefix": it.prefix, "seconds": it.seconds, "time": utc(it.seconds * SECOND)}
         return {"kind": "beat", **found}
@@ -108,16 +137,7 @@ def told_object(it: Told, setup: Setup | None = None) -> dict[str, Any]:
 
 
 def _merged_object(read: Merged, setup: Setup | None) -> dict[str, Any]:
-    alerts = [
-        {
-            "report": name,
-            "trigger": it.trigger,
-            "bucket": it.bucket,
-            "value": it.value,
-            **_time(setup, it.bucket),
-        }
-        for name, it in read.alerts
-    ]
+    alerts = [{"report": name, **_alert(it, setup)} for name, it in read.alerts]
     truncated = [{"report": name, "records": whole} for name, whole in read.truncated]
     asks = [_joined(it, setup) for it in read.asks]
     found = {"format": FORMAT, "kind": "merged", "records": read.records, "asks": asks, "alerts": alerts}
@@ -150,10 +170,7 @@ def report_object(
             for it in read.hosts
         ]
         return {"format": FORMAT, "kind": "snapshot", "cut": read.cut, "hosts": hosts}
-    alerts = [
-        {"trigger": it.trigger, "bucket": it.bucket, "value": it.value, **_time(setup, it.bucket)}
-        for it in read.alerts
-    ]
+    alerts = [_alert(it, setup) for it in read.alerts]
     order = None if read.order is None else [{"writer": it.writer, "count": it.count} for it in read.order]
     return {
         "format": FORMAT,
@@ -194,13 +211,21 @@ Cell = object
 
 
 class Table:
-    """The rows of a report; with a setup, times and texts stand in place of buckets and keys."""
+    """The rows of a report; with a setup, times and texts stand in place of buckets and keys.
+
+    A bucket with a key beside it stands in one cell with it, divided by a stroke, as in the report.
+    """
 
     def __init__(self, setup: Setup | None, addresses: Addresses | None = None) -> None:
         self.setup, self.addresses = setup, addresses or {}
 
-    def bucket(self, bucket: int) -> Cell:
-        return utc(bucket * self.setup.nanoseconds) if self.setup else bucket
+    def bucket(self, bucket: int, by: int | None = None, lane: Lane | None = None) -> Cell:
+        found = utc(bucket * self.setup.nanoseconds) if self.setup else bucket
+        key = _by(self.setup, lane, by)
+        return f"{found}/{key.get('text', by)}" if key else found
+
+    def alert(self, it: Alert | RoundAlert) -> Cell:
+        return self.bucket(it.bucket, it.by, _lane_of(self.setup.trigger(it.trigger) if self.setup else None))
 
     def key(self, name: Cell, key: int) -> Cell:
         question = self.setup.question(str(name)) if self.setup else None
@@ -208,10 +233,11 @@ class Table:
             return key_text(self.setup, question.lane, key)
         return key
 
-    def group(self, name: Cell, key: int) -> Cell:
+    def group(self, name: Cell, key: int, by: int | None) -> Cell:
         question = self.setup.question(str(name)) if self.setup else None
-        is_timed = question and question.lane and question.lane.key is None
-        return self.bucket(key) if is_timed else self.key(name, key)
+        lane = question.lane if question else None
+        is_timed = by is not None or lane and lane.key is None
+        return self.bucket(key, by, lane) if is_timed else self.key(name, key)
 
     def body(self, front: Sequence[Cell], body: Body) -> Iterator[tuple[Cell, ...]]:
         """First how many entries an answer has, then each; a quad has four rows, and so has each group, with its part as its place."""
@@ -224,12 +250,14 @@ class Table:
             yield (*front, "", "", len(body.groups))
             for it in body.groups:
                 for name in QUAD_PARTS:
-                    yield (*front, name, self.group(front[2], it.key), getattr(it, name))
+                    yield (*front, name, self.group(front[2], it.key, it.by), getattr(it, name))
             return
         if isinstance(body, Found):
             entries: list[tuple[Cell, Cell]] = [(it, "") for it in body.rows]
         elif isinstance(body, Fired):
-            entries = [(self.bucket(it.key), it.value) for it in body.marks]
+            question = self.setup.question(str(front[2])) if self.setup else None
+            lane = _lane_of(question.trigger if question else None)
+            entries = [(self.bucket(it.key, it.by, lane), it.value) for it in body.marks]
         else:
             entries = [(self.key(front[2], it.key), it.value) for it in body.keys]
         yield (*front, "", "", len(entries))
@@ -257,14 +285,16 @@ class Table:
             for name, body in [("", ask.body)] if ask.body is not None else ask.parts:
                 yield from self.body(("ask", name, ask.name, ask.kind, ""), body)
         for name, it in read.alerts:
-            yield ("alert", name, it.trigger, "", "", "", self.bucket(it.bucket), it.value)
+            yield ("alert", name, it.trigger, "", "", "", self.alert(it), it.value)
         for name, whole in read.truncated:
             yield ("truncated", name, "", "", "", "", "", whole)
 
     def told(self, read: Report) -> Iterator[tuple[Cell, ...]]:
         for told in read.told:
             if isinstance(told, RoundAlert):
-                yield ("alert", "", told.trigger, "", told.prefix, "", self.bucket(told.bucket), told.value)
+                yield ("alert", "", told.trigger, "", told.prefix, "", self.alert(told), told.value)
+            elif isinstance(told, RoundCrowded):
+                yield ("crowded", "", told.name, "", told.prefix, "", self.bucket(told.bucket), "")
             elif isinstance(told, RoundBeat):
                 time = utc(told.seconds * SECOND) if self.setup else told.seconds
                 yield ("at", "", "", "", told.prefix, "", time, "")
@@ -287,7 +317,7 @@ class Table:
                 text = ranked.texts[place] if ranked and ranked.texts else ""
                 yield ("address", "", ask.name, ask.body.kind, "", place, text, it.value)
         for it in read.alerts:
-            yield ("alert", "", it.trigger, "", "", "", self.bucket(it.bucket), it.value)
+            yield ("alert", "", it.trigger, "", "", "", self.alert(it), it.value)
         for live in read.lives:
             yield from self.body(("live", "", live.name, live.body.kind, live.prefix), live.body)
             if live.new is not None:

@@ -5,8 +5,21 @@ from __future__ import annotations
 from typing import Sequence
 
 from .errors import Complaint
-from .reports import Alert, Ask, Fired, Report, RoundAlert, RoundBeat, RoundTotal, Snapshot, Told, Top
-from .setups import Setup
+from .reports import (
+    Alert,
+    Ask,
+    Fired,
+    Groups,
+    Report,
+    RoundAlert,
+    RoundBeat,
+    RoundCrowded,
+    RoundTotal,
+    Snapshot,
+    Told,
+    Top,
+)
+from .setups import Lane, Setup
 
 
 def _must_have_asks(asks: Sequence[Ask], setup: Setup, source: str) -> None:
@@ -34,6 +47,19 @@ def _must_fit(asks: Sequence[Ask], setup: Setup, source: str) -> None:
                 f"{source} is not a report of this setup: `{ask.name}` lists {len(ask.body.keys)} keys, "
                 f"and {question.high} were asked for"
             )
+        if isinstance(ask.body, Groups) and question.lane and ask.body.groups:
+            _must_have_keys(ask.body.groups[0].by, question.lane, f"`{ask.name}`", source)
+        if isinstance(ask.body, Fired) and question.trigger and ask.body.marks:
+            _must_have_keys(ask.body.marks[0].by, question.trigger.aggregate, f"`{ask.name}`", source)
+
+
+def _must_have_keys(by: int | None, lane: Lane, what: str, source: str) -> None:
+    """A Complaint where there is a key beside a bucket of an aggregate without keys, or none beside one of an aggregate by keys."""
+    if (by is None) != (lane.by is None):
+        has = "no key" if by is None else "a key"
+        raise Complaint(
+            f"{source} is not a report of this setup: {what} has {has} beside a bucket of `{lane.name}`"
+        )
 
 
 def _must_have_alerts(report: Report, setup: Setup, source: str) -> None:
@@ -44,9 +70,12 @@ def _must_have_alerts(report: Report, setup: Setup, source: str) -> None:
         raise Complaint(
             f"{source} is not a report of this setup: its alerts of `{strange}` are not the setup's"
         )
+    lanes = {it.name: it.aggregate for it in setup.triggers}
+    for it in report.alerts:
+        _must_have_keys(it.by, lanes[it.trigger], f"an alert of `{it.trigger}`", source)
     for ask, question in zip(report.asks, setup.asks):
         if isinstance(ask.body, Fired) and question.trigger:
-            marks = tuple(Alert(question.trigger.name, it.key, it.value) for it in ask.body.marks)
+            marks = tuple(Alert(question.trigger.name, it.key, it.value, it.by) for it in ask.body.marks)
             alerts = tuple(it for it in report.alerts if it.trigger == question.trigger.name)
             if marks != alerts:
                 raise Complaint(
@@ -77,8 +106,15 @@ def must_match(read: Report | Snapshot, setup: Setup, source: str) -> None:
 def must_be_told(it: Told, setup: Setup, source: str) -> None:
     """A Complaint where the line of a round of `watch` is not one of this setup."""
     if isinstance(it, RoundAlert):
-        if not setup.trigger(it.trigger):
+        trigger = setup.trigger(it.trigger)
+        if not trigger:
             raise Complaint(f"{source} is not of this setup, which has no trigger `{it.trigger}`")
+        _must_have_keys(it.by, trigger.aggregate, f"an alert of `{it.trigger}`", source)
+        return
+    if isinstance(it, RoundCrowded):
+        lane = setup.lane(it.name, "aggregate")
+        if not lane or lane.by is None:
+            raise Complaint(f"{source} is not of this setup, which has no aggregate `{it.name}` by keys")
         return
     if isinstance(it, RoundTotal) and not setup.lane(it.name, "aggregate"):
         raise Complaint(f"{source} is not of this setup, which has no aggregate `{it.name}`")

@@ -22,9 +22,11 @@ from .reports import (
     Group,
     Groups,
     Pair,
+    Place,
     Quad,
     Report,
     Top,
+    alert_text,
     body_text,
     parse_body,
     parse_report,
@@ -102,17 +104,17 @@ def joined_quad(quads: Sequence[Quad]) -> Quad:
 
 
 def joined_group(one: Group, other: Group) -> Group:
-    """Two groups of one key as one."""
+    """Two groups of one place as one."""
     least, greatest = min(one.least, other.least), max(one.greatest, other.greatest)
-    return Group(one.key, one.count + other.count, one.sum + other.sum, least, greatest)
+    return Group(one.key, one.count + other.count, one.sum + other.sum, least, greatest, one.by)
 
 
 def joined_groups(all_groups: Sequence[Groups]) -> Groups:
     """The groups of all records."""
-    found: dict[int, Group] = {}
+    found: dict[Place, Group] = {}
     for it in (it for groups in all_groups for it in groups.groups):
-        found[it.key] = joined_group(found[it.key], it) if it.key in found else it
-    return Groups(tuple(found[key] for key in sorted(found)))
+        found[it.place] = joined_group(found[it.place], it) if it.place in found else it
+    return Groups(tuple(found[place] for place in sorted(found)))
 
 
 @dataclass(frozen=True)
@@ -225,12 +227,12 @@ def merged_lines(merged: Merged) -> list[str]:
             lines += (f"ask {it.name} {body_text(body)} ({name})" for name, body in it.parts)
         else:
             lines.append(f"ask {it.name} {body_text(it.body)}" + (f" ({it.note})" if it.note else ""))
-    lines += [f"alert {it.trigger} {it.bucket} {it.value} ({name})" for name, it in merged.alerts]
+    lines += [f"{alert_text(it)} ({name})" for name, it in merged.alerts]
     return lines + [f"truncated: record {whole} ({name})" for name, whole in merged.truncated]
 
 
 MERGED = re.compile(r"(ask|alert|truncated:) (.+?)(?: \((.*)\))?")
-ALERT = re.compile(rf"({NAME}) ({NUMBER}) ({NUMBER})")
+ALERT = re.compile(rf"({NAME}) ({NUMBER})(?:/({NUMBER}))? ({NUMBER})")
 ASK = re.compile(rf"({NAME}) (.+)")
 
 
@@ -260,7 +262,8 @@ class _Merging:
             body = parse_body(ask[2], self.source, number, self.records)
             self.ask(ask[1], body, behind)
         elif kind == "alert" and alert and behind:
-            self.alerts.append((behind, Alert(alert[1], int(alert[2]), int(alert[3]))))
+            by = None if alert[3] is None else int(alert[3])
+            self.alerts.append((behind, Alert(alert[1], int(alert[2]), int(alert[4]), by)))
         elif kind == "truncated:" and cut and behind:
             self.truncated.append((behind, int(cut[1])))
         else:

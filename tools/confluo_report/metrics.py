@@ -26,7 +26,7 @@ from .reports import (
     Snapshot,
 )
 from .setups import Setup
-from .values import key_text
+from .values import by_text, key_text
 
 LABEL = re.compile(r"[a-zA-Z_][a-zA-Z0-9_]*")
 EXACT = 2**53
@@ -44,20 +44,21 @@ HELP = {
     "confluo_found_record": "A record that the question found, by its number; the value is 1.",
     "confluo_measured": "What the question measured: count, sum, least or greatest.",
     "confluo_fired_buckets": "In how many time buckets the question's trigger fires.",
-    "confluo_fired_value": "The value in a time bucket in which the question's trigger fires.",
+    "confluo_fired_value": "The value in a time bucket, or of a key in it, in which the question's trigger fires.",
     "confluo_top_keys": "How many keys the question lists.",
     "confluo_top_value": "The part of a key.",
     "confluo_groups": "How many keys or time buckets have a record.",
-    "confluo_group_value": "Of a key or time bucket: count, sum, least or greatest.",
+    "confluo_group_value": "Of a key or time bucket, or of a key in a time bucket: count, sum, least or greatest.",
     "confluo_alerts": "In how many time buckets the trigger fires.",
-    "confluo_alert_value": "The value in a time bucket in which the trigger fires.",
+    "confluo_alert_value": "The value in a time bucket, or of a key in it, in which the trigger fires.",
     "confluo_order_records": "Records of the writer in the log.",
     "confluo_truncated_records": "Whole records of a capture that is cut off; absent of one that ends well.",
     "confluo_window_record": "The first record that the answers are on, by its number.",
-    "confluo_told_alert_value": "The value in a time bucket in which the trigger began to fire.",
+    "confluo_told_alert_value": "The value in a time bucket, or of a key in it, in which the trigger began to fire.",
     "confluo_stream_running": "1 while the stream is read, 0 after its end.",
     "confluo_stream_unread_bytes": "Bytes of the stream that wait to be read; watch waits too once they are 65536.",
     "confluo_stream_alerts_total": "Alerts of the trigger since the start.",
+    "confluo_stream_crowded_total": "Time buckets that had more keys of the aggregate than watch keeps, since the start.",
     "confluo_stream_alert_bucket_number": "The time bucket of the trigger's last alert.",
     "confluo_stream_alert_seconds": "When the time bucket of the trigger's last alert begins, in seconds since 1970.",
     "confluo_stream_alert_value": "The value of the trigger's last alert.",
@@ -114,18 +115,27 @@ def help_of(name: str) -> str:
     return HELP[name]
 
 
-Keys = Callable[[str, int], str]
+# Of a question or a trigger, and whether the key is one beside a bucket.
+Keys = Callable[[str, int, bool], str]
 
 
 def keys_of(setup: Setup | None) -> Keys:
     """How a key of a question is written: as an address, for one, where the setup says that it is one."""
 
-    def text(name: str, key: int) -> str:
+    def text(name: str, key: int, is_beside: bool) -> str:
         question = setup.question(name) if setup else None
-        lane = question.lane if question else None
-        return key_text(setup, lane, key) if setup and lane and lane.key is not None else str(key)
+        trigger = question.trigger if question else setup.trigger(name) if setup else None
+        lane = trigger.aggregate if trigger else question.lane if question else None
+        if not setup or not lane or (lane.by if is_beside else lane.key) is None:
+            return str(key)
+        return (by_text if is_beside else key_text)(setup, lane, key)
 
     return text
+
+
+def _beside(keys: Keys, name: object, by: int | None) -> dict[str, object]:
+    """The label of a key beside a bucket, if there is one."""
+    return {} if by is None else {"key": keys(str(name), by, True)}
 
 
 def add_body(
@@ -146,17 +156,21 @@ def add_body(
     elif isinstance(body, Fired):
         families.add(f"{front}fired_buckets", len(body.marks), **labels)
         for it in body.marks:
-            families.add(f"{front}fired_value", it.value, **labels, bucket=it.key)
+            more = _beside(keys, labels["ask"], it.by)
+            families.add(f"{front}fired_value", it.value, **labels, bucket=it.key, **more)
     elif isinstance(body, Groups):
         families.add(f"{front}groups", len(body.groups), **labels)
         for group in body.groups:
-            key = keys(str(labels["ask"]), group.key)
+            more = {"bucket": group.key, **_beside(keys, labels["ask"], group.by)}
+            if group.by is None:
+                more = {"key": keys(str(labels["ask"]), group.key, False)}
             for part in ("count", "sum", "least", "greatest"):
-                families.add(f"{front}group_value", getattr(group, part), **labels, key=key, part=part)
+                families.add(f"{front}group_value", getattr(group, part), **labels, **more, part=part)
     else:
         families.add(f"{front}top_keys", len(body.keys), **labels)
         for it in body.keys:
-            families.add(f"{front}top_value", it.value, **labels, key=keys(str(labels["ask"]), it.key))
+            key = keys(str(labels["ask"]), it.key, False)
+            families.add(f"{front}top_value", it.value, **labels, key=key)
 
 
 def add_beat(
@@ -195,7 +209,8 @@ def _add_report(families: Families, report: Report, setup: Setup | None, lists: 
     for name, count in counts.items():
         families.add("confluo_alerts", count, trigger=name)
     for it in report.alerts:
-        families.add("confluo_alert_value", it.value, trigger=it.trigger, bucket=it.bucket)
+        more = _beside(keys, it.trigger, it.by)
+        families.add("confluo_alert_value", it.value, trigger=it.trigger, bucket=it.bucket, **more)
     if lists:
         _add_loading(families, report, keys)
 
@@ -210,6 +225,7 @@ def _add_loading(families: Families, report: Report, keys: Keys) -> None:
     for line, told in enumerate(report.told):
         if isinstance(told, RoundAlert):
             labels = {"trigger": told.trigger, "line": line, "prefix": told.prefix, "bucket": told.bucket}
+            labels |= _beside(keys, told.trigger, told.by)
             families.add("confluo_told_alert_value", told.value, **labels)
         elif isinstance(told, RoundLive):
             labels = {"ask": told.name, "line": line, "first": told.first, "prefix": told.prefix}
@@ -242,7 +258,8 @@ def _add_merged(families: Families, merged: Merged, keys: Keys, lists: bool) -> 
         for name, body in ask.parts:
             add_body(families, "", body, keys, lists, ask=ask.name, report=name)
     for name, it in merged.alerts:
-        families.add("confluo_alert_value", it.value, trigger=it.trigger, bucket=it.bucket, report=name)
+        labels = {"trigger": it.trigger, "bucket": it.bucket, **_beside(keys, it.trigger, it.by)}
+        families.add("confluo_alert_value", it.value, **labels, report=name)
 
 
 def metrics_text(

@@ -18,7 +18,7 @@ from .exports import FORMAT, report_object, told_object
 from .incoming import Ending
 from .reports import Alert, Refusal, RoundAlert, RoundBeat, RoundTotal, Told
 from .setups import Setup
-from .show import Viewer, bucket_text, report_lines, told_lines
+from .show import Viewer, alert_place, report_lines, told_lines
 from .values import grouped
 
 # So many alerts are known at the end as shown.
@@ -28,7 +28,7 @@ PIECE = 65536
 
 @dataclass(frozen=True)
 class Held:
-    """Alerts of a trigger that were held back, up to the last of them; `is_over`: none came for so long."""
+    """Alerts of a trigger, and of one key if it has keys, that were held back, up to the last of them; `is_over`: none came for so long."""
 
     trigger: str
     count: int
@@ -246,7 +246,7 @@ class WordLines(TextOutput):
 
     def told(self, it: Told) -> None:
         if isinstance(it, RoundAlert):
-            self.shown.append(Alert(it.trigger, it.bucket, it.value))
+            self.shown.append(Alert(it.trigger, it.bucket, it.value, it.by))
         if self.has_beats or not is_of_beat(it):
             self._print(told_lines(self.viewer, it))
 
@@ -272,7 +272,7 @@ def held_line(viewer: Viewer, it: Held) -> str:
     """What became of the alerts of a trigger that were held back."""
     trigger = viewer.style.title(it.trigger)
     more = f"{it.count} more alert{'s' * (it.count != 1)} held back" if it.count else "no alert held back"
-    last = f", the last of {bucket_text(viewer.setup, it.last.bucket)}"
+    last = f", the last of {alert_place(viewer, it.last)}"
     return f"{'over' if it.is_over else 'held'}  {trigger}  {more}{last}"
 
 

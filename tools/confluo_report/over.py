@@ -17,12 +17,14 @@ from .nodes import FIRST_NODES, MOST_CAPACITY, MOST_RECORDS, Sizes, long_options
 from .over_dask import by_scheduler
 from .over_part import Ended, Piece, Work
 from .over_pool import by_processes, processors
-from .over_setup import Plan, Sum, report_of, sum_of
-from .over_split import EACH, Cut, cuts_of, whole
+from .over_setup import Key, Plan, Sum, report_of, sum_of
+from .over_split import EACH, Cut, guesses_of, size_of, walked, whole
 from .program import find_program, program
 from .progress import Parts
 from .reports import Refusal, Report, refusal_of
 
+# The status of a run over a capture that breaks a rule.
+BROKEN = 3
 NO_REFUSAL = {
     4: "confluo could not read it",
     5: "confluo could not write its report",
@@ -96,19 +98,77 @@ def _tries(plan: Plan, may_be_cut: bool) -> Iterator[tuple[str, ...]]:
         sizes = with_more_nodes(sizes)
 
 
-class Pieces:
-    """What is run: all of each capture, or its pieces, with the captures that they are of, as far as they were handed on."""
+# The processes of which the pieces for a scheduler's workers are enough.
+OF_A_CLUSTER = 64
 
-    def __init__(self, captures: Sequence[str], is_split: bool) -> None:
-        self.captures, self.is_split = captures, is_split
-        self.cuts: list[tuple[int, Cut]] = []
+
+@dataclass(frozen=True)
+class Handed:
+    """A piece that was handed on to be run: its key, and whether its capture is walked."""
+
+    key: Key
+    cut: Cut
+    is_walked: bool
+
+
+class Pieces:
+    """What is run: all of each capture, or its pieces. `handed` are those that were handed on so far.
+
+    It may be iterated again as long as there `is_more`: a capture whose guessed pieces are not its own is walked.
+    """
+
+    def __init__(self, captures: Sequence[str], way: Way) -> None:
+        self.captures, self.way = captures, way
+        self.handed: list[Handed] = []
+        self.sizes = [size_of(it) for it in captures]
+        self.size = sum(self.sizes)
+        self.walked: set[int] = set()
+        # Those to be walked whose pieces were not all handed on.
+        self.waiting: list[int] = []
+        self.firsts = self._firsts()
+        self.is_more = True
+
+    def walk(self, capture: int) -> None:
+        """The capture is to be walked, and what was said of its pieces is worth nothing."""
+        self.walked.add(capture)
+        self.waiting.append(capture)
+        self.size += self.sizes[capture]
+        self.is_more = True
 
     def __iter__(self) -> Iterator[Piece]:
-        for at, name in enumerate(self.captures):
-            path = os.path.abspath(name)
-            for cut in cuts_of(path, EACH) if self.is_split else [whole(path)]:
-                self.cuts.append((at, cut))
-                yield cut.piece
+        for it in self.firsts:
+            yield self._hand_on(it)
+            yield from self._again()
+        yield from self._again()
+        self.is_more = False
+
+    def _again(self) -> Iterator[Piece]:
+        while self.waiting:
+            yield from map(self._hand_on, self._by_walking(self.waiting[0]))
+            self.waiting.pop(0)
+
+    def _hand_on(self, it: Handed) -> Piece:
+        self.handed.append(it)
+        return it.cut.piece
+
+    def _firsts(self) -> Iterator[Handed]:
+        """All captures for the first time."""
+        left, jobs = sum(self.sizes), self.way.jobs or (OF_A_CLUSTER if self.way.scheduler else processors())
+        for capture, name in enumerate(self.captures):
+            path, left = os.path.abspath(name), left - self.sizes[capture]
+            cuts = guesses_of(path, left, jobs) if self.way.is_split else iter([whole(path)])
+            if cuts is None:
+                self.walked.add(capture)
+                yield from self._by_walking(capture)
+                continue
+            for at, cut in enumerate(cuts):
+                if capture in self.walked:
+                    break
+                yield Handed((capture, at), cut, False)
+
+    def _by_walking(self, capture: int) -> Iterator[Handed]:
+        for at, cut in enumerate(walked(os.path.abspath(self.captures[capture]), EACH)):
+            yield Handed((capture, at), cut, True)
 
 
 def _runs(plan: Plan, pieces: Pieces, way: Way) -> Generator[tuple[int, Ended], None, None]:
@@ -126,65 +186,92 @@ class Gathering:
         self.plan, self.pieces = plan, pieces
         self.total = Sum()
         self.by_capture: dict[int, Sum] = {}
-        self.failed: dict[int, LeftOut] = {}
+        self.failed: dict[Key, Failure] = {}
         self.ended: set[int] = set()
         self.front = 0
 
     def take(self, place: int, ended: Ended) -> None:
-        """Adds what the piece says to what others said."""
-        capture, cut = self.pieces.cuts[place]
-        said = _part(self.plan, place, ended, self.pieces.captures[capture], cut.first)
+        """Adds what the piece of that place among those handed on says to what others said."""
+        handed = self.pieces.handed[place]
+        capture = handed.key[0]
         self.ended.add(place)
         while self.front in self.ended:
             self.ended.remove(self.front)
             self.front += 1
-        if isinstance(said, LeftOut):
-            self.failed[place] = said
-        elif self.pieces.is_split:
+        if capture in self.pieces.walked and not handed.is_walked:
+            return
+        said = _part(self.plan, handed.key, ended, self.pieces.captures[capture])
+        if handed.cut.is_guess and (ended[0] == BROKEN or isinstance(said, Sum) and said.cuts):
+            self._walk(capture)
+        elif isinstance(said, Failure):
+            self.failed[handed.key] = said
+        elif self.pieces.way.is_split:
             self.by_capture.setdefault(capture, Sum()).add(said, self.plan)
         else:
             self.total.add(said, self.plan)
 
+    def _walk(self, capture: int) -> None:
+        """A piece ends within a record: the capture is broken there, or was cut at a wrong place."""
+        self.pieces.walk(capture)
+        self.by_capture.pop(capture, None)
+        self.failed = {key: it for key, it in self.failed.items() if key[0] != capture}
+
     def first_failed(self) -> LeftOut | None:
         """The first piece that failed, once all before it have answered."""
-        first = min(self.failed, default=self.front)
-        return self.failed[first] if first < self.front else None
+        if not self.failed:
+            return None
+        first = min(self.failed)
+        handed = self.pieces.handed
+        keys = (handed[at].key for at in range(self.front, len(handed)) if at not in self.ended)
+        waits = any(it < first for it in keys) or any(it < first[0] for it in self.pieces.waiting)
+        return None if waits else self._left_out(first)
+
+    def _left_out(self, key: Key) -> LeftOut:
+        """The piece that failed is the first one of its capture that did."""
+        capture, failure = key[0], self.failed[key]
+        before = self.by_capture.get(capture, Sum()).records
+        why = failure.in_words(sum(count for its, count in before.items() if its < key))
+        return LeftOut(self.pieces.captures[capture], failure.status, why)
 
     def finish(self) -> tuple[LeftOut, ...]:
         """The captures that are left out; the others are all in the total."""
         left_out: dict[int, LeftOut] = {}
-        for place, it in sorted(self.failed.items()):
-            left_out.setdefault(self.pieces.cuts[place][0], it)
-        for capture, it in self.by_capture.items():
+        for key in sorted(self.failed):
+            if key[0] not in left_out:
+                left_out[key[0]] = self._left_out(key)
+        for capture, its in self.by_capture.items():
             if capture not in left_out:
-                self.total.add(it, self.plan)
+                self.total.add(its, self.plan)
         return tuple(it for _, it in sorted(left_out.items()))
 
     def counted(self) -> tuple[Counted, ...]:
         """The captures that were answered."""
         records: dict[int, int] = {}
         cuts: dict[int, int] = {}
-        for place, count in sorted(self.total.records.items()):
-            capture, cut = self.pieces.cuts[place]
+        for (capture, at), count in sorted(self.total.records.items()):
+            if (capture, at) in self.total.cuts:
+                # (in its last piece)
+                cuts[capture] = records.get(capture, 0) + self.total.cuts[capture, at]
             records[capture] = records.get(capture, 0) + count
-            if place in self.total.cuts:
-                cuts[capture] = cut.first + self.total.cuts[place]
         return tuple(Counted(self.pieces.captures[it], records[it], cuts.get(it)) for it in sorted(records))
 
 
 def over(plan: Plan, captures: Sequence[str], way: Way) -> Over:
     """Asks about all captures; a Complaint names the first that cannot be answered, unless it may be left out."""
-    pieces = Pieces(captures, way.is_split)
+    pieces = Pieces(captures, way)
     gathering = Gathering(plan, pieces)
     things = "parts" if way.is_split else f"of {len(captures):,} captures"
-    size = sum(whole(it).size for it in captures)
-    with Parts(things, size) as parts, contextlib.closing(_runs(plan, pieces, way)) as runs:
-        for place, ended in runs:
-            gathering.take(place, ended)
-            failed = None if way.keep_going else gathering.first_failed()
-            if failed:
-                raise Complaint(f"{failed.text()}\n--keep-going answers about the other captures")
-            parts.done(pieces.cuts[place][1].size)
+    with Parts(things, pieces.size) as parts:
+        while pieces.is_more:
+            front = len(pieces.handed)
+            with contextlib.closing(_runs(plan, pieces, way)) as runs:
+                for place, ended in runs:
+                    gathering.take(front + place, ended)
+                    failed = None if way.keep_going else gathering.first_failed()
+                    if failed:
+                        raise Complaint(f"{failed.text()}\n--keep-going answers about the other captures")
+                    parts.size = pieces.size
+                    parts.done(pieces.handed[front + place].cut.size)
     left_out = gathering.finish()
     counted = gathering.counted()
     if not counted:
@@ -195,15 +282,28 @@ def over(plan: Plan, captures: Sequence[str], way: Way) -> Over:
     return Over(report, counted, left_out)
 
 
-def _part(plan: Plan, place: int, ended: Ended, name: str, first: int) -> Sum | LeftOut:
-    """What a part says, or why it says nothing; `first` is the number of its first record."""
+@dataclass(frozen=True)
+class Failure:
+    """Why a piece says nothing: the status of its run, and a reason or what the run said."""
+
+    status: int | None
+    why: str = ""
+    said: str = ""
+
+    def in_words(self, before: int) -> str:
+        """With the number of the record where so many come before the piece."""
+        return self.why or _refused(self.status, refusal_of(self.said), before)
+
+
+def _part(plan: Plan, key: Key, ended: Ended, name: str) -> Sum | Failure:
+    """What a part says, or why it says nothing."""
     status, text, why = ended
     if status != 0:
-        return LeftOut(name, status, why or _refused(status, refusal_of(text), first))
+        return Failure(status, why, text)
     try:
-        return sum_of(plan, place, text, name)
+        return sum_of(plan, key, text, name)
     except Complaint as complaint:
-        return LeftOut(name, None, str(complaint).removeprefix(f"{name}: "))
+        return Failure(None, str(complaint).removeprefix(f"{name}: "))
 
 
 def _refused(status: int | None, refusal: Refusal | None, first: int) -> str:

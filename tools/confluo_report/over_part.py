@@ -6,6 +6,8 @@ and comes out is plain.
 
 from __future__ import annotations
 
+import contextlib
+import fcntl
 import os
 import shutil
 import socket
@@ -21,7 +23,11 @@ TOO_FEW_NODES = 7
 Ended = Tuple[Optional[int], str, str]
 # A capture's path, and of a piece of it where that begins and ends, and what is to be read before it.
 Piece = Tuple[str, int, Optional[int], bytes]
-CHUNK = 2**20
+# The bytes that a pipe holds, and that the kernel takes at once.
+PIPE = 2**20
+MOST_SENT = 2**30
+# Parts are short, and much of their time is for new pages of memory: large ones are fewer.
+LARGE_PAGES = {"GLIBC_TUNABLES": "glibc.malloc.hugetlb=1"}
 
 
 @dataclass(frozen=True)
@@ -49,7 +55,8 @@ class Running:
         with self.lock:
             if self.is_over:
                 raise Stopped
-            process = subprocess.Popen(list(map(os.fsencode, words)), **streams)
+            environment = {**LARGE_PAGES, **os.environ}
+            process = subprocess.Popen(list(map(os.fsencode, words)), env=environment, **streams)
             self.held.append(process)
             return process
 
@@ -103,21 +110,29 @@ def _run_packed(running: Running, words: list[str], capture: str, packer: str) -
 
 def _feed(pipe: Any, piece: Piece, missing: list[str]) -> None:
     """Writes a piece until nobody reads any more; says if the file does not have all of it."""
-    path, begin, end, front = piece
-    left = (end or 0) - begin
+    path, at, end, front = piece
     try:
         with pipe, open(path, "rb") as file:
+            _enlarge(pipe)
             pipe.write(front)
-            file.seek(begin)
-            while left and (data := file.read(min(left, CHUNK))):
-                pipe.write(data)
-                left -= len(data)
-            if left:
-                missing.append("it became shorter while it was read")
+            pipe.flush()
+            # (the kernel hands its own pages on, and no other thread waits for this one meanwhile)
+            while end is not None and at < end:
+                sent = os.sendfile(pipe.fileno(), file.fileno(), at, min(end - at, MOST_SENT))
+                if not sent:
+                    missing.append("it became shorter while it was read")
+                    break
+                at += sent
     except BrokenPipeError:
         pass
     except OSError as error:
         missing.append(f"{error.strerror}")
+
+
+def _enlarge(pipe: Any) -> None:
+    """Gives the pipe more room, if the system has it."""
+    with contextlib.suppress(OSError, AttributeError):
+        fcntl.fcntl(pipe.fileno(), fcntl.F_SETPIPE_SZ, PIPE)
 
 
 def _run_piece(running: Running, words: list[str], piece: Piece) -> Ended:

@@ -1,22 +1,38 @@
 """The setup that each part of a question over many captures runs, and how its reports are added up.
 
-A trigger's threshold is for the sum, so a part tells the value of every bucket. In place of a tally's first keys
-a part tells all its groups.
+A trigger's threshold is for the sum, so a part tells the value of every bucket, or of every bucket and key. In place of a tally's
+first keys a part tells all its groups.
 """
 
 from __future__ import annotations
 
 import operator
 from dataclasses import dataclass, field
-from itertools import accumulate
-from typing import Callable, Iterator, Mapping, TypeVar
+from itertools import accumulate, chain
+from typing import Callable, Iterator, Mapping, Tuple, TypeVar
 
 from .matching import must_match
 from .merge import joined_group, joined_quad
-from .reports import Alert, Ask, Body, Fired, Found, Group, Groups, Pair, Quad, Report, Top, parse_report
+from .reports import (
+    Alert,
+    Ask,
+    Body,
+    Fired,
+    Found,
+    Group,
+    Groups,
+    Pair,
+    Place,
+    Quad,
+    Report,
+    Top,
+    parse_report,
+)
 from .setups import Question, Setup, Trigger, parse_setup
 
 FINDING = ("list", "find", "between")
+# A capture's place, and that of a piece in it.
+Key = Tuple[int, int]
 Joined = TypeVar("Joined", int, Group)
 # Below this no bucket with a record has a part of that kind.
 LEAST = {"count": 1, "sum": 0, "least": 0, "greatest": 0}
@@ -75,17 +91,18 @@ def _part_lines(setup: Setup, data: bytes, telling: set[str]) -> Iterator[str]:
 
 @dataclass
 class Sum:
-    """What reports of parts say together. Parts are known by their places; they may be added in any order.
+    """What reports of parts say together. Parts are known by their keys; they may be added in any order.
 
-    `values` are of the triggers of parts by bucket, `groups` of the questions for a top or for groups by key or bucket.
+    `values` are of the triggers of parts by bucket, or by bucket and key; `groups` so of the questions for groups, and by key
+    of those for a top.
     """
 
-    records: dict[int, int] = field(default_factory=dict)
-    cuts: dict[int, int] = field(default_factory=dict)
-    found: dict[str, dict[int, tuple[int, ...]]] = field(default_factory=dict)
+    records: dict[Key, int] = field(default_factory=dict)
+    cuts: dict[Key, int] = field(default_factory=dict)
+    found: dict[str, dict[Key, tuple[int, ...]]] = field(default_factory=dict)
     quads: dict[str, Quad] = field(default_factory=dict)
-    values: dict[str, dict[int, int]] = field(default_factory=dict)
-    groups: dict[str, dict[int, Group]] = field(default_factory=dict)
+    values: dict[str, dict[Place, int]] = field(default_factory=dict)
+    groups: dict[str, dict[Place, Group]] = field(default_factory=dict)
 
     def add(self, other: Sum, plan: Plan) -> None:
         """Adds the other one to this, which takes the time of the other alone."""
@@ -103,8 +120,8 @@ class Sum:
 
 
 def _join(
-    ours: dict[str, dict[int, Joined]],
-    theirs: Mapping[str, Mapping[int, Joined]],
+    ours: dict[str, dict[Place, Joined]],
+    theirs: Mapping[str, Mapping[Place, Joined]],
     name: str,
     join: Callable[[Joined, Joined], Joined],
 ) -> None:
@@ -113,52 +130,54 @@ def _join(
         there[key] = join(there[key], value) if key in there else value
 
 
-def sum_of(plan: Plan, place: int, text: str, source: str) -> Sum:
+def sum_of(plan: Plan, part: Key, text: str, source: str) -> Sum:
     """What a part's report says; a Complaint where it is none."""
     report = parse_report(text, source)
     must_match(report, plan.part, source)
-    total = Sum({place: report.records})
+    total = Sum({part: report.records})
     if report.truncated is not None:
-        total.cuts[place] = report.truncated
+        total.cuts[part] = report.truncated
     for question, ask in zip(plan.part.asks, report.asks):
-        _take(total, place, question, ask.body)
+        _take(total, part, question, ask.body)
     for alert in report.alerts:
-        total.values.setdefault(alert.trigger, {})[alert.bucket] = alert.value
+        total.values.setdefault(alert.trigger, {})[alert.place] = alert.value
     return total
 
 
-def _take(total: Sum, place: int, question: Question, body: Body) -> None:
+def _take(total: Sum, part: Key, question: Question, body: Body) -> None:
     if isinstance(body, Found):
-        total.found[question.name] = {place: body.rows} if body.rows else {}
+        total.found[question.name] = {part: body.rows} if body.rows else {}
     elif isinstance(body, Quad):
         total.quads[question.name] = body
     elif isinstance(body, Groups):
-        total.groups[question.name] = {it.key: it for it in body.groups}
+        total.groups[question.name] = {it.place: it for it in body.groups}
 
 
 def report_of(plan: Plan, total: Sum) -> Report:
-    """The report over all parts in the order of their places; records are numbered through all of them."""
-    places = sorted(total.records)
-    starts = dict(zip(places, accumulate((total.records[it] for it in places), initial=0)))
+    """The report over all parts in the order of their keys; records are numbered through all of them."""
+    parts = sorted(total.records)
+    starts = dict(zip(parts, accumulate((total.records[it] for it in parts), initial=0)))
     marks = {it.name: _marks(plan, total, it) for it in plan.setup.triggers}
     asks = [Ask(it.name, _body(it, total, starts, marks)) for it in plan.setup.asks]
-    alerts = [Alert(name, it.key, it.value) for name, its in marks.items() for it in its]
+    alerts = [Alert(name, it.key, it.value, it.by) for name, its in marks.items() for it in its]
     return Report(sum(total.records.values()), tuple(asks), tuple(alerts))
 
 
 def _marks(plan: Plan, total: Sum, trigger: Trigger) -> tuple[Pair, ...]:
     values = total.values.get(plan.told_by[trigger.name], {})
     holds = HOLDS[trigger.operator]
-    return tuple(Pair(*it) for it in sorted(values.items()) if holds(it[1], trigger.number))
+    meant = sorted(it for it in values.items() if holds(it[1], trigger.number))
+    return tuple(Pair(place[0], value, *place[1:]) for place, value in meant)
 
 
 def _body(
-    question: Question, total: Sum, starts: Mapping[int, int], marks: Mapping[str, tuple[Pair, ...]]
+    question: Question, total: Sum, starts: Mapping[Key, int], marks: Mapping[str, tuple[Pair, ...]]
 ) -> Body:
     name = question.name
     if question.kind in FINDING:
-        by_place = sorted(total.found[name].items())
-        return Found(question.kind, tuple(starts[place] + it for place, rows in by_place for it in rows))
+        by_part = sorted(total.found[name].items())
+        rows = (map(starts[part].__add__, its) for part, its in by_part)
+        return Found(question.kind, tuple(chain.from_iterable(rows)))
     if question.kind == "top":
         pairs = [Pair(it.key, getattr(it, question.part)) for it in total.groups[name].values()]
         ranked = sorted(pairs, key=lambda it: (-it.value, it.key))

@@ -92,7 +92,7 @@ def drawing_of(
     drawing = Drawing(setup.nanoseconds if setup else width)
     for at, ask in enumerate(named[0].report.asks):
         bodies = [(it.name, it.report.asks[at].body) for it in named]
-        fired = [(name, list(body.marks)) for name, body in bodies if isinstance(body, Fired)]
+        fired = [(name, by_bucket(body.marks)) for name, body in bodies if isinstance(body, Fired)]
         tops = [body for _, body in bodies if isinstance(body, Top)]
         if any(pairs for _, pairs in fired):
             drawing.marks[ask.name] = fired
@@ -105,10 +105,19 @@ def drawing_of(
     for it in named:
         for alert in it.report.alerts:
             drawing.alerts.setdefault(alert.trigger, []).append(Pair(alert.bucket, alert.value))
+        drawing.alerts = {name: by_bucket(pairs) for name, pairs in drawing.alerts.items()}
     if not drawing.buckets() and not drawing.tops:
         names = ", ".join(it.name for it in named)
         raise Complaint(f"nothing to draw: no trigger fired in {names}, and no top has a key")
     return drawing
+
+
+def by_bucket(pairs: Sequence[Pair]) -> list[Pair]:
+    """Of each bucket the greatest value: of an aggregate by keys there may be several."""
+    found: dict[int, int] = {}
+    for it in pairs:
+        found[it.key] = max(it.value, found.get(it.key, 0))
+    return [Pair(*it) for it in found.items()]
 
 
 def _keys(name: str, tops: list[Top], setup: Setup | None) -> list[Pair]:

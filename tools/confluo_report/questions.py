@@ -2,6 +2,9 @@
 
     top [N] ATTRIBUTE by MEASURE      the values with the most
     top [N] UNIT by MEASURE           the seconds, minutes, .. with the most
+    top [N] KEY, KEY by MEASURE       the pairs of values with the most
+    top [N] KEY by different KEY      the values with the most different others
+    scans [N]                         who sent SYNs to the most different ports
     share [N] ATTRIBUTE [by MEASURE]  each value's part of the whole in percent
     flows [N] [by MEASURE]            the conversations with the most
     unanswered [N]                    connections with SYNs and no SYN-ACK
@@ -13,6 +16,7 @@
     total ATTRIBUTE                   number, sum, least, greatest
     per UNIT MEASURE                  each second, minute, ..
     over N [MEASURE] in a UNIT        the units with more; under N ..: with less
+    over N [MEASURE] in a UNIT by KEY the same of each value
 
     All but list, find and count may end with: where CONDITION
 
@@ -23,6 +27,7 @@
     RANGE       60..99, 10.0.0.0/8, 2001:db8::/32
     ATTRIBUTE   len, dport, ..; src and dst are addresses of IPv4 and IPv6,
                 src6 and dst6 those of IPv6, src6/64 and dst6/64 its networks
+    KEY         an attribute but flow, dmac, smac; the first may be a UNIT
     MEASURE     bytes, packets, an attribute (its sum), least ttl, greatest win
     UNIT        second, minute, hour, millisecond, ..; but for top: 10 seconds
     TIME        2026-11-28T13:00:05, in UTC, or seconds since 1970
@@ -42,13 +47,14 @@ from .setups import PACKETS, SECOND
 from .values import UNITS
 
 VERBS = (
-    *("top", "share", "flows", "unanswered", "pings"),
+    *("top", "share", "flows", "scans", "unanswered", "pings"),
     *("list", "find", "count", "total", "between", "per", "over", "under"),
 )
 # Of each conversation two kinds of packets are counted; a condition is on the first.
 ANSWERS4 = "icmp_type==0 && proto==1 && kind==1 && etype==0x0800"
+SYN = "is_syn==1 && is_ack==0"
 PAIRS = {
-    "unanswered": ("is_syn==1 && is_ack==0", "is_syn==1 && is_ack==1"),
+    "unanswered": (SYN, "is_syn==1 && is_ack==1"),
     "pings": (
         "icmp_type==8 && proto==1 || icmp_type==128 && proto==58",
         f"{ANSWERS4} || icmp_type==129 && proto==58",
@@ -62,10 +68,12 @@ MEASURE = r"(?:(?P<part>count|sum|least|greatest)(?: of)? )?(?P<measure>[a-z][a-
 UNIT = r"(?:a |an )?(?:(?P<times>[1-9][0-9]*) )?(?P<unit>[a-z]+?)s?"
 WHERE = r"(?: where (?P<where>.+))?"
 KEY = r"(?:(?P<count>[0-9]+) )?(?P<key>[a-z][a-z0-9_]*)(?P<bits>/[0-9]+)?"
+WORD = r"[a-z][a-z0-9_]*"
+SECOND_KEY = rf"(?:(?:,| and|) (?P<second>{WORD}))?"
 FORMS = {
     "top": (
-        re.compile(rf"top {KEY} by {MEASURE}{WHERE}"),
-        "top [N] ATTRIBUTE by MEASURE [where CONDITION]",
+        re.compile(rf"top {KEY}{SECOND_KEY} by (?:different (?P<different>{WORD})|{MEASURE}){WHERE}"),
+        "top [N] ATTRIBUTE[, ATTRIBUTE] by MEASURE [where CONDITION]",
         "top 10 src by bytes where dport==443",
     ),
     "share": (
@@ -77,6 +85,11 @@ FORMS = {
         re.compile(rf"flows(?: (?P<count>[0-9]+))?(?: by {MEASURE})?{WHERE}"),
         "flows [N] [by MEASURE] [where CONDITION]",
         "flows 5 by packets where dport==443",
+    ),
+    "scans": (
+        re.compile(rf"scans(?: (?P<count>[0-9]+))?{WHERE}"),
+        "scans [N] [where CONDITION]",
+        "scans where dst in 10.0.0.0/8",
     ),
     "unanswered": (
         re.compile(rf"unanswered(?: (?P<count>[0-9]+))?{WHERE}"),
@@ -111,9 +124,11 @@ FORMS = {
         "per second bytes where dport==443",
     ),
     "over": (
-        re.compile(rf"(?:over|under) (?P<number>[0-9]+)(?: {MEASURE})? (?:in|per) {UNIT}{WHERE}"),
-        "over N [MEASURE] in a UNIT [where CONDITION]",
-        "over 1000 in a second where dport==443",
+        re.compile(
+            rf"(?:over|under) (?P<number>[0-9]+)(?: {MEASURE})? (?:in|per) {UNIT}(?: by (?P<second>{WORD}))?{WHERE}"
+        ),
+        "over N [MEASURE] in a UNIT [by KEY] [where CONDITION]",
+        "over 100 packets in a second by src where dport==443",
     ),
 }
 FORMS["under"] = FORMS["over"]
@@ -128,6 +143,8 @@ class Query:
     condition: str = "*"
     expression: str = "*"
     key: str = ""
+    # The attribute beside it, or beside a unit of time, of pairs or of different values.
+    second: str = ""
     # The key is an address of IPv6, of which the program's `key` is the high half.
     is_whole: bool = False
     # The key is an address of IPv4 or IPv6, and the program's `key` that of IPv4.
@@ -143,17 +160,22 @@ class Query:
     @property
     def is_timed(self) -> bool:
         """Whether it goes by time buckets and their width."""
-        return self.is_of_buckets or self.verb == "between"
+        return self.is_of_buckets or self.verb == "between" or self.is_timed_pair
+
+    @property
+    def is_timed_pair(self) -> bool:
+        """Whether it goes by time buckets and the values of an attribute."""
+        return bool(self.width and self.second)
 
     @property
     def is_of_buckets(self) -> bool:
         """Whether its answer is a list of time buckets."""
-        return self.verb in ("per", "over", "under") or self.is_peak
+        return not self.second and (self.verb in ("per", "over", "under") or self.is_peak)
 
     @property
     def is_peak(self) -> bool:
         """Whether it is `top` of time buckets."""
-        return self.verb == "top" and bool(self.width)
+        return self.verb == "top" and bool(self.width) and not self.second
 
     @property
     def bound(self) -> str:
@@ -163,7 +185,7 @@ class Query:
     @property
     def is_ranked(self) -> bool:
         """Whether it ranks values of an attribute."""
-        return self.verb in ("top", "share", "flows") and not self.is_peak
+        return self.verb in ("top", "share", "flows") and not (self.is_peak or self.second)
 
     @property
     def is_paired(self) -> bool:
@@ -238,7 +260,7 @@ def parse_question(text: str, schema: Sequence[Attribute] = PACKETS["packet6"]) 
     form, shape, example = FORMS[verb]
     found = form.fullmatch(text)
     if not found:
-        one = "One attribute is ranked, not two together.\n" if re.match(r"(top|share) [^,]*,", text) else ""
+        one = "It ranks one attribute, not two together.\n" if re.match(r"share [^,]*,", text) else ""
         raise Complaint(f"Cannot read `{text}`. {one}Expected:\n    {shape}\nFor example:\n    {example}")
     words = found.groupdict()
     if verb == "find":
@@ -249,6 +271,11 @@ def parse_question(text: str, schema: Sequence[Attribute] = PACKETS["packet6"]) 
         query = replace(query, expression=_form(schema, query, condition, found.start("where")))
     if verb in ("flows", *PAIRS):
         query = _of_conversations(query, schema)
+    second = words.get("second") or words.get("different") or ""
+    if verb == "scans" or second:
+        query = _of_two(query, second, schema)
+        if words.get("second") and words.get("different"):
+            raise Complaint(f"`{text}`: different values are counted of one attribute, not of two together")
     return _filled(_keyed(query, words.get("bits"), schema), words)
 
 
@@ -280,6 +307,36 @@ def _of_conversations(query: Query, schema: Sequence[Attribute]) -> Query:
     return replace(query, key="flow", expression=narrowed(query, narrower))
 
 
+def _of_two(query: Query, second: str, schema: Sequence[Attribute]) -> Query:
+    """With both attributes, which are numbers."""
+    if tuple(schema) != PACKETS["packet6"]:
+        raise Complaint(f"`{query.text}`: two attributes are counted together under `schema packet6` alone")
+    if query.verb == "scans":
+        return replace(query, key="src", second="dport", expression=narrowed(query, SYN))
+    if query.verb == "under":
+        raise Complaint(
+            f"`{query.text}`: what has no packet has less too, and is in no list: ask with `over`"
+        )
+    numbers = [it.name for it in schema if it.is_number and it.name != "flow"]
+    if unit_of(second) and query.verb == "top" and " by different " not in query.text:
+        query, second = replace(query, key=second), query.key
+    width = unit_of(query.key)
+    for it in (second,) if width or query.verb == "over" else (query.key, second):
+        if it not in numbers:
+            known = ", ".join(numbers)
+            raise Complaint(
+                f"`{query.text}`: `{it}` is none of the numbers that are counted together: {known}"
+            )
+    if query.key == second:
+        raise Complaint(f"`{query.text}`: it needs two attributes, and both are `{second}`")
+    return replace(query, second=second, width=width)
+
+
+def unit_of(word: str) -> int:
+    """The width that a word names, as `seconds`; 0 if it names none."""
+    return {name: size for size, name in UNITS.items()}.get(word.removesuffix("s"), 0)
+
+
 def _finding(text: str, key: str, value: str, schema: Sequence[Attribute]) -> Query:
     """By an index, where the program takes the ends; else the packets are listed by a condition."""
     low, dots, high = value.partition("..")
@@ -297,14 +354,18 @@ def _keyed(query: Query, bits: str | None, schema: Sequence[Attribute]) -> Query
     """With what the key is: of IPv6, whole addresses or networks."""
     is_packet6 = tuple(schema) == PACKETS["packet6"]
     is_six = is_packet6 and query.key in ("src6", "dst6")
-    if bits and (not is_six or bits != "/64"):
-        raise Complaint(f"`{query.text}`: only src6/64 and dst6/64 are ranked by networks")
+    if bits and (not is_six or bits != "/64" or query.second):
+        raise Complaint(f"`{query.text}`: only src6/64 and dst6/64 are ranked by networks, and alone")
+    if query.second:
+        return query
     is_of_both = is_packet6 and query.key in ("src", "dst")
     return replace(query, is_whole=is_six and not bits, is_of_both=is_of_both)
 
 
 def _filled(query: Query, words: dict[str, str | None]) -> Query:
     part, measure = _measure(words.get("part"), words.get("measure"))
+    if query.verb == "scans" or words.get("different"):
+        part = "different"
     if query.is_paired:
         part = "count"
     count = int(words.get("count") or 10)
@@ -319,7 +380,7 @@ def _filled(query: Query, words: dict[str, str | None]) -> Query:
         raise Complaint(f"`{query.text}`: {number} is above 2^64 - 1")
     width = _width(words.get("times"), words.get("unit") or "") if words.get("unit") else 0
     if query.verb == "top":
-        width = {name: size for size, name in UNITS.items()}.get(query.key.removesuffix("s"), 0)
+        width = query.width if query.second else unit_of(query.key)
     low = words.get("low") or ""
     found = replace(query, part=part, measure=measure, count=count, number=number, width=width)
     return replace(found, low=low, high=words.get("high") or low)
@@ -369,6 +430,14 @@ def _ask(writer: _Writer, query: Query, width: int, every: bool) -> str:
     if query.is_ranked:
         tally = writer.thing("tally", f"{query.key} {query.measure} {query.expression}")
         return f"top {tally} {query.bound} {MOST_TOP if every else query.count}"
+    if query.is_timed_pair:
+        lane = writer.thing("filter", query.expression)
+        lane = writer.thing("aggregate", f"{lane} {query.measure} by {query.second}")
+        if query.verb != "over" or every:
+            return f"groups {lane}"
+        return f"fired {writer.thing('trigger', f'{lane} {query.part} > {query.number}')}"
+    if query.second:
+        return f"groups {writer.thing('tally', f'{query.key} {query.measure} {query.expression}')}"
     if query.is_paired:
         return f"top {writer.thing('tally', f'flow len {query.expression}')} count {MOST_TOP}"
     if query.verb == "list":

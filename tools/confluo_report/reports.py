@@ -6,14 +6,18 @@ names the line and quotes it.
 
 from __future__ import annotations
 
+import itertools
+import operator
 import re
 from dataclasses import dataclass
-from typing import Callable, Iterator, Union
+from typing import Callable, Iterator, Sequence, Tuple, Union
 
 from .errors import Complaint
 
 NUMBER = r"(?:0|[1-9][0-9]*)"
 NAME = r"[a-z][a-z0-9_]{0,31}"
+# A bucket, or a bucket and the key beside it.
+PLACE = rf"{NUMBER}(?:/{NUMBER})?"
 FOUND = ("list", "find", "between")
 QUADS = ("measure", "total")
 
@@ -37,12 +41,31 @@ class Quad:
     greatest: int | None
 
 
+# A bucket or a key, or a bucket and the key beside it.
+Place = Union[Tuple[int], Tuple[int, int]]
+
+
+def place_of(bucket: int, by: int | None) -> Place:
+    """Both where there are both."""
+    return (bucket,) if by is None else (bucket, by)
+
+
+def place_text(bucket: int, by: int | None) -> str:
+    """The same as confluo prints it."""
+    return "/".join(map(str, place_of(bucket, by)))
+
+
 @dataclass(frozen=True)
 class Pair:
-    """A bucket with its value, or a key with its part."""
+    """A bucket with its value, or a key with its part. `by` is the key beside the bucket where an aggregate goes by keys too."""
 
     key: int
     value: int
+    by: int | None = None
+
+    @property
+    def place(self) -> Place:
+        return place_of(self.key, self.by)
 
 
 @dataclass(frozen=True)
@@ -70,11 +93,16 @@ class Group:
     sum: int
     least: int
     greatest: int
+    by: int | None = None
+
+    @property
+    def place(self) -> Place:
+        return place_of(self.key, self.by)
 
 
 @dataclass(frozen=True)
 class Groups:
-    """All groups of an aggregate, by ascending bucket, or of a tally, by ascending key."""
+    """All groups of an aggregate, by ascending bucket and the key beside it, or of a tally, by ascending key."""
 
     groups: tuple[Group, ...]
     kind: str = "groups"
@@ -93,11 +121,16 @@ class Ask:
 
 @dataclass(frozen=True)
 class Alert:
-    """A bucket in which a trigger fires, with the value."""
+    """A bucket in which a trigger fires, with the value, and the key beside it where the aggregate goes by keys too."""
 
     trigger: str
     bucket: int
     value: int
+    by: int | None = None
+
+    @property
+    def place(self) -> Place:
+        return place_of(self.bucket, self.by)
 
 
 @dataclass(frozen=True)
@@ -129,6 +162,20 @@ class RoundAlert:
     bucket: int
     value: int
     prefix: int
+    by: int | None = None
+
+    @property
+    def place(self) -> Place:
+        return place_of(self.bucket, self.by)
+
+
+@dataclass(frozen=True)
+class RoundCrowded:
+    """A bucket that has as many keys as `watch` keeps: records of others count for totals alone. `prefix` is as in an alert."""
+
+    name: str
+    bucket: int
+    prefix: int
 
 
 @dataclass(frozen=True)
@@ -159,7 +206,7 @@ class RoundTotal:
     prefix: int
 
 
-Told = Union[RoundAlert, RoundLive, RoundBeat, RoundTotal]
+Told = Union[RoundAlert, RoundCrowded, RoundLive, RoundBeat, RoundTotal]
 
 
 @dataclass(frozen=True)
@@ -228,7 +275,7 @@ REFUSALS_OF_ONE = (
 FORMS = {
     "records": re.compile(rf"records ({NUMBER})"),
     "ask": re.compile(rf"ask ({NAME}) (.*)"),
-    "alert": re.compile(rf"alert ({NAME}) ({NUMBER}) ({NUMBER})"),
+    "alert": re.compile(rf"alert ({NAME}) ({PLACE}) ({NUMBER})"),
     "live": re.compile(rf"live ({NAME}) @({NUMBER}) (.*)"),
     "new": re.compile(rf"new ({NAME}) @({NUMBER}) (.*)"),
     "order": re.compile(rf"order((?: {NUMBER}\*{NUMBER})*)"),
@@ -237,7 +284,8 @@ FORMS = {
     "truncated:": re.compile(rf"truncated: record ({NUMBER})"),
     "truncated: capture": re.compile(rf"truncated: capture ({NUMBER}) record ({NUMBER})"),
     "window": re.compile(rf"window ({NUMBER})"),
-    "round alert": re.compile(rf"alert ({NAME}) ({NUMBER}) ({NUMBER}) @({NUMBER})"),
+    "round alert": re.compile(rf"alert ({NAME}) ({PLACE}) ({NUMBER}) @({NUMBER})"),
+    "crowded": re.compile(rf"crowded ({NAME}) ({NUMBER}) @({NUMBER})"),
     "round live": re.compile(rf"live ({NAME}) @({NUMBER})\.\.({NUMBER}) (.*)"),
     "at": re.compile(rf"at ({NUMBER}) ({NUMBER})"),
     "total": re.compile(rf"total ({NAME}) count ({NUMBER}) sum ({NUMBER})"),
@@ -245,12 +293,15 @@ FORMS = {
 QUAD = re.compile(
     rf"(measure|total) count ({NUMBER}) sum ({NUMBER}) least ({NUMBER}|-) greatest ({NUMBER}|-)"
 )
-LISTED = re.compile(rf"(list|find|between) ({NUMBER}):((?: {NUMBER})*)")
-PAIRED = re.compile(rf"(fired|top) ({NUMBER}):((?: {NUMBER}={NUMBER})*)")
-GROUPED = re.compile(rf"groups ({NUMBER}):((?: {NUMBER}=[1-9][0-9]*(?:/{NUMBER}){{3}})*)")
+LISTED = re.compile(rf"(list|find|between) ({NUMBER}):([0-9 ]*)")
+LEADING_ZERO = re.compile(" 0[0-9]")
+PAIRED = re.compile(
+    rf"(fired) ({NUMBER}):((?: {PLACE}={NUMBER})*)|(top) ({NUMBER}):((?: {NUMBER}={NUMBER})*)"
+)
+GROUPED = re.compile(rf"groups ({NUMBER}):((?: {PLACE}=[1-9][0-9]*(?:/{NUMBER}){{3}})*)")
 
 
-TOLD = ("alert", "live", "at", "total")
+TOLD = ("alert", "crowded", "live", "at", "total")
 
 
 def is_told(line: str) -> bool:
@@ -289,7 +340,7 @@ class _Lines:
 
     def word(self) -> str:
         """The first word of the next line, or nothing at the end."""
-        return self.lines[self.at].split(" ")[0] if self.at < len(self.lines) else ""
+        return self.lines[self.at].partition(" ")[0] if self.at < len(self.lines) else ""
 
     def take(self, word: str) -> tuple[str, ...]:
         """The parts of the next line, which begins with that word."""
@@ -321,7 +372,7 @@ def _shown_form(word: str) -> str:
     return {
         "records": "`records K`",
         "ask": "`ask NAME KIND ..`",
-        "alert": "`alert TRIGGER BUCKET VALUE`",
+        "alert": "`alert TRIGGER BUCKET VALUE` or `alert TRIGGER BUCKET/KEY VALUE`",
         "live": "`live NAME @T ..`",
         "new": "`new NAME @T fired K: ..`",
         "order": "`order W*K ..`",
@@ -330,7 +381,8 @@ def _shown_form(word: str) -> str:
         "truncated:": "`truncated: record K`",
         "truncated: capture": "`truncated: capture F record K`",
         "window": "`window F`",
-        "round alert": "`alert TRIGGER BUCKET VALUE @T`",
+        "round alert": "`alert TRIGGER BUCKET VALUE @T` or `alert TRIGGER BUCKET/KEY VALUE @T`",
+        "crowded": "`crowded NAME BUCKET @T`",
         "round live": "`live NAME @F..T ..`",
         "at": "`at T S`",
         "total": "`total NAME count C sum U`",
@@ -341,18 +393,20 @@ def _body(lines: _Lines, text: str, most: int, ascending: bool, least: int = 0) 
     """An answer whose line was just taken, over the records from `least` up to `most`."""
     if found := QUAD.fullmatch(text):
         return _quad(lines, found.groups())
-    if found := LISTED.fullmatch(text):
-        rows = tuple(map(int, found[3].split()))
+    found = LISTED.fullmatch(text)
+    rows = _numbers(found[3]) if found else None
+    if found and rows is not None:
         _must_count(lines, int(found[2]), len(rows))
         _must_be_rows(lines, rows, (least, most), ascending)
         return Found(found[1], rows)
     if found := PAIRED.fullmatch(text):
-        pairs = tuple(Pair(*map(int, it.split("="))) for it in found[3].split())
-        _must_count(lines, int(found[2]), len(pairs))
-        _must_be_in_order(lines, found[1], pairs)
-        return Fired(pairs) if found[1] == "fired" else Top(pairs)
+        kind, count, its = (it for it in found.groups() if it is not None)
+        pairs = tuple(map(_pair, its.split()))
+        _must_count(lines, int(count), len(pairs))
+        _must_be_in_order(lines, kind, pairs)
+        return Fired(pairs) if kind == "fired" else Top(pairs)
     if found := GROUPED.fullmatch(text):
-        groups = tuple(Group(*map(int, re.split("[=/]", it))) for it in found[2].split())
+        groups = tuple(map(_group, found[2].split()))
         _must_count(lines, int(found[1]), len(groups))
         _must_be_groups(lines, groups)
         return Groups(groups)
@@ -362,6 +416,32 @@ def _body(lines: _Lines, text: str, most: int, ascending: bool, least: int = 0) 
         back=1,
     )
     raise AssertionError
+
+
+def _numbers(text: str) -> tuple[int, ...] | None:
+    """The numbers, which may be millions, of a text of spaces and digits: each has one space before it, and no zero in front."""
+    first, *words = text.split(" ")
+    if first or "" in words or LEADING_ZERO.search(text):
+        return None
+    return tuple(map(int, words))
+
+
+def _both(text: str) -> tuple[int, int | None]:
+    """A bucket, and the key beside it if there is one."""
+    bucket, has_key, key = text.partition("/")
+    return int(bucket), int(key) if has_key else None
+
+
+def _pair(text: str) -> Pair:
+    place, _, value = text.partition("=")
+    key, by = _both(place)
+    return Pair(key, int(value), by)
+
+
+def _group(text: str) -> Group:
+    place, _, quad = text.partition("=")
+    key, by = _both(place)
+    return Group(key, *map(int, quad.split("/")), by=by)
 
 
 def _quad(lines: _Lines, parts: tuple[str, ...]) -> Quad:
@@ -378,29 +458,34 @@ def _must_count(lines: _Lines, stated: int, there: int) -> None:
 
 
 def _must_be_rows(lines: _Lines, rows: tuple[int, ...], ends: tuple[int, int], ascending: bool) -> None:
+    # (there may be millions)
     least, most = ends
-    if any(not least <= row < most for row in rows):
+    if rows and not (least <= min(rows) and max(rows) < most):
         lines.fail(f"numbers of records {f'from {least} and ' if least else ''}below {most}", back=1)
-    if ascending and any(low >= high for low, high in zip(rows, rows[1:])):
+    if ascending and not all(map(operator.lt, rows, itertools.islice(rows, 1, None))):
         lines.fail("numbers of records in ascending order", back=1)
-    if len(set(rows)) != len(rows):
+    if not ascending and len(set(rows)) != len(rows):
         lines.fail("each record once", back=1)
 
 
 def _must_be_in_order(lines: _Lines, kind: str, pairs: tuple[Pair, ...]) -> None:
     if kind == "fired":
-        places = [(it.key, 0) for it in pairs]
-        wanted = "buckets in ascending order"
-    else:
-        places = [(-it.value, it.key) for it in pairs]
-        wanted = "the greater part first, and of equal parts the lower key"
+        _must_ascend(lines, "buckets", [it.place for it in pairs])
+        return
+    places = [(-it.value, it.key) for it in pairs]
     if any(low >= high for low, high in zip(places, places[1:])):
-        lines.fail(wanted, back=1)
+        lines.fail("the greater part first, and of equal parts the lower key", back=1)
+
+
+def _must_ascend(lines: _Lines, things: str, places: Sequence[Place]) -> None:
+    if len(set(map(len, places))) > 1:
+        lines.fail("a key beside each bucket or beside none", back=1)
+    if not all(map(operator.lt, places, itertools.islice(places, 1, None))):
+        lines.fail(f"{things} in ascending order", back=1)
 
 
 def _must_be_groups(lines: _Lines, groups: tuple[Group, ...]) -> None:
-    if any(low.key >= high.key for low, high in zip(groups, groups[1:])):
-        lines.fail("buckets or keys in ascending order", back=1)
+    _must_ascend(lines, "buckets or keys", [it.place for it in groups])
     if any(not it.least * it.count <= it.sum <= it.greatest * it.count for it in groups):
         lines.fail("sums of so many numbers, from the least to the greatest", back=1)
 
@@ -417,12 +502,17 @@ def _asks(lines: _Lines, most: int, least: int = 0) -> tuple[Ask, ...]:
 
 def _alerts(lines: _Lines) -> tuple[Alert, ...]:
     alerts: list[Alert] = []
+    names: set[str] = set()
     while lines.word() == "alert":
-        name, bucket, value = lines.take("alert")
-        alert = Alert(name, int(bucket), int(value))
-        before = [it for it in alerts if it.trigger == name]
-        if before and (alerts[-1].trigger != name or before[-1].bucket >= alert.bucket):
+        name, place, value = lines.take("alert")
+        bucket, by = _both(place)
+        alert = Alert(name, bucket, int(value), by)
+        last = alerts[-1] if alerts and alerts[-1].trigger == name else None
+        if last and (last.by is None) != (by is None):
+            lines.fail("a key beside each bucket of a trigger or beside none", back=1)
+        if last and last.place >= alert.place or not last and name in names:
             lines.fail("the alerts of a trigger together, by ascending buckets", back=1)
+        names.add(name)
         alerts.append(alert)
     return tuple(alerts)
 
@@ -510,9 +600,14 @@ class Rounds:
         if word == "at":
             return self._beat(lines)
         if word == "alert":
-            name, bucket, value, prefix = lines.take("round alert")
+            name, place, value, prefix = lines.take("round alert")
             self._move(lines, self.first, int(prefix))
-            return RoundAlert(name, int(bucket), int(value), self.prefix)
+            bucket, by = _both(place)
+            return RoundAlert(name, bucket, int(value), self.prefix, by)
+        if word == "crowded":
+            name, place, prefix = lines.take("crowded")
+            self._move(lines, self.first, int(prefix))
+            return RoundCrowded(name, int(place), self.prefix)
         name, first, prefix, text = lines.take("round live")
         self._move(lines, int(first), int(prefix))
         return RoundLive(name, self.first, self.prefix, _body(lines, text, self.prefix, True, self.first))
@@ -650,19 +745,28 @@ def body_text(body: Body) -> str:
         ends = ["-" if it is None else str(it) for it in (body.least, body.greatest)]
         return f"{body.kind} count {body.count} sum {body.sum} least {ends[0]} greatest {ends[1]}"
     if isinstance(body, Found):
-        words = list(map(str, body.rows))
-    elif isinstance(body, Groups):
-        words = [f"{it.key}={it.count}/{it.sum}/{it.least}/{it.greatest}" for it in body.groups]
+        # (in half the time of joined words)
+        return f"{body.kind} {len(body.rows)}:" + " %d" * len(body.rows) % body.rows
+    if isinstance(body, Groups):
+        quads = [f"{it.count}/{it.sum}/{it.least}/{it.greatest}" for it in body.groups]
+        words = [f"{place_text(it.key, it.by)}={quad}" for it, quad in zip(body.groups, quads)]
     else:
         pairs = body.marks if isinstance(body, Fired) else body.keys
-        words = [f"{it.key}={it.value}" for it in pairs]
+        words = [f"{place_text(it.key, it.by)}={it.value}" for it in pairs]
     return " ".join([f"{body.kind} {len(words)}:", *words])
+
+
+def alert_text(it: Alert) -> str:
+    """The line of an alert as confluo prints it."""
+    return f"alert {it.trigger} {place_text(it.bucket, it.by)} {it.value}"
 
 
 def told_text(it: Told) -> str:
     """The line of a round as `watch` writes it."""
     if isinstance(it, RoundAlert):
-        return f"alert {it.trigger} {it.bucket} {it.value} @{it.prefix}"
+        return f"alert {it.trigger} {place_text(it.bucket, it.by)} {it.value} @{it.prefix}"
+    if isinstance(it, RoundCrowded):
+        return f"crowded {it.name} {it.bucket} @{it.prefix}"
     if isinstance(it, RoundBeat):
         return f"at {it.prefix} {it.seconds}"
     if isinstance(it, RoundTotal):
@@ -684,7 +788,7 @@ def lines_of(read: Report | Snapshot) -> Iterator[str]:
     if read.window is not None:
         yield f"window {read.window}"
     yield from (f"ask {it.name} {body_text(it.body)}" for it in read.asks)
-    yield from (f"alert {it.trigger} {it.bucket} {it.value}" for it in read.alerts)
+    yield from map(alert_text, read.alerts)
     for live in read.lives:
         yield f"live {live.name} @{live.prefix} {body_text(live.body)}"
         if live.new is not None:

@@ -48,7 +48,10 @@ PACKETS = {"packet": PACKET, "packet6": PACKET + tuple(Attribute(it, "u64") for 
 
 @dataclass(frozen=True)
 class Lane:
-    """An index, filter, aggregate or tally. `key` is an attribute's place, or None for the bucket."""
+    """An index, filter, aggregate or tally. `key` is an attribute's place, or None for the bucket.
+
+    `by` is the place of the attribute whose values keep an aggregate's records of a bucket apart, if there is one.
+    """
 
     name: str
     family: str
@@ -57,11 +60,12 @@ class Lane:
     measure: int | None = None
     # Of an aggregate, the name of its filter.
     over: str = ""
+    by: int | None = None
 
 
 @dataclass(frozen=True)
 class Trigger:
-    """A watch on each bucket of an aggregate."""
+    """A watch on each bucket of an aggregate, or on each bucket and key."""
 
     name: str
     aggregate: Lane
@@ -212,7 +216,7 @@ class _Statement:
         word = self.word(number)
         if word.text in words:
             return True
-        wanted = ", ".join(words[:-1]) + f" or {words[-1]}"
+        wanted = f"{', '.join(words[:-1])} or {words[-1]}" if len(words) > 1 else f"`{words[0]}`"
         why = f"`{word.text}` is not {wanted}; the form is `{form}`"
         meant = SAME.get(word.text, "")
         self.fault(3, word, why, self.with_word(number, meant) if meant in words else "")
@@ -254,9 +258,15 @@ class _Statement:
         known = f"; there are {', '.join(there)}" if there else ""
         self.fault(6, word, f"no line above has {_with_article(what)} called `{word.text}`{known}")
 
-    def lane(self, number: int, *families: str) -> Lane | None:
-        found = self.setup.lane(self.word(number).text, *families)
-        there = [it.name for it in self.setup.lanes if it.family in families]
+    def lane(self, number: int, *families: str, by_keys: bool = False) -> Lane | None:
+        """The lane of one of the families; 6 where there is none, or one that goes by keys too and may not."""
+        word = self.word(number)
+        found = self.setup.lane(word.text, *families)
+        if found and found.by is not None and not by_keys:
+            why = f"`{word.text}` is an aggregate by `{self.setup.schema[found.by].name}`, which only `trigger` and `groups` take"
+            self.fault(6, word, why)
+            return None
+        there = [it.name for it in self.setup.lanes if it.family in families and (by_keys or it.by is None)]
         self.thing(number, " or ".join(families), found, there)
         return found
 
@@ -292,7 +302,10 @@ class _Statement:
     def must_be_a_key(self, number: int, place: int | None) -> None:
         if place is not None and not self.setup.schema[place].is_number:
             word = self.word(number)
-            why = f"`{word.text}` is bytes; an index or a tally is over numbers (`ask NAME list {word.text}==0x..` finds one)"
+            why = (
+                f"`{word.text}` is bytes; an index, a tally and what is behind `by` are of numbers "
+                f"(`ask NAME list {word.text}==0x..` finds one)"
+            )
             self.fault(8, word, why)
 
     def must_have_room(self, what: str, there: int) -> None:
@@ -395,13 +408,20 @@ def _filter(it: _Statement) -> None:
 
 
 def _aggregate(it: _Statement) -> None:
-    if not it.must_have(4, "aggregate NAME FILTER ATTRIBUTE"):
+    by = None
+    if len(it.words) > 4:
+        form = "aggregate NAME FILTER ATTRIBUTE by KEY"
+        if not it.must_be_one_of(4, ("by",), form) or not it.must_have(6, form):
+            return
+        by = it.attribute(5)
+        it.must_be_a_key(5, by)
+    elif not it.must_have(4, "aggregate NAME FILTER ATTRIBUTE [by KEY]"):
         return
     name, over, place = it.new_name(), it.lane(2, "filter"), it.attribute(3)
     it.must_be_measurable(3, place)
     it.must_have_room("lane", len(it.setup.lanes))
     select = over.select if over else Expression("*", ((),))
-    it.setup.lanes.append(Lane(name, "aggregate", select, None, place, it.word(2).text))
+    it.setup.lanes.append(Lane(name, "aggregate", select, None, place, it.word(2).text, by))
 
 
 def _tally(it: _Statement) -> None:
@@ -420,7 +440,7 @@ def _trigger(it: _Statement) -> None:
         return
     it.must_be_one_of(3, PARTS, form)
     it.must_be_one_of(4, OPERATORS, form)
-    name, over = it.new_name(), it.lane(2, "aggregate")
+    name, over = it.new_name(), it.lane(2, "aggregate", by_keys=True)
     number = it.number(5)
     it.must_have_room("trigger", len(it.setup.triggers))
     if over:
@@ -494,7 +514,7 @@ def _ask_top(it: _Statement, kind: str) -> Question | None:
 def _ask_groups(it: _Statement, kind: str) -> Question | None:
     if not it.must_have(4, "ask NAME groups LANE"):
         return None
-    name, lane = it.new_name(), it.lane(3, "aggregate", "tally")
+    name, lane = it.new_name(), it.lane(3, "aggregate", "tally", by_keys=True)
     return Question(name, kind, it.rest(2).text, lane=lane)
 
 

@@ -22,6 +22,7 @@ from .reports import (
     Report,
     RoundAlert,
     RoundBeat,
+    RoundCrowded,
     RoundTotal,
     Snapshot,
     Told,
@@ -29,8 +30,10 @@ from .reports import (
 )
 from .setups import SECOND, Lane, Question, Setup, Trigger
 from .tables import Style, marks, table
-from .values import clock, grouped, key_text, unit, units, utc, value_text
+from .values import by_text, clock, grouped, key_text, unit, units, utc, value_text
 
+# Of an aggregate by keys `watch` keeps so many, each with its bucket.
+MOST_PAIRS = 65536
 PART_WORDS = {"count": "number", "sum": "sum", "least": "least", "greatest": "greatest"}
 
 
@@ -66,7 +69,13 @@ def part_text(setup: Setup, part: str, lane: Lane) -> str:
 def condition_text(setup: Setup, trigger: Trigger) -> str:
     """What the trigger watches, as `sum of len > 1000 of dport==80`."""
     part = part_text(setup, trigger.part, trigger.aggregate)
-    return f"{part} {trigger.operator} {grouped(trigger.number)}, of {select_text(trigger.aggregate)}"
+    each = each_text(setup, trigger.aggregate)
+    return f"{part} {trigger.operator} {grouped(trigger.number)}, of {select_text(trigger.aggregate)}{each}"
+
+
+def each_text(setup: Setup, lane: Lane) -> str:
+    """That an aggregate goes by keys too, as ` by src`."""
+    return "" if lane.by is None else f" by {setup.schema[lane.by].name}"
 
 
 def select_text(lane: Lane) -> str:
@@ -111,7 +120,7 @@ def heading(viewer: Viewer, name: str, body: Body) -> str:
         return f"{setup.schema[lane.key].name} by {part_text(setup, question.part, lane)}, of {select_text(lane)}"
     if question.kind == "groups" and lane:
         by = unit(setup.nanoseconds) if lane.key is None else setup.schema[lane.key].name
-        return f"each {by} of {select_text(lane)}"
+        return f"each {by} of {select_text(lane)}{each_text(setup, lane)}"
     return question.text
 
 
@@ -157,6 +166,19 @@ def _bucket_head(viewer: Viewer) -> str:
     return f"{unit(viewer.setup.nanoseconds)} (UTC)" if viewer.setup else "bucket"
 
 
+def _by_cell(viewer: Viewer, lane: Lane | None, by: int | None) -> str:
+    """The key beside a bucket, nothing where there is none."""
+    if by is None:
+        return ""
+    known = viewer.setup and lane and lane.by is not None
+    return by_text(viewer.setup, lane, by, viewer.flows) if known and viewer.setup and lane else str(by)
+
+
+def _by_head(viewer: Viewer, lane: Lane | None) -> str:
+    """What the keys beside buckets are."""
+    return viewer.setup.schema[lane.by].name if viewer.setup and lane and lane.by is not None else "key"
+
+
 def _groups(viewer: Viewer, name: str, body: Groups) -> list[str]:
     setup = viewer.setup
     question = setup.question(name) if setup else None
@@ -166,16 +188,21 @@ def _groups(viewer: Viewer, name: str, body: Groups) -> list[str]:
         head = _bucket_head(viewer) if lane.key is None else setup.schema[lane.key].name
         measure = f" {setup.schema[lane.measure].name}" if lane.measure is not None else ""
     shown = body.groups[: viewer.most or None]
+    has_keys = any(it.by is not None for it in shown)
+    if has_keys and not lane:
+        head = "bucket"
     rows = []
     for it in shown:
         key = str(it.key)
         if setup and lane:
             is_timed = lane.key is None
             key = _bucket_cell(viewer, it.key) if is_timed else key_text(setup, lane, it.key, viewer.flows)
-        rows.append([key, *(grouped(number) for number in (it.count, it.sum, it.least, it.greatest))])
+        keys = [key, *[_by_cell(viewer, lane, it.by)] * has_keys]
+        rows.append([*keys, *(grouped(number) for number in (it.count, it.sum, it.least, it.greatest))])
     of = f" of{measure}" if measure else ""
-    heads = [head, viewer.things, f"sum{of}", f"least{measure}", f"greatest{measure}"]
-    lines = table(heads, rows, viewer.style, "lrrrr") if rows else []
+    heads = [head, *[_by_head(viewer, lane)] * has_keys]
+    heads += [viewer.things, f"sum{of}", f"least{measure}", f"greatest{measure}"]
+    lines = table(heads, rows, viewer.style, "l" * (1 + has_keys) + "rrrr") if rows else []
     if len(shown) < len(body.groups):
         lines.append(f"  and {grouped(len(body.groups) - len(shown))} more; --most 0 shows all")
     return lines
@@ -198,6 +225,13 @@ def bucket_lines(
     value = "value"
     if viewer.setup and question and question.trigger:
         value = part_text(viewer.setup, question.trigger.part, question.trigger.aggregate)
+    lane = question.trigger.aggregate if question and question.trigger else None
+    if any(it.by is not None for it in pairs):
+        head = [_bucket_head(viewer), _by_head(viewer, lane), value]
+        rows = [
+            [_bucket_cell(viewer, it.key), _by_cell(viewer, lane, it.by), grouped(it.value)] for it in pairs
+        ]
+        return table(head, rows, viewer.style, "llr")
     noted = bucket_marks(pairs, condition)
     rows = [[_bucket_cell(viewer, it.key), grouped(it.value), note] for it, note in zip(pairs, noted)]
     return table([_bucket_head(viewer), value, ""], rows, viewer.style, "lr") if rows else []
@@ -362,13 +396,23 @@ def alert_lines(viewer: Viewer, alerts: Sequence[Alert]) -> list[str]:
         return []
     setup = viewer.setup
     noted = _alert_marks(setup, alerts)
+    has_keys = any(it.by is not None for it in alerts)
     rows = []
     for it, note in zip(alerts, noted):
         trigger = setup.trigger(it.trigger) if setup else None
         condition = [condition_text(setup, trigger)] if setup and trigger else []
-        rows.append([it.trigger, _bucket_cell(viewer, it.bucket), grouped(it.value), *condition, note])
-    head = ["trigger", _bucket_head(viewer), "value", *(["fires at"] if setup else []), ""]
-    return ["", viewer.style.title("Alerts"), *table(head, rows, viewer.style, "llr")]
+        keys = [_by_cell(viewer, trigger.aggregate if trigger else None, it.by)] * has_keys
+        cells = [it.trigger, _bucket_cell(viewer, it.bucket), *keys, grouped(it.value)]
+        rows.append([*cells, *condition, note])
+    head = [
+        "trigger",
+        _bucket_head(viewer),
+        *["key"] * has_keys,
+        "value",
+        *(["fires at"] if setup else []),
+        "",
+    ]
+    return ["", viewer.style.title("Alerts"), *table(head, rows, viewer.style, "ll" + "l" * has_keys + "r")]
 
 
 def _alert_marks(setup: Setup | None, alerts: Sequence[Alert]) -> list[str]:
@@ -388,7 +432,10 @@ def _lives(viewer: Viewer, lives: Sequence[Live]) -> list[str]:
         lines.append(f"  {about}{count_text(viewer, it.body)}")
         lines += [f"  {line}" for line in body_lines(viewer, it.name, it.body)]
         if it.new is not None and it.new.marks:
-            lines.append(f"    of these new: {', '.join(_bucket_cell(viewer, m.key) for m in it.new.marks)}")
+            question = viewer.setup.question(it.name) if viewer.setup else None
+            lane = question.trigger.aggregate if question and question.trigger else None
+            cells = [(_bucket_cell(viewer, m.key), _by_cell(viewer, lane, m.by)) for m in it.new.marks]
+            lines.append(f"    of these new: {', '.join(' '.join(filter(None, cell)) for cell in cells)}")
     return lines
 
 
@@ -460,18 +507,37 @@ def bucket_text(setup: Setup | None, bucket: int) -> str:
     return f"{unit(setup.nanoseconds)} {utc(bucket * setup.nanoseconds)}"
 
 
+def alert_place(viewer: Viewer, it: RoundAlert) -> str:
+    """An alert's bucket, with the key beside it if there is one."""
+    where = bucket_text(viewer.setup, it.bucket)
+    if it.by is None:
+        return where
+    trigger = viewer.setup.trigger(it.trigger) if viewer.setup else None
+    lane = trigger.aggregate if trigger else None
+    return f"{where}, {_by_head(viewer, lane)} {_by_cell(viewer, lane, it.by)}"
+
+
+def _crowded_line(viewer: Viewer, it: RoundCrowded, after: str) -> str:
+    lane = viewer.setup.lane(it.name, "aggregate") if viewer.setup else None
+    head, where = _by_head(viewer, lane), bucket_text(viewer.setup, it.bucket)
+    what = f"more than {grouped(MOST_PAIRS)} different {head}: {viewer.things} of others count only for its totals"
+    return f"crowded {viewer.style.title(it.name)}  {where} has {what}, {after}"
+
+
 def told_lines(viewer: Viewer, it: Told) -> list[str]:
     """A line of a round of `watch`, and below a live one its table."""
     after = f"after {grouped(it.prefix)} {viewer.things}"
     if isinstance(it, RoundAlert):
         setup = viewer.setup
         trigger = setup.trigger(it.trigger) if setup else None
-        where = bucket_text(setup, it.bucket)
+        where = alert_place(viewer, it)
         value = grouped(it.value)
         fires = f" (fires at {condition_text(setup, trigger)})" if setup and trigger else ""
         return [
             f"{viewer.style.high('alert')} {viewer.style.title(it.trigger)}  {where}: {value}{fires}, {after}"
         ]
+    if isinstance(it, RoundCrowded):
+        return [_crowded_line(viewer, it, after)]
     if isinstance(it, RoundBeat):
         return [f"beat  {after}, the last of {utc(it.seconds * SECOND)}"]
     if isinstance(it, RoundTotal):

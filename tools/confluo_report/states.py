@@ -4,14 +4,15 @@ from __future__ import annotations
 
 import time
 from dataclasses import dataclass
-from typing import Callable, Sequence
+from typing import Callable, Optional, Sequence
 
 from .incoming import Ending
 from .outputs import Held, Output, Several, Silent, report_trouble, sooner
-from .reports import RoundAlert, Told
+from .reports import Place, RoundAlert, Told
 
-# `watch` keeps 4,096 buckets of an aggregate. Of so many more it is seen here whether they were forgotten.
-MOST_TOLD = 2 * 4096
+# `watch` keeps 4,096 buckets of an aggregate, or 8 with at most 65,536 keys together. Of so many more places it is seen here whether
+# they were forgotten.
+MOST_TOLD, MOST_TOLD_BY_KEYS = 2 * 4096, 2 * 65536
 
 
 @dataclass
@@ -25,7 +26,7 @@ class State:
 
 
 class Again(Several):
-    """Hands a trigger's alert on, and holds back further ones for so many seconds after it.
+    """Hands a trigger's alert on, and holds back further ones for so many seconds after it; where it has keys, those of the same key.
 
     What was held back is told with the trigger's next alert behind these seconds, or once no alert has come for so long.
     """
@@ -35,20 +36,23 @@ class Again(Several):
     ) -> None:
         super().__init__(outputs)
         self.seconds, self.now = seconds, now
-        self.states = dict[str, State]()
+        # By trigger and key, the one whose last alert came first in front: there may be one for each source of a flood.
+        self.states = dict[tuple[str, Optional[int]], State]()
 
     def told(self, it: Told) -> None:
         if not isinstance(it, RoundAlert) or not self._is_held(it):
             super().told(it)
 
     def _is_held(self, alert: RoundAlert) -> bool:
-        now, state = self.now(), self.states.get(alert.trigger)
+        key = alert.trigger, alert.by
+        now, state = self.now(), self.states.pop(key, None)
         if state and now - state.told < self.seconds:
             state.count, state.last, state.came = state.count + 1, alert, now
+            self.states[key] = state
             return True
         if state and state.count:
             self._tell(state, False)
-        self.states[alert.trigger] = State(now, now, alert)
+        self.states[key] = State(now, now, alert)
         return False
 
     def _tell(self, state: State, is_over: bool) -> None:
@@ -56,15 +60,17 @@ class Again(Several):
 
     def pause(self) -> None:
         now = self.now()
-        for name, state in list(self.states.items()):
-            if now - state.came >= self.seconds:
-                self._tell(state, True)
-                del self.states[name]
+        while self.states:
+            key, state = next(iter(self.states.items()))
+            if now - state.came < self.seconds:
+                break
+            self._tell(state, True)
+            del self.states[key]
         super().pause()
 
     def rest(self) -> float | None:
-        now = self.now()
-        return sooner(super().rest(), *(it.came + self.seconds - now for it in self.states.values()))
+        first = next(iter(self.states.values()), None)
+        return sooner(super().rest(), first.came + self.seconds - self.now() if first else None)
 
     def end(self, ending: Ending) -> None:
         self._tell_all()
@@ -117,20 +123,21 @@ class Forgotten(Output):
     """Warns, once for each trigger, if a bucket is told again: it did not fit what `watch` keeps."""
 
     def __init__(self) -> None:
-        self.seen, self.warned = dict[str, dict[int, None]](), set[str]()
+        self.seen, self.warned = dict[str, dict[Place, None]](), set[str]()
 
     def told(self, it: Told) -> None:
         if not isinstance(it, RoundAlert):
             return
-        buckets = self.seen.setdefault(it.trigger, {})
-        if it.bucket in buckets and it.trigger not in self.warned:
+        places = self.seen.setdefault(it.trigger, {})
+        if it.place in places and it.trigger not in self.warned:
             self.warned.add(it.trigger)
+            others = "4,096 others" if it.by is None else "8 others, or of 65,536 keys,"
             report_trouble(
                 f"trigger `{it.trigger}` fires again in bucket {it.bucket}: `watch` had forgotten this bucket, as packets "
-                "of 4,096 others came. Its value counts only what came since: state a greater `width`, or see whether the "
+                f"of {others} came. Its value counts only what came since: state a greater `width`, or see whether the "
                 "clock of the capture is right"
             )
-        buckets.pop(it.bucket, None)
-        buckets[it.bucket] = None
-        if len(buckets) > MOST_TOLD:
-            del buckets[next(iter(buckets))]
+        places.pop(it.place, None)
+        places[it.place] = None
+        if len(places) > (MOST_TOLD if it.by is None else MOST_TOLD_BY_KEYS):
+            del places[next(iter(places))]

@@ -15,7 +15,7 @@ from .errors import Complaint
 from .incoming import Ending
 from .metrics import EXACT, Families, add_beat, add_body, keys_of, write_at_once
 from .outputs import Output, Silent, report_trouble
-from .reports import Groups, Quad, RoundAlert, RoundBeat, RoundLive, RoundTotal, Told, Top
+from .reports import Groups, Quad, RoundAlert, RoundBeat, RoundCrowded, RoundLive, RoundTotal, Told, Top
 from .setups import SECOND, Setup
 from .tcpdump import Counts
 
@@ -31,6 +31,7 @@ class Seen:
     first: int = 0
     alerts: Counter[str] = field(default_factory=Counter)
     last: dict[str, RoundAlert] = field(default_factory=dict)
+    crowded: Counter[str] = field(default_factory=Counter)
     lives: dict[str, RoundLive] = field(default_factory=dict)
     beat: RoundBeat | None = None
     totals: dict[str, RoundTotal] = field(default_factory=dict)
@@ -56,6 +57,8 @@ class Textfile(Output):
         # How many bytes of the stream wait to be read, if it is known.
         self.unread: Callable[[], int] | None = None
         self.seen.alerts.update(dict.fromkeys((it.name for it in setup.triggers) if setup else (), 0))
+        by_keys = [it.name for it in setup.lanes if it.by is not None] if setup else []
+        self.seen.crowded.update(dict.fromkeys(by_keys, 0))
         self.is_new, self.written, self.is_failing = True, now() - LEAST, False
 
     def told(self, it: Told) -> None:
@@ -64,6 +67,8 @@ class Textfile(Output):
         if isinstance(it, RoundAlert):
             seen.alerts[it.trigger] += 1
             seen.last[it.trigger] = it
+        elif isinstance(it, RoundCrowded):
+            seen.crowded[it.name] += 1
         elif isinstance(it, RoundBeat):
             seen.beat = it
         elif isinstance(it, RoundTotal):
@@ -131,6 +136,8 @@ class Textfile(Output):
     def _add_alerts(self, families: Families) -> None:
         for name, count in sorted(self.seen.alerts.items()):
             families.add("confluo_stream_alerts_total", count, trigger=name)
+        for name, count in sorted(self.seen.crowded.items()):
+            families.add("confluo_stream_crowded_total", count, aggregate=name)
         for name, it in sorted(self.seen.last.items()):
             values = {"alert_bucket_number": it.bucket, "alert_value": it.value}
             if self.setup:

@@ -4,6 +4,7 @@ from __future__ import annotations
 
 import datetime
 import ipaddress
+from dataclasses import replace
 from typing import Mapping
 
 from .expressions import Attribute
@@ -132,6 +133,11 @@ def key_text(setup: Setup, lane: Lane, value: int, flows: Mapping[int, str] | No
         return value_text(setup, attribute, value)
     high, low = (other, value) if attribute.name.endswith("_low") else (value, other)
     return address_text((high << 64) + low)
+
+
+def by_text(setup: Setup, lane: Lane, value: int, flows: Mapping[int, str] | None = None) -> str:
+    """The key beside a bucket of an aggregate by keys, as the same key of a tally."""
+    return key_text(setup, replace(lane, key=lane.by), value, flows)
 
 
 def _other_half(setup: Setup, lane: Lane, name: str) -> int | None:

@@ -12,6 +12,7 @@ LANES = (
     PACKET
     + "index i src\nfilter f *\naggregate a f len\ntally y src len *\ntrigger t a sum > 5\nask q list *\n"
 )
+BY_KEYS = PACKET + "filter f *\naggregate a f len by src\n"
 SETUPS = (
     (PACKET + "ask a list\tlen>5\n", 2, 1, 10),
     (PACKET + "foo x\n", 2, 2, 0),
@@ -57,6 +58,11 @@ SETUPS = (
     (PACKET + "ask q list nope==1\n", 2, 11, 11),
     (PACKET + "ask q list len==5 && nope==1\n", 2, 11, 21),
     (PACKET + "ask q list dmac<0x020000000001\n", 2, 12, 15),
+    (BY_KEYS + "aggregate b f len of src\n", 4, 3, 18),
+    (BY_KEYS + "aggregate b f len by\n", 4, 3, 20),
+    (BY_KEYS + "aggregate b f len by nosuch\n", 4, 6, 21),
+    (BY_KEYS + "aggregate b f len by dmac\n", 4, 8, 21),
+    (BY_KEYS + "ask m measure a 0 9\n", 4, 6, 14),
     (PACKET + "ask q list len=5\n", 2, 12, 14),
     (PACKET + "ask q list len not 5\n", 2, 10, 19),
     (PACKET + "ask q list len not == 5\n", 2, 12, 19),

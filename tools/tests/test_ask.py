@@ -96,12 +96,11 @@ BAD = (
     ("top src by bytes at once", "Cannot read"),
     ("top 0 src by bytes", "from 1 to 1000"),
     ("list", "Cannot read `list`. Expected:"),
-    ("top src, dst by bytes", "One attribute is ranked, not two together."),
-    ("share src, dst", "One attribute is ranked"),
+    ("share src, dst", "It ranks one attribute, not two together."),
     ("share src by least ttl", "not of what is least"),
     ("per fortnight len", "not a unit of time"),
     ("between yesterday and 1700000001", "not a time"),
-    ("which src", "Questions begin with top, share, flows"),
+    ("which src", "Questions begin with top, share, flows, scans"),
     ("over 18446744073709551616 in a second", "above 2^64"),
 )
 

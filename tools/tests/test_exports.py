@@ -34,13 +34,18 @@ def quad_text(kind: str, it: dict) -> str:
     return f"{kind} count {it['count']} sum {it['sum']} least {ends[0]} greatest {ends[1]}"
 
 
+def place_text(it: dict) -> str:
+    """A bucket or a key, or both."""
+    return "/".join(str(it[name]) for name in ("bucket", "key") if name in it)
+
+
 def text_of_object(it: dict) -> str:
     """An answer's text from its JSON object."""
     if "count" in it:
         return quad_text(it["kind"], it)
     if "groups" in it:
         parts = ("count", "sum", "least", "greatest")
-        words = [f"{one['key']}=" + "/".join(str(one[part]) for part in parts) for one in it["groups"]]
+        words = [f"{place_text(one)}=" + "/".join(str(one[part]) for part in parts) for one in it["groups"]]
         return body_text("groups", len(words), words)
     if "records" in it:
         return body_text(it["kind"], len(it["records"]), list(map(str, it["records"])))
@@ -50,7 +55,7 @@ def text_of_object(it: dict) -> str:
 
 
 def marks_text(marks: list[dict]) -> str:
-    return body_text("fired", len(marks), [f"{one['bucket']}={one['value']}" for one in marks])
+    return body_text("fired", len(marks), [f"{place_text(one)}={one['value']}" for one in marks])
 
 
 def from_json(read: dict) -> str:
@@ -65,7 +70,7 @@ def from_json(read: dict) -> str:
         return "\n".join(lines) + "\n"
     lines.append(f"records {read['records']}")
     lines += [f"ask {it['name']} {text_of_object(it)}" for it in read["asks"]]
-    lines += [f"alert {it['trigger']} {it['bucket']} {it['value']}" for it in read["alerts"]]
+    lines += [f"alert {it['trigger']} {place_text(it)} {it['value']}" for it in read["alerts"]]
     for it in read["lives"]:
         lines.append(f"live {it['name']} @{it['prefix']} {text_of_object(it)}")
         if "new" in it:

@@ -15,6 +15,7 @@ import sys
 import tempfile
 import time
 import unittest
+from typing import Any
 from unittest import mock
 
 from cases import CAPTURES
@@ -25,6 +26,7 @@ from confluo_report.over_dask import words_of
 from confluo_report.over_find import find, natural
 from confluo_report.over_part import PACKERS, Running, Work, answer
 from confluo_report.over_setup import Sum, plan_of, report_of, sum_of
+from confluo_report.over_split import guesses_of
 from confluo_report.program import program
 from confluo_report.progress import Parts
 from confluo_report.reports import Pair, Top, lines_of
@@ -134,7 +136,7 @@ class Sums(unittest.TestCase):
         for order in ((0, 1), (1, 0)):
             total = Sum()
             for at in order:
-                total.add(sum_of(plan, at, REPORTS[at], "part"), plan)
+                total.add(sum_of(plan, (at, 0), REPORTS[at], "part"), plan)
             self.assertEqual("\n".join(lines_of(report_of(plan, total))) + "\n", BOTH)
 
     def test_parts_with_many_keys_are_added_up(self) -> None:
@@ -143,11 +145,86 @@ class Sums(unittest.TestCase):
         many = REPORTS[1].replace(
             "groups 2: 167772161=1/54/54/54 167772164=1/100/100/100", f"groups 3000: {keys}"
         )
-        total = sum_of(plan, 0, many, "part")
-        total.add(sum_of(plan, 1, many.replace("2999=1/60/60/60", "2999=1/61/61/61"), "part"), plan)
+        total = sum_of(plan, (0, 0), many, "part")
+        total.add(sum_of(plan, (0, 1), many.replace("2999=1/60/60/60", "2999=1/61/61/61"), "part"), plan)
         self.assertEqual(len(total.groups["h"]), 3000)
         found = {it.name: it.body for it in report_of(plan, total).asks}["h"]
         self.assertEqual(found, Top((Pair(2999, 121), Pair(0, 120))))
+
+
+def cut_small(least: int = 200, reach: int = 100) -> Any:
+    """Pieces of few bytes, and few that must look like packets around a cut."""
+    return mock.patch.multiple("confluo_report.over_split", LEAST=least, BEFORE=reach, BEHIND=reach)
+
+
+def cut_wrong(least: int = 200) -> Any:
+    """Pieces of so many bytes, wherever that cuts them."""
+    return mock.patch.multiple(
+        "confluo_report.over_split", LEAST=least, _begin_near=lambda file, head, size, at: at
+    )
+
+
+def begins(data: bytes) -> list[int]:
+    """Where the records of a little-endian capture begin, and its end."""
+    found = [24]
+    while found[-1] < len(data):
+        found.append(found[-1] + 16 + struct.unpack_from("<I", data, found[-1] + 8)[0])
+    return found
+
+
+class Cuts(unittest.TestCase):
+    """Where a classic capture is cut, without the program that says whether that is right."""
+
+    def setUp(self) -> None:
+        place = tempfile.NamedTemporaryFile()
+        self.addCleanup(place.close)
+        self.path = place.name
+
+    def cuts(self, data: bytes, jobs: int = 1) -> list[int]:
+        """The ends of the pieces, which follow one another, with the capture's header before each."""
+        pathlib.Path(self.path).write_bytes(data)
+        its = list(guesses_of(self.path, 0, jobs) or ())
+        if len(its) > 1:
+            self.assertEqual([it.piece[3] for it in its], [data[:24]] * len(its))
+            self.assertEqual([it.piece[1] for it in its], [24, *(it.piece[2] for it in its[:-1])])
+        self.assertEqual([it.is_guess for it in its], [True] * (len(its) - 1) + [False])
+        return [it.piece[2] or len(data) for it in its]
+
+    def test_cuts_are_between_records(self) -> None:
+        draw, most = random.Random(1), 0
+        for _ in range(50):
+            data = pcap(drawn_frames(draw, draw.randrange(60)))
+            with cut_small(300):
+                cuts = self.cuts(data, draw.randrange(1, 9))
+            self.assertLessEqual(set(cuts), set(begins(data)))
+            self.assertEqual(cuts[-1], len(data))
+            most = max(most, len(cuts))
+        self.assertGreater(most, 5)
+
+    def test_pieces_become_smaller(self) -> None:
+        data = pcap([(1, frame())] * 1000)
+        with cut_small(1000):
+            ends = self.cuts(data, 2)
+        sizes = [high - low for low, high in zip([24, *ends], ends)]
+        self.assertGreater(sizes[0], len(data) // 5)
+        self.assertEqual(sorted(sizes[:-1], reverse=True), sizes[:-1])
+        self.assertLess(sizes[-2], 1200)
+
+    def test_a_capture_in_packets_is_not_cut(self) -> None:
+        inner = pcap([(1, frame())] * 9)[24:]
+        data = pcap([(1, frame(1) + inner), (1, frame(1))] * 40)
+        with cut_small(900, len(inner)):
+            cuts = self.cuts(data)
+        self.assertLessEqual(set(cuts), set(begins(data)))
+        self.assertGreater(len(cuts), 4)
+
+    def test_what_is_not_cut(self) -> None:
+        data = pcap([(1, frame())] * 40)
+        zeros = data[:24] + bytes(2000)
+        for its, reach in ((data, 2000), (zeros, 10), (data[:23], 10), (b"hello, world" * 99, 10), (b"", 10)):
+            with cut_small(300, reach):
+                self.assertEqual(self.cuts(its), [len(its)])
+        self.assertIsNone(guesses_of(str(EXAMPLES / "formats/sections.pcapng"), 0, 1))
 
 
 class KilledWorker(Exception):
@@ -243,6 +320,7 @@ def drawn_setup(draw: random.Random) -> str:
     lines += [
         f"aggregate a{it} f{draw.randrange(2)} {draw.choice(('len', 'caplen', 'ttl'))}" for it in range(2)
     ]
+    lines.append(f"aggregate a2 f{draw.randrange(2)} len by {draw.choice(('src', 'dport', 'ts'))}")
     lines += [
         f"tally t{it} {draw.choice(('src', 'dport', 'ts'))} len {draw.choice(EXPRESSIONS)}" for it in range(2)
     ]
@@ -251,12 +329,13 @@ def drawn_setup(draw: random.Random) -> str:
         part = draw.choice(tuple(NUMBERS))
         limit = draw.randrange(NUMBERS[part] * 2)
         sign = draw.choice(("==", "!=", "<", "<=", ">", ">="))
-        lines.append(f"trigger g{it} a{draw.randrange(2)} {part} {sign} {limit}")
+        lines.append(f"trigger g{it} a{draw.randrange(3)} {part} {sign} {limit}")
     low, high = draw.randrange(8), draw.randrange(12)
     asks = [f"list {it}" for it in draw.sample(EXPRESSIONS, 3)]
     asks += [f"find i {low} {top}", f"between f0 {low} {high}", f"measure a0 {low} {high}"]
     asks += [f"fired g{draw.randrange(triggers)}", f"total len {draw.choice(EXPRESSIONS)}"]
     asks += [f"top t{at} {part} {draw.randrange(1, 9)}" for at in range(2) for part in NUMBERS]
+    asks += ["groups a0", "groups a2", "groups t1"]
     draw.shuffle(asks)
     return "\n".join([*lines, *(f"ask q{at} {it}" for at, it in enumerate(asks))]) + "\n"
 
@@ -321,13 +400,17 @@ class Runs(Case):
             self.assertEqual(drawn.numbered(read), found_by(ended.out), seed)
 
     def test_drawn_captures_are_split(self) -> None:
-        for seed in range(30, 36):
+        for seed in range(30, 39):
             drawn = Drawn(self.folder, seed)
             words = ("over", "--split", "--setup", drawn.setup, "--jobs", "2", "--format", "report")
-            with mock.patch("confluo_report.over.EACH", 5):
-                for captures in (drawn.captures, [drawn.whole]):
-                    ended = tool(*words, *captures)
-                    self.assertEqual((ended.status, ended.out, ended.err), (0, drawn.expected(), ""), seed)
+            # (where all cuts are wrong, captures are walked)
+            for cut in (cut_small(), cut_wrong()):
+                with mock.patch("confluo_report.over.EACH", 5), cut:
+                    for captures in (drawn.captures, [drawn.whole]):
+                        ended = tool(*words, *captures)
+                        self.assertEqual(
+                            (ended.status, ended.out, ended.err), (0, drawn.expected(), ""), seed
+                        )
 
     def test_pieces_of_a_file_of_blocks_are_the_whole(self) -> None:
         draw, path = random.Random(1), self.folder / "blocks.pcapng"
@@ -360,8 +443,29 @@ class Runs(Case):
             for words in ((path,), ("--truncated", path), ("--keep-going", path, good)):
                 words = ("--format", "report", "--jobs", "2", *words)
                 whole = self.over(*words)
-                with mock.patch("confluo_report.over.EACH", 1):
-                    self.assertEqual(self.over("--split", *words), whole, (code, record))
+                for cut in (cut_small(70, 30), cut_wrong(70)):
+                    with mock.patch("confluo_report.over.EACH", 1), cut:
+                        self.assertEqual(self.over("--split", *words), whole, (code, record))
+
+    def test_a_fault_far_in_a_capture_is_that_of_the_whole(self) -> None:
+        frames, path, others = [(1, frame())] * 60, self.folder / "faulty.pcap", self.folder / "other.pcap"
+        good = pcap(frames)
+        others.write_bytes(good)
+        at = begins(good)[40]
+        long = good[: at + 8] + struct.pack("<I", 2**18 + 1) + good[at + 12 :]
+        for data in (good, long, good[:-7], good[:-60], long[:-7]):
+            path.write_bytes(data)
+            for words in (
+                (path,),
+                (others, path, others),
+                ("--truncated", path),
+                ("--keep-going", path, others),
+            ):
+                words = ("--format", "report", "--jobs", "2", *words)
+                whole = self.over(*words)
+                for cut in (cut_small(), cut_wrong(500)):
+                    with mock.patch("confluo_report.over.EACH", 7), cut:
+                        self.assertEqual(self.over("--split", *words), whole, (len(data), words))
 
     def test_a_piece_that_is_not_there_any_more_is_no_answer(self) -> None:
         path, data = self.folder / "s.setup", pcap([(1, frame())] * 3)
@@ -619,7 +723,8 @@ class Clusters(Case):
         """The tool with the scheduler, as it is run, or with pieces of so many packets."""
         front: list[object] = [TOOLS / "confluo-report"]
         if each:
-            code = f"sys.path.insert(0, {str(TOOLS)!r}); from confluo_report import cli, over; over.EACH = {each}"
+            small = f"over.EACH = {each}; over_split.LEAST = 200; over_split.BEFORE = over_split.BEHIND = 100"
+            code = f"sys.path.insert(0, {str(TOOLS)!r}); from confluo_report import cli, over, over_split; {small}"
             front = ["-c", f"import sys; {code}; sys.exit(cli.main())"]
         front = [self.python, "-B", *front, "over", "--scheduler", self.address]
         return subprocess.Popen([*front, *words], stdout=subprocess.PIPE, stderr=subprocess.PIPE, text=True)
@@ -676,6 +781,10 @@ class Clusters(Case):
             process.send_signal(signal.SIGINT)
             self.assertIn("interrupted", process.communicate(timeout=20)[1])
         self.assertEqual(process.returncode, 130)
+        # (they were killed, and the worker may not have waited for them yet)
+        late = time.monotonic() + 10
+        while any(map(is_alive, ids)) and time.monotonic() < late:
+            time.sleep(0.05)
         self.assertEqual([it for it in ids if is_alive(it)], [])
 
     def test_a_scheduler_that_is_not_there_is_named(self) -> None:
@@ -722,7 +831,9 @@ class Frames(Case):
             self.skipTest("pandas is missing: apt-get install python3-pandas")
         subprocess.run([TOOLS / "deb" / "stand_in.sh", self.folder], check=True)
         setup, good, bad = (self.folder / it for it in ("s.setup", "good.pcap", "bad.pcap"))
-        setup.write_text(SETUP.replace("dport==81", "len>9").replace("few a count < 2", "few a count == 2"))
+        text = SETUP.replace("dport==81", "len>9").replace("few a count < 2", "few a count == 2")
+        text += "aggregate b f len by src\ntrigger each b count >= 2\nask e fired each\nask k groups b\n"
+        setup.write_text(text)
         good.write_bytes(pcap([(1, frame(1)), (2, frame(2))]))
         bad.write_bytes(b"hello, world")
         named = {"CONFLUO_LIBRARY": str(self.folder / "libconfluo.so.0"), "CONFLUO": program()}
@@ -736,6 +847,10 @@ class Frames(Case):
         self.assertEqual((ran.returncode, ran.stderr), (0, ""))
         told, records, others, time_of_first, addresses, why = json.loads(ran.stdout)
         one, two = str(good), str(bad)
+        by_key = [
+            [0, 167772161, "10.0.0.1", 2, 108, 54, 54],
+            [1, 167772162, "10.0.0.2", 2, 108, 54, 54],
+        ]
         self.assertEqual(
             told,
             {
@@ -753,12 +868,18 @@ class Frames(Case):
                     ],
                 ],
                 "o": [["count", "sum", "least", "greatest"], [[4, 216, 54, 54]]],
+                "e": [["bucket", "time", "key", "text", "value"], [it[:4] for it in by_key]],
+                "k": [
+                    ["bucket", "time", "key", "text", "count", "sum", "least", "greatest"],
+                    by_key,
+                ],
             },
         )
         self.assertEqual((records, time_of_first), (4, "1970-01-01 00:00:00+00:00"))
         captures, alerts, left_out, alone, counted = others
         self.assertEqual(captures, [[one, 2, None]] * 2)
-        self.assertEqual(alerts, [["few", 0, 2], ["few", 1, 2]])
+        few = [["few", 0, None, None, 2], ["few", 1, None, None, 2]]
+        self.assertEqual(alerts, [*few, *(["each", *it[:4]] for it in by_key)])
         self.assertEqual([left_out[0][0], left_out[0][2]], [two, 3])
         self.assertEqual((alone, counted), ([[one, 0], [one, 1]], [[one, 2, None]]))
         self.assertEqual(addresses, ["a", "b", "c"])

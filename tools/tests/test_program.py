@@ -517,7 +517,7 @@ class Program(Cases):
         self.check(RUN, 0, text, s=setup, c=rows)
 
     def test_aggregates_by_a_key_of_many_packets(self) -> None:
-        setup = b"schema packet\nfilter f len>=200\naggregate a f len by src\ntrigger t a sum > 45000\nask g groups a\n"
+        setup = b"schema packet\nfilter f len>=200\naggregate a f len by src\ntrigger t a sum > 43000\nask g groups a\n"
         groups: dict[tuple[int, int], list[int]] = {}
         for second, source, length in drawn(7, 9000):
             if length >= 200:
@@ -527,9 +527,9 @@ class Program(Cases):
             f" {second}/{source}={len(it)}/{sum(it)}/{min(it)}/{max(it)}" for (second, source), it in parts
         )
         alerts = "".join(
-            f"alert t {second}/{source} {sum(it)}\n" for (second, source), it in parts if sum(it) > 45_000
+            f"alert t {second}/{source} {sum(it)}\n" for (second, source), it in parts if sum(it) > 43_000
         )
-        self.assertGreater(alerts.count("\n"), 10)
+        self.assertGreater(alerts.count("\n"), 5)
         text = f"records 9000\nask g groups {len(parts)}:{shown}\n{alerts}"
         for words in (("--writers", "1"), ("--writers", "15"), ("--capacity", "4096", "--segments", "3")):
             self.check(("synth", "--setup", "s", "--seed", "7", "--count", "9000", *words), 0, text, s=setup)

@@ -26,7 +26,8 @@ QUAD = ("count", "sum", "least", "greatest")
 class Over(Dict[str, "pandas.DataFrame"]):
     """A DataFrame by the name of each question, in the order of the setup. list, find and between: `capture`, `record`;
     measure and total: `count`, `sum`, `least`, `greatest`; fired: `bucket`, `time`, `value`; top: `key`, `text`, `value`;
-    groups: `key`, `text` (of an aggregate the time of the bucket), `count`, `sum`, `least`, `greatest`.
+    groups: `key`, `text` (of an aggregate the time of the bucket), `count`, `sum`, `least`, `greatest`. Of an aggregate by keys,
+    fired and groups have `bucket`, `time`, `key` and `text` before the numbers; so has `alerts` if one is of such an aggregate.
 
     `records` is how many there are in all. `captures` has a row for each one, `alerts` for each alert, and `left_out` for
     each capture that could not be answered.
@@ -53,11 +54,21 @@ def _of(
 
 
 def _timed(held: Any, rows: Sequence[Dict[str, Any]], texts: Sequence[str]) -> pandas.DataFrame:
-    found = _of(held, rows, texts, ["bucket", "value"])
-    times = held.to_datetime(
-        held.Series([it["time"] for it in rows], dtype="object"), utc=True, errors="coerce"
-    )
-    found.insert(len(texts) + 1, "time", times)
+    return _with_times(held, rows, texts, ["value"])
+
+
+def _with_times(
+    held: Any, rows: Sequence[Dict[str, Any]], texts: Sequence[str], numbers: Sequence[str]
+) -> pandas.DataFrame:
+    """Buckets with their times, and the keys beside them if there are such."""
+    found = _of(held, rows, texts, ["bucket"])
+    times = held.Series([it["time"] for it in rows], dtype="object")
+    found["time"] = held.to_datetime(times, utc=True, errors="coerce")
+    if any("key" in it for it in rows):
+        found["key"] = held.Series([it.get("key") for it in rows], dtype="UInt64")
+        found["text"] = held.Series([it.get("text") for it in rows], dtype="object")
+    for name in numbers:
+        found[name] = held.Series([it[name] for it in rows], dtype="UInt64")
     return found
 
 
@@ -71,6 +82,8 @@ def _frame(held: Any, ask: Dict[str, Any]) -> pandas.DataFrame:
         return _timed(held, ask["marks"], [])
     if "keys" in ask:
         return _of(held, ask["keys"], ["text"], ["key", "value"])[["key", "text", "value"]]
+    if "groups" in ask and any("bucket" in it for it in ask["groups"]):
+        return _with_times(held, ask["groups"], [], QUAD)
     if "groups" in ask:
         rows = [{"text": it.get("time"), **it} for it in ask["groups"]]
         return _of(held, rows, ["text"], ["key", *QUAD])[["key", "text", *QUAD]]

@@ -517,6 +517,50 @@ fn a_report_has_one_tail(rt: HostRuntime) {
     confluo_free_reader(alloc, &mut reader);
 }
 
+const KEYED: &[u8] =
+    b"schema records ts:u64,key:u16,len:u32\nwidth 10\nfilter f *\naggregate a f len by key\ntrigger two a count >= 2\ntrigger ten a count >= 10\nask a2 fired two\nask a10 fired ten\nask parts groups a\n";
+
+#[test]
+fn marks_and_groups_have_two_keys(rt: HostRuntime) {
+    let alloc = rt.alloc();
+    let mut writer = WriterHandle::none(alloc);
+    let mut reader = ReaderHandle::none(alloc);
+    let (mut offset, mut tail) = (9, 9);
+    let mut head = Head {
+        tail: 9,
+        kind: 9,
+        count: 9,
+    };
+    opened(&rt, alloc, KEYED, &mut writer, &mut reader);
+    for (key, len) in [(7, 10), (8, 25), (7, 20)] {
+        assert_eq!(rt;
+            confluo_append_values(alloc, &mut writer, 5, &[25, key, len], &mut offset),
+            0
+        );
+    }
+    assert_eq!(rt; confluo_tail(alloc, &mut reader, &mut tail), 0);
+    for lane in 0..3 {
+        assert_eq!(rt; confluo_groups(alloc, &mut reader, lane, &mut head), 11);
+    }
+    let cases = [
+        (0, 5, 3, [2, 7, 2, 9, 9, 9, 9, 9, 9, 9, 9, 9]),
+        (1, 5, 0, [9; 12]),
+        (2, 6, 12, [2, 7, 2, 30, 10, 20, 2, 8, 1, 25, 25, 25]),
+    ];
+    for (question, kind, count, told) in cases {
+        let mut words = [9u64; 12];
+        assert_eq!(rt; confluo_ask(alloc, &mut reader, question, &mut head), 0);
+        assert_eq!(rt; (head.tail, head.kind, head.count), (3, kind, count));
+        assert_eq!(rt;
+            confluo_words(alloc, &mut reader, 0, &mut words) as u64,
+            count
+        );
+        assert_eq!(rt; words, told);
+    }
+    confluo_free_writer(alloc, &mut writer);
+    confluo_free_reader(alloc, &mut reader);
+}
+
 #[test]
 fn a_setup_names_its_parts(rt: HostRuntime) {
     let alloc = rt.alloc();

@@ -6,7 +6,7 @@ use Rattle.cf_packet6.specs.Schema6.{attrs_by}
 use Rattle.cf_setup.specs.declared.source.Source.TheVariants.{Packets, Records}
 use Rattle.cf_setup.specs.Drafts.{DraftValue, nothing_stated}
 use Rattle.cf_setup.specs.Forms.{StatementFormValue}
-use Rattle.cf_setup.specs.Forms.StatementFormValue.{packet_schema, record_schema, bucket_width, new_index, new_filter, new_aggregate, new_tally, new_trigger, ask_list, ask_find, ask_buckets, ask_fired, ask_top, ask_groups, ask_total, ask_live}
+use Rattle.cf_setup.specs.Forms.StatementFormValue.{packet_schema, record_schema, bucket_width, new_index, new_filter, new_aggregate, new_keyed_aggregate, new_tally, new_trigger, ask_list, ask_find, ask_buckets, ask_fired, ask_top, ask_groups, ask_total, ask_live}
 use Rattle.cf_setup.specs.Adds.{Adds}
 use Rattle.cf_setup.specs.Setups.{SetupValue, settled}
 use Rattle.cf_setup.specs.SetupText.{SetupText, LineSaid, AllSaid}
@@ -32,6 +32,7 @@ adds_keep line before new (bucket_width number) adds kept = subst KeepsPackets (
 adds_keep line before new (new_index name attr) adds kept = subst KeepsPackets (sym adds.2) kept
 adds_keep line before new (new_filter name expr) adds kept = subst KeepsPackets (sym adds.2) kept
 adds_keep line before new (new_aggregate name filter attr) adds kept = subst KeepsPackets (sym adds.4) kept
+adds_keep line before new (new_keyed_aggregate name filter attr key) adds kept = subst KeepsPackets (sym adds.6) kept
 adds_keep line before new (new_tally name attr measure expr) adds kept = subst KeepsPackets (sym adds.6) kept
 adds_keep line before new (new_trigger name aggregate part op number) adds kept = subst KeepsPackets (sym adds.4) kept
 adds_keep line before new (ask_list name expr) adds kept = subst KeepsPackets (sym adds.2) kept

@@ -4,14 +4,14 @@ use Rattle.std.specs.List.{flat_map}
 use Rattle.cf_setup.specs.Setups.{SetupValue}
 use Rattle.cf_window.specs.Held.{WindowValue, count_of}
 use Rattle.cf_window.specs.Windows.{rows_in_all}
-use Rattle.cf_watch.specs.Kept.{KeptValue}
+use Rattle.cf_watch.specs.declared.watched.Watched.{Watched}
 use Rattle.cf_rounds.specs.Held.{HasAsked, HasBeaten, RoundsValue, standing_in, view_in}
-use Rattle.cf_rounds.specs.Lines.{RoundView, beat_text, end_text, fresh_lines, is_beat, is_due, live_line}
+use Rattle.cf_rounds.specs.Lines.{RoundView, beat_text, end_text, is_beat, is_due, live_line, news_lines}
 use Rattle.cf_rounds.specs.Streams.{Standing, after_round, round_text, told, view_of}
 use Rattle.cf_rounds.proofs.Moving.{of_parts}
 
 -- what a round sees of the window is what it sees of where the stream stands
-pub view_same : (window : WindowValue) (kept : List KeptValue) (asked beaten last : ℕ) → view_of (standing_in window kept asked beaten last) ≡ view_in window kept last
+pub view_same : (window : WindowValue) (kept : List Watched) (asked beaten last : ℕ) → view_of (standing_in window kept asked beaten last) ≡ view_in window kept last
 view_same window kept asked beaten last =
     let from : count_of window - length (rows_in_all window.segments) ≡ window.from = omega arith in
     ap (λ (n : ℕ). record { from = n; to = count_of window; rows = rows_in_all window.segments; kept = kept; last = last }) from
@@ -69,11 +69,11 @@ beaten_text is_last old =
 
 -- the three steps of a round
 pub round_made : (is_last : Bool) (old mid one two : RoundsValue) (t₀ t₁ t₂ t₃ : List ℕ) → mid ≡ tell_in old
-    → t₁ ≡ t₀ ++ fresh_lines (old.terms).setup (old.now).count (old.now).kept → HasAsked mid t₁ one t₂ → HasBeaten is_last one t₂ two t₃
+    → t₁ ≡ t₀ ++ news_lines (old.terms).setup (old.now).count (old.now).kept → HasAsked mid t₁ one t₂ → HasBeaten is_last one t₂ two t₃
     → (two ≡ record old { now = after_round old.terms is_last old.now }) × (t₃ ≡ t₀ ++ round_text old.terms is_last old.now)
 round_made is_last old mid one two t₀ t₁ t₂ t₃ mid_is fresh asked beaten =
     let one_is : one ≡ ask_in (tell_in old) = asked.0 ∙ ap ask_in mid_is in
-    let lines : List ℕ = fresh_lines (old.terms).setup (old.now).count (old.now).kept in
+    let lines : List ℕ = news_lines (old.terms).setup (old.now).count (old.now).kept in
     let lives : List ℕ = asked_text (tell_in old) in
     let beat : List ℕ = beaten_text is_last (ask_in (tell_in old)) in (
       beaten.0 ∙ ap (beat_in is_last) one_is,
@@ -90,7 +90,7 @@ round_ended old two t₀ t₁ t₂ is text ended =
     ∙ append_assoc t₀ (round_text old.terms true old.now) (end_text (old.terms).shape (old.terms).setup (view_of (after_round old.terms true old.now))))
 
 -- The live questions of rounds that have these parts were asked.
-pub asked_in : (setup : SetupValue) (w w' : WindowValue) (kept : List KeptValue) (every beat limit asked beaten last to : ℕ) (held : RoundsValue)
+pub asked_in : (setup : SetupValue) (w w' : WindowValue) (kept : List Watched) (every beat limit asked beaten last to : ℕ) (held : RoundsValue)
     (before after : List ℕ) → of_parts setup w kept every beat limit asked beaten last ≡ held → w' ≡ w → to ≡ count_of w → is_due every asked to ≡ true
     → ((last : ℕ) → after ≡ before ++ flat_map (live_line w.shape setup (view_in w kept last)) setup.lives)
     → HasAsked held before (of_parts setup w' kept every beat limit to beaten last) after
@@ -105,7 +105,7 @@ asked_in setup w w' kept every beat limit asked beaten last to held before after
     ∙ ap (λ (v : RoundView). before ++ flat_map (live_line w.shape setup v) setup.lives) (sym (view_same w kept asked beaten last))))))
 
 -- The end of rounds that have these parts.
-pub ended_in : (setup : SetupValue) (w : WindowValue) (kept : List KeptValue) (every beat limit asked beaten last : ℕ) (two : RoundsValue) (before after : List ℕ)
+pub ended_in : (setup : SetupValue) (w : WindowValue) (kept : List Watched) (every beat limit asked beaten last : ℕ) (two : RoundsValue) (before after : List ℕ)
     → of_parts setup w kept every beat limit asked beaten last ≡ two → after ≡ before ++ end_text w.shape setup (view_in w kept last)
     → after ≡ before ++ end_text (two.terms).shape (two.terms).setup (view_of two.now)
 ended_in setup w kept every beat limit asked beaten last two before after is ended =

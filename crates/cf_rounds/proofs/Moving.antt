@@ -1,12 +1,14 @@
 -- A record goes into the window of rounds.
 use Rattle.std.proofs.Common.{◌≡◌, ◌∙◌, ℕ, ◌+◌, ◌-◌, ◌^◌, ◌<◌, ◌≤◌, List, [], ◌∷◌, ◌++◌, length, drop, Bool, true, false, not, ◌&&◌, ◌||◌, nat_le, slice_index_or, refl, sym, ap, ap₂, subst, arith, length-append}
+use Rattle.std.proofs.lemmas.List.{length-map}
 use Rattle.std.proofs.lemmas.List.Elements.{All-weaker}
 use Rattle.cf_row.specs.Row.{RowValue}
 use Rattle.cf_row.specs.Times.{time_of}
 use Rattle.cf_row.proofs.Bytes.{both}
 use Rattle.cf_setup.specs.Setups.{SetupValue, shaped}
-use Rattle.cf_shape.specs.Lanes.{ShapeValue}
-use Rattle.cf_watch.specs.Kept.{KeptValue}
+use Rattle.cf_shape.specs.Lanes.{ShapeValue, has_by}
+use Rattle.cf_watch.specs.Watched.{nothing_watched, watched_count}
+use Rattle.cf_watch.specs.declared.watched.Watched.{Watched}
 use Rattle.cf_window.specs.Held.{HasPushed, WindowValue, count_of, replaced}
 use Rattle.cf_window.specs.Windows.{after_row, drops, goes_in, is_refused, is_small, rows_in_all}
 use Rattle.cf_window.specs.declared.window.Pushed.{Pushed}
@@ -14,7 +16,8 @@ use Rattle.cf_window.specs.declared.window.Pushed.TheVariants.{Full, Gone, Needs
 use Rattle.cf_window.proofs.Dropping.{out_of}
 use Rattle.cf_window.proofs.Rows.{count_first, rows_dropped, rows_kept}
 use Rattle.cf_rounds.specs.Held.{HasAnswered, HasMoved, IsRounds, RoundsValue, WaitsFor, standing_in}
-use Rattle.cf_rounds.specs.Lanes.{AreCounted, forgets, keeps}
+use Rattle.cf_rounds.specs.Lanes.{AreCounted, forgets, keeps, none_kept}
+use Rattle.cf_rounds.proofs.Keeping.{none_counted}
 use Rattle.cf_rounds.specs.Streams.{after_record, forces}
 use Rattle.cf_rounds.specs.declared.rounds.Taken.TheVariants as taken
 
@@ -61,7 +64,7 @@ moved_else old new row NoNodes never room small has = absurd (both_ways (is_smal
     both_ways b p q = cc
 
 -- rounds of these parts
-abbrev pub of_parts : SetupValue → WindowValue → List KeptValue → (every beat limit asked beaten last : ℕ) → RoundsValue
+abbrev pub of_parts : SetupValue → WindowValue → List Watched → (every beat limit asked beaten last : ℕ) → RoundsValue
 of_parts setup window kept every beat limit asked beaten last = record {
   terms = record { setup = setup; shape = window.shape; most = window.most; every = every; beat = beat };
   limit = limit;
@@ -69,7 +72,7 @@ of_parts setup window kept every beat limit asked beaten last = record {
   is_spent = window.is_spent;
 }
 
-module _ (setup : SetupValue) (w : WindowValue) (kept : List KeptValue) (every beat limit asked beaten last : ℕ) (row : RowValue) where
+module _ (setup : SetupValue) (w : WindowValue) (kept : List Watched) (every beat limit asked beaten last : ℕ) (row : RowValue) where
   abbrev old : RoundsValue
   old = of_parts setup w kept every beat limit asked beaten last
 
@@ -90,17 +93,17 @@ module _ (setup : SetupValue) (w : WindowValue) (kept : List KeptValue) (every b
   }
 
   -- the record has come
-  pub has_gone : (w' : WindowValue) (kept' : List KeptValue) (last' : ℕ) → HasMoved w row w' → w'.shape ≡ w.shape → w'.most ≡ w.most
+  pub has_gone : (w' : WindowValue) (kept' : List Watched) (last' : ℕ) → HasMoved w row w' → w'.shape ≡ w.shape → w'.most ≡ w.most
       → kept' ≡ keeps w'.shape kept row → last' ≡ time_of (w'.shape).schema row
       → of_parts setup w' kept' every beat limit asked beaten last' ≡ record old { now = after_record old.terms old.now row; is_spent = false }
   has_gone w' kept' last' moved shape most keeps_is last_is =
-      ap₂ (λ (ks : List KeptValue) (l : ℕ). of_parts setup w' ks every beat limit asked beaten l) keeps_is last_is
+      ap₂ (λ (ks : List Watched) (l : ℕ). of_parts setup w' ks every beat limit asked beaten l) keeps_is last_is
       ∙ (ap₂ (λ (s : ShapeValue) (m : ℕ). of_fields s m w'.segments (count_of w') w'.is_spent) shape most
       ∙ (ap₂ (λ (xs : List (List RowValue)) (n : ℕ). of_fields w.shape w.most xs n w'.is_spent) moved.segments moved.count
       ∙ ap (of_fields w.shape w.most (after_row w.shape w.most w.segments row) (count_of w + 1)) moved.is_spent))
 
   module _ (w' : WindowValue) where
-    answered_gone : (kept' : List KeptValue) (last' : ℕ) → HasPushed w row w' Gone → count_of w < limit
+    answered_gone : (kept' : List Watched) (last' : ℕ) → HasPushed w row w' Gone → count_of w < limit
         → (is_small w.shape row && forgets w.shape setup.triggers kept row) ≡ false
         → kept' ≡ keeps w'.shape kept row → last' ≡ time_of (w'.shape).schema row
         → HasAnswered old row (of_parts setup w' kept' every beat limit asked beaten last') taken.Gone
@@ -153,7 +156,7 @@ module _ (setup : SetupValue) (w : WindowValue) (kept : List KeptValue) (every b
 
   -- The same of the rounds that the caller holds.
   module _ (held : RoundsValue) (is : old ≡ held) (w' : WindowValue) (p : Pushed) (pushed : HasPushed w row w' p) (few : count_of w < limit) where
-    pub gone : (kept' : List KeptValue) (last' : ℕ) → p ≡ Gone
+    pub gone : (kept' : List Watched) (last' : ℕ) → p ≡ Gone
         → (is_small (held.terms).shape row && forgets (held.terms).shape ((held.terms).setup).triggers (held.now).kept row) ≡ false
         → kept' ≡ keeps w'.shape kept row → last' ≡ time_of (w'.shape).schema row
         → HasAnswered held row (of_parts setup w' kept' every beat limit asked beaten last') taken.Gone
@@ -183,11 +186,11 @@ module _ (setup : SetupValue) (w : WindowValue) (kept : List KeptValue) (every b
   waits_told held is few forgot unspent = subst (λ (r : RoundsValue). WaitsFor r row old) is (waits_forget few forgot unspent)
 
 -- What is true of rounds stays so.
-more_counted : (n m : ℕ) (kept : List KeptValue) → n ≤ m → AreCounted n kept → AreCounted m kept
+more_counted : (n m : ℕ) (kept : List Watched) → n ≤ m → AreCounted n kept → AreCounted m kept
 more_counted n m kept le all =
-    All-weaker (λ (k : KeptValue). k.count ≤ n) (λ (k : KeptValue). k.count ≤ m) (λ (k : KeptValue) (low : k.count ≤ n). omega (arith, low, le)) kept all
+    All-weaker (λ (k : Watched). watched_count k ≤ n) (λ (k : Watched). watched_count k ≤ m) (λ (k : Watched) (low : watched_count k ≤ n). omega (arith, low, le)) kept all
 
-pub rounds_still : (setup : SetupValue) (w w' : WindowValue) (kept : List KeptValue) (limit : ℕ) → IsRounds setup w kept limit → w'.shape ≡ w.shape
+pub rounds_still : (setup : SetupValue) (w w' : WindowValue) (kept : List Watched) (limit : ℕ) → IsRounds setup w kept limit → w'.shape ≡ w.shape
     → count_of w ≤ count_of w' → IsRounds setup w' kept limit
 rounds_still setup w w' kept limit is same le = record {
   shaped = subst (λ (s : ShapeValue). s ≡ shaped setup s.capacity 1 s.nodes) (sym same) is.shaped;
@@ -196,11 +199,20 @@ rounds_still setup w w' kept limit is same le = record {
   few = is.few;
 }
 
-pub rounds_kept : (setup : SetupValue) (w w' : WindowValue) (kept kept' : List KeptValue) (limit : ℕ) → IsRounds setup w kept limit → w'.shape ≡ w.shape
+pub rounds_kept : (setup : SetupValue) (w w' : WindowValue) (kept kept' : List Watched) (limit : ℕ) → IsRounds setup w kept limit → w'.shape ≡ w.shape
     → count_of w' ≡ count_of w + 1 → length kept' ≡ length kept → AreCounted (count_of w + 1) kept' → IsRounds setup w' kept' limit
 rounds_kept setup w w' kept kept' limit is same count long counted = record {
   shaped = subst (λ (s : ShapeValue). s ≡ shaped setup s.capacity 1 s.nodes) (sym same) is.shaped;
   lanes = long ∙ is.lanes;
   counted = subst (λ (n : ℕ). AreCounted n kept') (sym count) counted;
   few = is.few;
+}
+
+pub rounds_begun : (setup : SetupValue) (w : WindowValue) (shape : ShapeValue) (kept : List Watched) (limit : ℕ) → w.shape ≡ shape
+    → shape ≡ shaped setup shape.capacity 1 shape.nodes → kept ≡ none_kept shape → limit < 2 ^ 53 → IsRounds setup w kept limit
+rounds_begun setup w shape kept limit is same none few = record {
+  shaped = subst (λ (s : ShapeValue). s ≡ shaped setup s.capacity 1 s.nodes) (sym is) same;
+  lanes = ap length none ∙ length-map shape.lanes (λ lane. nothing_watched (has_by lane.key)) ∙ ap (λ (s : ShapeValue). length s.lanes) same;
+  counted = subst (AreCounted (count_of w)) (sym none) (none_counted shape (count_of w));
+  few = few;
 }

@@ -3,7 +3,7 @@ use Rattle.std.specs.Prelude.{◌≡◌, ℕ, ◌+◌, ◌^◌, ◌<◌, ◌≤�
 use Rattle.std.specs.List.{flat_map}
 use Rattle.cf_row.specs.Row.{RowValue}
 use Rattle.cf_setup.specs.Setups.{SetupValue, shaped}
-use Rattle.cf_watch.specs.Kept.{KeptValue}
+use Rattle.cf_watch.specs.declared.watched.Watched.{Watched}
 use Rattle.cf_window.specs.Courses.{IsCourse}
 use Rattle.cf_window.specs.Held.{WindowValue, count_of}
 use Rattle.cf_window.specs.Windows.{after_row, goes_in, is_refused, is_small, rows_in_all}
@@ -21,16 +21,16 @@ pub record RoundsValue : Type 0 where
   pub is_spent : Bool
 
 -- a window as a stream has it, with what is kept beside it, and the counts
-abbrev pub standing_in : WindowValue → List KeptValue → (asked beaten last : ℕ) → Standing
+abbrev pub standing_in : WindowValue → List Watched → (asked beaten last : ℕ) → Standing
 standing_in window kept asked beaten last =
     record { segments = window.segments; count = count_of window; kept = kept; asked = asked; beaten = beaten; last = last }
 
 -- what a round sees of a window, and of what is kept beside it
-abbrev pub view_in : WindowValue → List KeptValue → ℕ → RoundView
+abbrev pub view_in : WindowValue → List Watched → ℕ → RoundView
 view_in window kept last = record { from = window.from; to = count_of window; rows = rows_in_all window.segments; kept = kept; last = last }
 
 -- The window's segments are logs of the setup, with one writer, and something is kept of each of its lanes. Fewer than 2^53 records may come.
-pub record IsRounds (setup : SetupValue) (window : WindowValue) (kept : List KeptValue) (limit : ℕ) : Type 0 where
+pub record IsRounds (setup : SetupValue) (window : WindowValue) (kept : List Watched) (limit : ℕ) : Type 0 where
   pub shaped : window.shape ≡ shaped setup (window.shape).capacity 1 (window.shape).nodes
   pub lanes : length kept ≡ length setup.lanes
   pub counted : AreCounted (count_of window) kept

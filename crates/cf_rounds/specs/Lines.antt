@@ -9,12 +9,13 @@ use Rattle.cf_plain.specs.declared.answer.Fired.{Fired}
 use Rattle.cf_plain.specs.declared.ask.Ask.{Ask}
 use Rattle.cf_plain.specs.declared.ask.Ask.TheVariants as asks
 use Rattle.cf_report.specs.Answered.{ask_at}
-use Rattle.cf_report.specs.Bodies.{line, word_of, shown}
+use Rattle.cf_report.specs.Bodies.{keys_text, line, word_of, shown}
 use Rattle.cf_report.specs.Report.{alert_lines_at, ask_name, trigger_name}
 use Rattle.cf_setup.specs.Setups.{SetupValue}
 use Rattle.cf_shape.specs.Lanes.{ShapeValue}
-use Rattle.cf_watch.specs.Kept.{KeptValue}
-use Rattle.cf_rounds.specs.Lanes.{fresh_at, kept_at, marks_by}
+use Rattle.cf_watch.specs.Watched.{watched_count, watched_crowds, watched_sum}
+use Rattle.cf_watch.specs.declared.watched.Watched.{Watched}
+use Rattle.cf_rounds.specs.Lanes.{crowds_all, fresh_at, kept_at, marks_by}
 
 -- what a round sees: of the window the number of its first record, the number behind its last, and their rows; what is kept of each
 -- lane; and the time of the last record, in nanoseconds
@@ -22,20 +23,41 @@ pub record RoundView : Type 0 where
   pub from : ℕ
   pub to : ℕ
   pub rows : List RowValue
-  pub kept : List KeptValue
+  pub kept : List Watched
   pub last : ℕ
 
--- `alert NAME BUCKET VALUE @T`
+-- `crowded NAME BUCKET @T`
+abbrev pub crowded_line : List ℕ → ℕ → ℕ → List ℕ
+crowded_line name to bucket = line (codes "crowded " ++ name ++ codes " " ++ decimal bucket ++ codes " @" ++ decimal to)
+
+-- the name of the lane at a place
+abbrev pub lane_name : SetupValue → ℕ → List ℕ
+lane_name setup lane = slice_index_or setup.lane_names lane []
+
+-- of the lane at a place, the crowded buckets that a round tells
+abbrev pub crowded_lines_at : SetupValue → ℕ → List Watched → ℕ → List ℕ
+crowded_lines_at setup to kept lane = flat_map (crowded_line (lane_name setup lane) to) (watched_crowds (kept_at kept lane))
+
+-- the same of each lane
+abbrev pub crowded_lines : SetupValue → ℕ → List Watched → List ℕ
+crowded_lines setup to kept = flat_map (crowded_lines_at setup to kept) (range_with_len 0 (length kept))
+
+-- `alert NAME BUCKET VALUE @T`, and `alert NAME BUCKET/KEY VALUE @T` of an aggregate by key
 abbrev pub fresh_line : List ℕ → ℕ → Fired → List ℕ
-fresh_line name to mark = line (codes "alert " ++ name ++ codes " " ++ decimal mark.bucket ++ codes " " ++ decimal mark.value ++ codes " @" ++ decimal to)
+fresh_line name to mark =
+    line (codes "alert " ++ name ++ codes " " ++ keys_text mark.bucket mark.key ++ codes " " ++ decimal mark.value ++ codes " @" ++ decimal to)
 
 -- of the trigger at a place, the marks that it tells
-abbrev pub fresh_lines_at : SetupValue → ℕ → List KeptValue → ℕ → List ℕ
+abbrev pub fresh_lines_at : SetupValue → ℕ → List Watched → ℕ → List ℕ
 fresh_lines_at setup to kept place = flat_map (fresh_line (trigger_name setup place) to) (fresh_at setup.triggers kept place)
 
 -- the same of each trigger
-abbrev pub fresh_lines : SetupValue → ℕ → List KeptValue → List ℕ
+abbrev pub fresh_lines : SetupValue → ℕ → List Watched → List ℕ
 fresh_lines setup to kept = flat_map (fresh_lines_at setup to kept) (range_with_len 0 (length setup.triggers))
+
+-- what a round tells: which buckets are crowded, and then the marks that are not told
+abbrev pub news_lines : SetupValue → ℕ → List Watched → List ℕ
+news_lines setup to kept = crowded_lines setup to kept ++ fresh_lines setup to (crowds_all kept)
 
 -- What a question means in a round, or in the final part: of a trigger its marks on the whole buckets that are kept, of another what it
 -- means on the window's records.
@@ -64,13 +86,13 @@ live_line shape setup view place =
     (body_on shape view false (ask_at setup place)))
 
 -- `total NAME count C sum U`
-abbrev pub total_line : List ℕ → KeptValue → List ℕ
-total_line name kept = line (codes "total " ++ name ++ codes " count " ++ decimal kept.count ++ codes " sum " ++ decimal kept.sum)
+abbrev pub total_line : List ℕ → Watched → List ℕ
+total_line name kept = line (codes "total " ++ name ++ codes " count " ++ decimal (watched_count kept) ++ codes " sum " ++ decimal (watched_sum kept))
 
 -- the line of the lane at a place, if it is an aggregate
 abbrev pub total_line_at : ShapeValue → SetupValue → RoundView → ℕ → List ℕ
 total_line_at shape setup view lane =
-    if is_aggregate shape lane then total_line (slice_index_or setup.lane_names lane []) (kept_at view.kept lane) else []
+    if is_aggregate shape lane then total_line (lane_name setup lane) (kept_at view.kept lane) else []
 
 -- a beat: `at T S`, with the whole seconds of the last record's time, and the totals of each aggregate
 abbrev pub beat_text : ShapeValue → SetupValue → RoundView → List ℕ

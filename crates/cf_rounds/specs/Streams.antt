@@ -5,11 +5,11 @@ use Rattle.cf_row.specs.Row.{RowValue}
 use Rattle.cf_row.specs.Times.{time_of}
 use Rattle.cf_setup.specs.Setups.{SetupValue}
 use Rattle.cf_shape.specs.Lanes.{ShapeValue}
-use Rattle.cf_watch.specs.Kept.{KeptValue}
+use Rattle.cf_watch.specs.declared.watched.Watched.{Watched}
 use Rattle.cf_window.specs.Rounds.{Course, Span}
 use Rattle.cf_window.specs.Windows.{after_row, drops, is_small, rows_in_all}
-use Rattle.cf_rounds.specs.Lanes.{forgets, keeps, none_kept, told_first}
-use Rattle.cf_rounds.specs.Lines.{RoundView, beat_text, end_text, fresh_lines, is_beat, is_due, live_line}
+use Rattle.cf_rounds.specs.Lanes.{forgets, keeps, none_kept, told_all}
+use Rattle.cf_rounds.specs.Lines.{RoundView, beat_text, end_text, is_beat, is_due, live_line, news_lines}
 
 -- how a stream is watched: the setup; the shape of each segment of the window, and how many there may be; and how many records come
 -- between two askings of the live questions, and between two beats
@@ -25,7 +25,7 @@ pub record Terms : Type 0 where
 pub record Standing : Type 0 where
   pub segments : List (List RowValue)
   pub count : ℕ
-  pub kept : List KeptValue
+  pub kept : List Watched
   pub asked : ℕ
   pub beaten : ℕ
   pub last : ℕ
@@ -44,15 +44,16 @@ view_of now = record {
 abbrev pub span_of : Standing → Span
 span_of now = record { from = (view_of now).from; to = now.count }
 
--- where it stands when a round has told the marks that were not told
+-- where it stands when a round has told what was not told
 abbrev pub told : Terms → Standing → Standing
-told terms now = record now { kept = told_first (terms.setup).triggers now.kept (length (terms.setup).triggers) }
+told terms now = record now { kept = told_all (terms.setup).triggers now.kept }
 
--- what a round writes, which may be the last of all: the marks that are not told, the live questions if they are due, and a beat if it is
+-- what a round writes, which may be the last of all: the crowded buckets and the marks that are not told, the live questions if they are
+-- due, and a beat if it is
 abbrev pub round_text : Terms → Bool → Standing → List ℕ
 round_text terms is_last now =
     let view = view_of (told terms now) in
-    fresh_lines terms.setup now.count now.kept
+    news_lines terms.setup now.count now.kept
     ++ (if is_due terms.every now.asked now.count then flat_map (live_line terms.shape terms.setup view) (terms.setup).lives else [])
     ++ (if is_beat is_last terms.beat now.beaten now.count then beat_text terms.shape terms.setup view else [])
 
@@ -74,8 +75,8 @@ after_record terms now row = record {
   last = time_of (terms.shape).schema row;
 }
 
--- A round comes before the record: a segment has to be dropped for it, or a bucket is forgotten with it that has a mark not yet told. (A
--- record that alone needs more nodes than a segment has is never taken, so none is forgotten with it.)
+-- A round comes before the record: a segment has to be dropped for it, or a bucket is forgotten with it that has a mark or is crowded, not
+-- yet told. (A record that alone needs more nodes than a segment has is never taken, so none is forgotten with it.)
 abbrev pub forces : Terms → Standing → RowValue → Bool
 forces terms now row =
     drops terms.shape terms.most now.segments row || (is_small terms.shape row && forgets terms.shape (terms.setup).triggers now.kept row)

@@ -14,7 +14,7 @@ use cf_plain::{Ask, Body};
 use cf_report::{name_at, word};
 use cf_row::Memory;
 use cf_setup::Setup;
-use cf_watch::Kept;
+use cf_watch::Watched;
 use cf_window::Window;
 use std::alloc::Global;
 
@@ -49,7 +49,7 @@ pub(crate) fn question_word(setup: &Setup, place: usize) -> &str
 fn answer_to(
     alloc: Global,
     window: &mut Window,
-    kept: &[Kept],
+    kept: &[Watched],
     is_final: bool,
     ask: &Ask,
 ) -> Result<Body, Memory>
@@ -69,7 +69,7 @@ pub(crate) fn answer_at(
     alloc: Global,
     setup: &Setup,
     window: &mut Window,
-    kept: &[Kept],
+    kept: &[Watched],
     is_final: bool,
     place: usize,
 ) -> Result<Body, Memory>

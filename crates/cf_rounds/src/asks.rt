@@ -11,7 +11,7 @@ use crate::marks::marks_of_all;
 use cf_report::push_alerts;
 use cf_row::Memory;
 use cf_setup::Setup;
-use cf_watch::Kept;
+use cf_watch::Watched;
 use cf_window::Window;
 use std::alloc::Global;
 use std::fmt::Write;
@@ -27,7 +27,7 @@ fn push_ask(
     text: &mut String,
     setup: &Setup,
     window: &mut Window,
-    kept: &[Kept],
+    kept: &[Watched],
     place: usize,
 ) -> Result<(), Memory>
     requires exists { place < length setup.now.asks }
@@ -49,7 +49,7 @@ fn push_asks(
     text: &mut String,
     setup: &Setup,
     window: &mut Window,
-    kept: &[Kept],
+    kept: &[Watched],
 ) -> Result<(), Memory>
     requires rounds { (limit : ℕ) × IsRounds setup.now window.old kept.now limit }
     ensures stays { window.new ≡ window.old }
@@ -75,7 +75,7 @@ pub(crate) fn push_end(
     text: &mut String,
     setup: &Setup,
     window: &mut Window,
-    kept: &[Kept],
+    kept: &[Watched],
 ) -> Result<(), Memory>
     requires rounds { (limit : ℕ) × IsRounds setup.now window.old kept.now limit }
     ensures stays { window.new ≡ window.old }

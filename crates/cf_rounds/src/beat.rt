@@ -11,7 +11,7 @@ use cf_report::name_at;
 use cf_row::Memory;
 use cf_setup::Setup;
 use cf_shape::Shape;
-use cf_watch::Kept;
+use cf_watch::Watched;
 use std::fmt::Write;
 
 /// So many nanoseconds are a second.
@@ -23,7 +23,7 @@ fn push_at(text: &mut String, to: u64, second: u64) -> Result<(), Memory>
     write!(text, "at {to} {second}\n")
 }
 
-fn push_total(text: &mut String, name: &str, kept: &Kept) -> Result<(), Memory>
+fn push_total(text: &mut String, name: &str, kept: &Watched) -> Result<(), Memory>
     ensures { OnOk result (string_bytes text.new ≡ string_bytes text.old ++ total_line name.now kept.now) }
 {
     let count = kept.count();
@@ -36,7 +36,7 @@ fn push_total_at(
     text: &mut String,
     setup: &Setup,
     shape: &Shape,
-    kept: &[Kept],
+    kept: &[Watched],
     lane: usize,
 ) -> Result<(), Memory>
     requires exists { lane < length setup.now.lane_names }
@@ -58,7 +58,7 @@ pub(crate) fn push_beat(
     text: &mut String,
     setup: &Setup,
     shape: &Shape,
-    kept: &[Kept],
+    kept: &[Watched],
     to: u64,
     last: u64,
 ) -> Result<(), Memory>

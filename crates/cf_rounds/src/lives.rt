@@ -8,7 +8,7 @@ use crate::asked::{answer_at, question_name, question_word};
 use crate::body::push_told;
 use cf_row::Memory;
 use cf_setup::Setup;
-use cf_watch::Kept;
+use cf_watch::Watched;
 use cf_window::Window;
 use std::alloc::Global;
 use std::fmt::Write;
@@ -24,7 +24,7 @@ fn push_live(
     text: &mut String,
     setup: &Setup,
     window: &mut Window,
-    kept: &[Kept],
+    kept: &[Watched],
     place: usize,
 ) -> Result<(), Memory>
     requires exists { place < length setup.now.asks }
@@ -48,7 +48,7 @@ pub(crate) fn push_lives(
     text: &mut String,
     setup: &Setup,
     window: &mut Window,
-    kept: &[Kept],
+    kept: &[Watched],
 ) -> Result<(), Memory>
     requires rounds { (limit : ℕ) × IsRounds setup.now window.old kept.now limit }
     ensures stays { window.new ≡ window.old }

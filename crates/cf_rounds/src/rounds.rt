@@ -12,13 +12,13 @@ ghost use Rattle.cf_rounds.specs.Streams.{after_record, after_round, begun, roun
 
 use crate::asks::push_end;
 use crate::beat::push_beat;
-use crate::fresh::push_fresh_lines;
+use crate::fresh::push_news;
 use crate::lanes::{forgets_untold, none_kept, take_row};
 use crate::lives::push_lives;
 use cf_row::{Memory, Row};
 use cf_setup::Setup;
 use cf_shape::Shape;
-use cf_watch::Kept;
+use cf_watch::Watched;
 use cf_window::{Pushed, Window, nodes_needed};
 use std::alloc::Global;
 use std::marker::Model;
@@ -44,7 +44,7 @@ pub struct Intervals {
     pub beat: u32,
 }
 
-/// The window of a stream, the whole buckets that are kept of each aggregate beside it, and when the live questions were asked and a beat
+/// The window of a stream, the buckets that are kept of each aggregate beside it, and when the live questions were asked and a beat
 /// came. What a round writes goes behind a text of the caller. If memory runs out in a call, that text may end with a part of a line, and
 /// rounds and text are to be dropped.
 #[derive(Drop)]
@@ -52,7 +52,7 @@ pub struct Rounds {
     setup: Setup,
     window: Window,
     // of each lane of the setup
-    kept: Vec<Kept>,
+    kept: Vec<Watched>,
     every: u32,
     beat: u32,
     limit: u64,
@@ -109,7 +109,13 @@ fn move_on<R: Threads>(rt: &R, alloc: Global, window: &mut Window, row: &Row) ->
 }
 
 // All lanes keep the record, which is the last one then.
-fn keep(kept: &mut [Kept], last: &mut u64, shape: &Shape, row: &Row) -> Result<(), Memory>
+fn keep(
+    alloc: Global,
+    kept: &mut [Watched],
+    last: &mut u64,
+    shape: &Shape,
+    row: &Row,
+) -> Result<(), Memory>
     requires lanes { length kept.old ≡ length shape.now.lanes }
     requires fits { Fits shape.now.schema row.now }
     requires few { AreCounted (2 ^ 53 - 1) kept.old }
@@ -117,7 +123,7 @@ fn keep(kept: &mut [Kept], last: &mut u64, shape: &Shape, row: &Row) -> Result<(
     ensures long { length kept.new ≡ length kept.old }
     ensures counted { (count : ℕ) → AreCounted count kept.old → AreCounted (count + 1) kept.new }
 {
-    take_row(kept, shape, row)?;
+    take_row(alloc, kept, shape, row)?;
     *last = row.time(shape.schema());
     Ok(())
 }
@@ -140,7 +146,7 @@ impl Rounds {
         ensures begun { IfOk result (λ rounds. rounds ≡ begun_on (record { setup = setup; shape = shape; most = most; every = intervals.lives; beat = intervals.beat }) limit) }
         ensures at { IfOk result (λ rounds. IsAt rounds [] (begun rounds.terms)) }
     {
-        let kept = none_kept(alloc, setup.lanes().len())?;
+        let kept = none_kept(alloc, shape.lanes())?;
         Ok(Rounds {
             setup,
             window: Window::open(alloc, shape, most)?,
@@ -209,20 +215,20 @@ impl Rounds {
         Ok(())
     }
 
-    /// A round, which may be the last of all: the marks that were not told, the live questions if they are due, and a beat if it is, or in
-    /// the last round if a record came since the one before. A round that finds no record more than that before it writes nothing.
+    /// A round, which may be the last of all: the crowded buckets and the marks that were not told, the live questions if they are due, and
+    /// a beat if it is, or in the last round if a record came since the one before. A round that finds no record more than that before it writes nothing.
     pub fn round(&mut self, alloc: Global, is_last: bool, text: &mut String) -> Result<(), Memory>
         ensures set { IsSetAs self.old self.new }
         ensures round { OnOk result ((self.new ≡ record self.old { now = after_round self.old.terms is_last self.old.now })
             × (string_bytes text.new ≡ string_bytes text.old ++ round_text self.old.terms is_last self.old.now)) }
     {
         let to = self.window.count();
-        push_fresh_lines(alloc, text, &self.setup, to, &mut self.kept)?;
+        push_news(alloc, text, &self.setup, to, &mut self.kept)?;
         self.ask_due(alloc, text)?;
         self.beat_due(is_last, text)
     }
 
-    // Whether with the record, which a segment has nodes for, a bucket is forgotten that has a mark not yet told.
+    // Whether with the record, which a segment has nodes for, a bucket is forgotten that has a mark or is crowded, not yet told.
     fn forgets(&self, row: &Row) -> bool
         requires { Fits self.now.terms.shape.schema row.now }
         ensures { result ≡ (is_small self.now.terms.shape row.now && forgets_of self.now.terms.shape self.now.terms.setup.triggers self.now.now.kept row.now) }
@@ -234,7 +240,7 @@ impl Rounds {
     }
 
     /// A record comes, unless a round has to be made before it: a segment has to be dropped for it, or a bucket is forgotten with it that
-    /// has a mark not yet told. Once a record has come for which there are no nodes, no other comes.
+    /// has a mark or is crowded, not yet told. Once a record has come for which there are no nodes, no other comes.
     pub fn take<R: Threads>(&mut self, rt: &R, alloc: Global, row: &Row) -> Result<Taken, Memory>
         requires fits { Fits self.old.terms.shape.schema row.now }
         requires open { self.old.is_spent ≡ false }
@@ -251,7 +257,13 @@ impl Rounds {
             Pushed::NoNodes => Ok(Taken::NoNodes),
             Pushed::NeedsDrop => Ok(Taken::Waits),
             Pushed::Gone => {
-                keep(&mut self.kept, &mut self.last, self.window.shape(), row)?;
+                keep(
+                    alloc,
+                    &mut self.kept,
+                    &mut self.last,
+                    self.window.shape(),
+                    row,
+                )?;
                 Ok(Taken::Gone)
             }
         }
@@ -272,7 +284,13 @@ impl Rounds {
         ensures gone { OnOk result (self.new ≡ record self.old { now = after_record self.old.terms self.old.now row.now; is_spent = false }) }
     {
         move_on(rt, alloc, &mut self.window, row)?;
-        keep(&mut self.kept, &mut self.last, self.window.shape(), row)
+        keep(
+            alloc,
+            &mut self.kept,
+            &mut self.last,
+            self.window.shape(),
+            row,
+        )
     }
 
     /// The end of the stream: a last round, and then how many records came, the number of the window's first, the answer of each question

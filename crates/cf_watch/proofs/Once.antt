@@ -82,7 +82,7 @@ fresh_has trigger place b kept has =
     ∙ sym (any_from [] (map (mark_in trigger) (filter (is_untold trigger place) (settled trigger false kept))) b) ∙ has
 
 -- if it is the bucket, then it was told
-abbrev IsTold : ℕ → ℕ → BucketValue → Type 0
+abbrev pub IsTold : ℕ → ℕ → BucketValue → Type 0
 IsTold b place k = k.bucket ≡ b → is_told place k ≡ true
 
 lacking_told : (b place : ℕ) (kept : List BucketValue) → is_kept kept b ≡ false → All (IsTold b place) kept
@@ -96,17 +96,17 @@ found_in test b (suc n) (k ∷ ks) found = elim (or_cases (passes_of test b k) (
   | inr behind ↦ or_right (k.bucket == b) (is_kept ks b) (found_in test b n ks behind)
 ]
 
-abbrev first_told : Trigger → ℕ → ℕ → List BucketValue → List BucketValue
+abbrev pub first_told : Trigger → ℕ → ℕ → List BucketValue → List BucketValue
 first_told trigger place n kept = map (with_told trigger place) (take n kept) ++ drop n kept
 
-abbrev IsSized : BucketValue → Type 0
+abbrev pub IsSized : BucketValue → Type 0
 IsSized k = length k.told ≡ most_triggers
 
 now_told : (trigger : Trigger) (place : ℕ) (k : BucketValue) → place < most_triggers → IsSized k → meets trigger k ≡ true
     → is_told place (with_told trigger place k) ≡ true
 now_told trigger place k lt size met = rw met (get_or-set_same k.told place true false (omega (arith, lt, size)))
 
-telling_tells : (trigger : Trigger) (place b n : ℕ) (kept : List BucketValue) → place < most_triggers → AreApart kept → All IsSized kept
+pub telling_tells : (trigger : Trigger) (place b n : ℕ) (kept : List BucketValue) → place < most_triggers → AreApart kept → All IsSized kept
     → list_any (passes_of (is_untold trigger place) b) (take n kept) ≡ true → All (IsTold b place) (first_told trigger place n kept)
 telling_tells trigger place b zero kept lt apart sized found = absurd (false≢true found)
 telling_tells trigger place b (suc n) [] lt apart sized found = absurd (false≢true found)

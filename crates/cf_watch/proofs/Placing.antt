@@ -192,7 +192,7 @@ left_for kept count b k is = elim (cases_Bool (has_pair kept b k)) [
 key_number : (k n : ℕ) (pair : BucketValue) → (if_of k n pair).bucket ≡ pair.bucket
 key_number k n pair = elim (cases_Bool (pair.bucket == k)) [ inl same ↦ rw same refl | inr other ↦ rw other refl ]
 
-key_numbers : (k n : ℕ) (pairs : List BucketValue) → numbers pairs ≡ numbers (map (if_of k n) pairs)
+pub key_numbers : (k n : ℕ) (pairs : List BucketValue) → numbers pairs ≡ numbers (map (if_of k n) pairs)
 key_numbers k n [] = refl
 key_numbers k n (x ∷ xs) = rw (key_number k n x, sym (key_numbers k n xs)) refl
 
@@ -230,7 +230,7 @@ key_apart apart k n count is = elim (cases_Bool (is_kept apart.pairs k)) [
   ]
 ]
 
-key_bucket : (apart : ApartValue) (k n : ℕ) → (with_key k n apart).bucket ≡ apart.bucket
+pub key_bucket : (apart : ApartValue) (k n : ℕ) → (with_key k n apart).bucket ≡ apart.bucket
 key_bucket apart k n = elim (cases_Bool (is_kept apart.pairs k)) [
   | inl found ↦ rw found refl
   | inr none ↦ elim (cases_Bool (nat_le most_pairs (length apart.pairs))) [ inl full ↦ rw (none, full) refl | inr few ↦ rw (none, few) refl ]

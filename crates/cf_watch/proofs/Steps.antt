@@ -33,13 +33,13 @@ told_set (x ∷ xs) zero (suc j) is = is
 told_set (x ∷ xs) (suc i) zero is = is
 told_set (x ∷ xs) (suc i) (suc j) is = told_set xs i j is
 
-told_stays : (trigger : Trigger) (p place : ℕ) (k : BucketValue) → is_told place k ≡ true → is_told place (with_told trigger p k) ≡ true
+pub told_stays : (trigger : Trigger) (p place : ℕ) (k : BucketValue) → is_told place k ≡ true → is_told place (with_told trigger p k) ≡ true
 told_stays trigger p place k is = elim (cases_Bool (meets trigger k)) [
   | inl met ↦ rw met (told_set k.told p place is)
   | inr unmet ↦ rw unmet is
 ]
 
-told_size : (trigger : Trigger) (p : ℕ) (k : BucketValue) → length (with_told trigger p k).told ≡ length k.told
+pub told_size : (trigger : Trigger) (p : ℕ) (k : BucketValue) → length (with_told trigger p k).told ≡ length k.told
 told_size trigger p k = elim (cases_Bool (meets trigger k)) [
   | inl met ↦ rw met (length-set k.told p true)
   | inr unmet ↦ rw unmet refl

@@ -24,11 +24,11 @@ takes_row shape lane kept row takes = cond-true (selected_by shape lane row) (wi
 passes_row : (shape : ShapeValue) (lane : ℕ) (kept : KeptValue) (row : RowValue) → selected_by shape lane row ≡ false → with_row shape lane kept row ≡ kept
 passes_row shape lane kept row passes = cond-false (selected_by shape lane row) (with_one kept (key_of shape lane row) (measure_of shape lane row)) kept passes
 
-with_it : (shape : ShapeValue) (lane : ℕ) (row : RowValue) (rows : List RowValue) → selected_by shape lane row ≡ true
+pub with_it : (shape : ShapeValue) (lane : ℕ) (row : RowValue) (rows : List RowValue) → selected_by shape lane row ≡ true
     → selected shape lane (row ∷ rows) ≡ row ∷ selected shape lane rows
 with_it shape lane row rows takes = cond-true (selected_by shape lane row) (row ∷ selected shape lane rows) (selected shape lane rows) takes
 
-without_it : (shape : ShapeValue) (lane : ℕ) (row : RowValue) (rows : List RowValue) → selected_by shape lane row ≡ false
+pub without_it : (shape : ShapeValue) (lane : ℕ) (row : RowValue) (rows : List RowValue) → selected_by shape lane row ≡ false
     → selected shape lane (row ∷ rows) ≡ selected shape lane rows
 without_it shape lane row rows passes = cond-false (selected_by shape lane row) (row ∷ selected shape lane rows) (selected shape lane rows) passes
 

@@ -21,7 +21,8 @@ use cf_row::Memory;
 pub use kept::Kept;
 pub use kept_apart::KeptApart;
 pub use laws::{
-    buckets_are_told_once, few_are_kept, growing_marks_stay, quads_are_whole, rows_are_kept,
+    buckets_are_told_once, few_are_kept, few_pairs_are_kept, growing_marks_stay,
+    pairs_are_told_once, quads_are_whole, rows_are_kept, rows_are_kept_by_key,
     whole_streams_are_seen,
 };
 use std::alloc::Global;

@@ -4,8 +4,8 @@ use Rattle.cf_lemmas.proofs.Ranges.{step_range}
 use Rattle.cf_fold.specs.declared.trigger.Trigger.{Trigger}
 use Rattle.cf_plain.specs.declared.answer.Fired.{Fired}
 use Rattle.cf_report.specs.Report.{trigger_name}
-use Rattle.cf_watch.specs.Kept.{KeptValue}
-use Rattle.cf_watch.specs.Marks.{fresh_on}
+use Rattle.cf_watch.specs.declared.watched.Watched.{Watched}
+use Rattle.cf_watch.specs.Watched.{watched_fresh}
 use Rattle.cf_rounds.specs.Lanes.{AreCounted, fresh_at, kept_at, told_by, told_first, trigger_at}
 use Rattle.cf_rounds.specs.Lines.{fresh_line, fresh_lines_at}
 use Rattle.cf_rounds.proofs.Keeping.{first_counted, first_long, told_counted, told_one}
@@ -17,7 +17,7 @@ tell_at-requires-clause-lane c =
     let triggers = c.triggers-triggers.result.now in
     told_low c.args.setup.now c.triggers-triggers.ensures.lawful triggers (length c.loop-place.kept) c.loop-place.place
     c.triggers-triggers.ensures.triggers
-    (ap (λ (ks : List KeptValue). length ks) c.loop-place.invariant.told ∙ (first_long triggers c.args.kept.now c.loop-place.place ∙ c.requires.lanes))
+    (ap (λ (ks : List Watched). length ks) c.loop-place.invariant.told ∙ (first_long triggers c.args.kept.now c.loop-place.place ∙ c.requires.lanes))
     c.loop-place-test.true _
 
 pub returns-in_err-fresh-clause-counted : goal.returns-in_err-fresh-clause-counted
@@ -29,7 +29,7 @@ pub returns-in_err-push_each_fresh-clause-counted : goal.returns-in_err-push_eac
 returns-in_err-push_each_fresh-clause-counted c = λ count all.
     let triggers = c.triggers-triggers.result.now in
     let place = c.loop-place.place in
-    subst (AreCounted count) (sym (c.in_ok-fresh.ensures.told ∙ ap (λ (ks : List KeptValue). told_by triggers ks place) c.loop-place.invariant.told))
+    subst (AreCounted count) (sym (c.in_ok-fresh.ensures.told ∙ ap (λ (ks : List Watched). told_by triggers ks place) c.loop-place.invariant.told))
     (told_counted triggers (told_first triggers c.args.kept.now place) place count (first_counted triggers c.args.kept.now place count all))
 
 pub loop-place-preserved : goal.loop-place-preserved
@@ -43,10 +43,10 @@ loop-place-preserved c =
     let name = c.name_at.ensures ∙ ap (λ (ns : List (List ℕ)). Rattle.std.specs.Prelude.slice_index_or ns place []) c.trigger_names-names.ensures.names in
     let marks : c.in_ok-fresh.fresh.items ≡ fresh_at setup.triggers old place =
     c.in_ok-fresh.ensures.marks
-    ∙ ap₂ (λ (ts : List Trigger) (ks : List KeptValue). fresh_on (trigger_at ts place) place (kept_at ks (trigger_at ts place).agg).buckets)
+    ∙ ap₂ (λ (ts : List Trigger) (ks : List Watched). watched_fresh (trigger_at ts place) place (kept_at ks (trigger_at ts place).agg))
     c.triggers-triggers.ensures.triggers (told ∙ ap (λ (ts : List Trigger). told_first ts old place) c.triggers-triggers.ensures.triggers) in
     record {
-      told = c.in_ok-fresh.ensures.told ∙ (ap (λ (ks : List KeptValue). told_by triggers ks place) told ∙ sym (told_one triggers old place));
+      told = c.in_ok-fresh.ensures.told ∙ (ap (λ (ks : List Watched). told_by triggers ks place) told ∙ sym (told_one triggers old place));
       text = step_range (fresh_lines_at setup c.args.to old) place (string_bytes c.args.text.now) before (string_bytes c.push_each_fresh.new.text)
           c.loop-place.invariant.text
           (c.in_ok-push_each_fresh.ensures

@@ -1,7 +1,7 @@
-use Rattle.std.proofs.Common.{◌≡◌}
-use Rattle.std.specs.Prelude.{replicate}
-use Rattle.cf_watch.specs.Kept.{nothing_kept}
+use Rattle.std.proofs.Common.{◌≡◌, map, take}
+use Rattle.cf_shape.specs.Lanes.{has_by}
+use Rattle.cf_watch.specs.Watched.{nothing_watched}
 use Rattle.cf_rounds.proofs.lanes.none_kept.Given as goal
 
-abbrev pub invariant-loop-place : goal.invariant-loop-place
-invariant-loop-place l = l.kept.items ≡ replicate l._place nothing_kept
+abbrev pub invariant-loop-lane : goal.invariant-loop-lane
+invariant-loop-lane l = l.kept.items ≡ map (λ lane. nothing_watched (has_by lane.key)) (take l.lane-index l.lanes)

@@ -1,15 +1,14 @@
 use Rattle.std.proofs.Common.{◌≡◌, ◌∙◌, ◌+◌, ◌<◌, length, ap, arith}
+use Rattle.cf_watch.specs.Watched.{watched_count}
 use Rattle.cf_rounds.specs.Lanes.{kept_with}
-use Rattle.cf_rounds.proofs.Keeping.{kept_more, set_counted, to_counted, to_long}
+use Rattle.cf_rounds.proofs.Keeping.{kept_more, set_counted, to_counted}
 use Rattle.cf_rounds.proofs.lanes.take_row.Goals as goal
 
 pub returns-in_err-take_at-clause-counted : goal.returns-in_err-take_at-clause-counted
 returns-in_err-take_at-clause-counted c = λ count all.
-    let long = to_long c.args.shape.now c.args.row.now c.loop-lane.lane c.args.kept.now c.loop-lane.kept c.loop-lane.invariant in
-    let low : c.loop-lane.lane < length c.loop-lane.kept = omega (arith, long, c.loop-lane-test.true) in
-    set_counted (count + 1) c.loop-lane.lane c.loop-lane.kept c.take_at.new.kept c.index-kept-lane.result low
-    c.in_err-take_at.ensures.err
-    (to_counted c.args.shape.now c.args.row.now c.loop-lane.lane count c.args.kept.now c.loop-lane.kept c.loop-lane.invariant all)
+    set_counted count c.loop-lane.lane c.args.shape.now c.args.row.now c.args.kept.now c.loop-lane.kept c.take_at.new.kept c.index-kept-lane.result
+    c.loop-lane-test.true c.loop-lane.invariant
+    (let is = ap watched_count c.index-kept-lane.is in omega (arith, is, c.in_err-take_at.ensures.count)) all
 
 pub loop-lane-preserved : goal.loop-lane-preserved
 loop-lane-preserved c =

@@ -26,5 +26,5 @@ returns-in-Ok-ask-clause-answers c =
         text = read.0;
         new = c.in-Some.ensures;
       },
-      record { asked = told.0; tail = told.1; body = told.2; keyed = c.is_keyed.ensures },
+      record { asked = told.0; tail = told.1; body = told.2; keyed = rw c.shape.ensures.shape at c.is_keyed-keyed.ensures },
     )
