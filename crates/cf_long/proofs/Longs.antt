@@ -1,18 +1,15 @@
 -- A log of any length goes on.
-use Rattle.std.proofs.Common.{◌≡◌, ◌∙◌, ℕ, suc, ◌+◌, ◌-◌, ◌*◌, ◌<◌, ◌≤◌, ◌^◌, List, [], ◌++◌, length, map, refl, sym, ap, ap₂, subst, arith, inl, inr, length-append, append-nil, append_assoc, mul-suc, one-mul}
+use Rattle.std.proofs.Common.{◌≡◌, ◌∙◌, ℕ, suc, ◌+◌, ◌-◌, ◌*◌, ◌<◌, ◌≤◌, ◌^◌, List, [], ◌++◌, length, map, refl, sym, ap, ap₂, subst, arith, inl, inr, length-append, append-nil, append_assoc, mul-suc}
 use Rattle.std.specs.List.{All, AllZip}
 use Rattle.std.proofs.lemmas.Bool.{cases_lt}
 use Rattle.std.proofs.lemmas.List.{get_or-append-add, get_or_append_left, length-map}
 use Rattle.cf_row.specs.Row.{RowValue}
 use Rattle.cf_row.specs.declared.row.Entry.{Entry}
-use Rattle.cf_fold.specs.declared.trigger.Trigger.{Trigger}
 use Rattle.cf_history.proofs.Logs.{same_rows}
 use Rattle.cf_shape.specs.Lanes.{ShapeValue}
 use Rattle.cf_shape.specs.Nodes.{distinct}
 use Rattle.cf_plain.specs.Asks.{no_row, row_at, rows_in}
 use Rattle.cf_plain.specs.Segments.{CanJoin}
-use Rattle.cf_plain.specs.declared.ask.Ask.{Ask}
-use Rattle.cf_plain.specs.declared.ask.Ask.TheVariants as asks
 use Rattle.cf_plain.specs.declared.finding.Finding.{Finding}
 use Rattle.cf_segments.proofs.Parts.{part_after}
 use Rattle.cf_segments.specs.declared.segments.Sealing.{Sealing}

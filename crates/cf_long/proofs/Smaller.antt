@@ -1,5 +1,5 @@
 -- A log with fewer nodes finds the same, and the paths of its rows need as many nodes.
-use Rattle.std.proofs.Common.{◌≡◌, ◌∙◌, ℕ, ◌+◌, ◌*◌, ◌<◌, ◌≤◌, ◌&&◌, ◌==◌, cond, List, [], ◌∷◌, ◌++◌, length, map, filter, fold, refl, sym, ap, ap₂, subst, arith, mul-le-mul_left}
+use Rattle.std.proofs.Common.{◌≡◌, ◌∙◌, ℕ, ◌*◌, ◌<◌, ◌≤◌, ◌&&◌, ◌==◌, cond, MatchResult, Result, Ok, Err, List, [], ◌∷◌, ◌++◌, length, map, filter, fold, slice_index_or, refl, sym, ap, ap₂, subst, arith, mul-le-mul_left}
 use Rattle.std.specs.List.{flat_map, range_with_len}
 use Rattle.std.proofs.lemmas.List.Elements.{filter_agree}
 use Rattle.cf_row.specs.Row.{RowValue}
@@ -9,7 +9,7 @@ use Rattle.cf_shape.specs.Lanes.{ShapeValue, both_keys, by_of, group_key, key_by
 use Rattle.cf_shape.specs.Nodes.{Node, add_node, distinct, levels_of, nodes_for, nodes_in, path_of}
 use Rattle.cf_shape.specs.declared.lane.Key.{Key}
 use Rattle.cf_shape.specs.declared.lane.Key.TheVariants as keys
-use Rattle.cf_plain.specs.Asks.{counts_for, is_between, row_at}
+use Rattle.cf_plain.specs.Asks.{counts_for, is_between, row_at, suits_of}
 use Rattle.cf_plain.specs.Groups.{ascending, group_of, groups, has_key, keys_in}
 use Rattle.cf_plain.specs.Segments.{finding_in}
 use Rattle.cf_plain.specs.declared.ask.Ask.{Ask}
@@ -18,7 +18,7 @@ use Rattle.cf_plain.specs.declared.finding.Finding.{Finding}
 use Rattle.cf_plain.specs.declared.finding.Finding.TheVariants as findings
 use Rattle.cf_plain.proofs.Totals.{map_agree}
 use Rattle.cf_segments.specs.Blocks.{block}
-use Rattle.cf_load.specs.Planned.{IsSamePlan, asks_of}
+use Rattle.cf_load.specs.Planned.{IsPlan, IsSamePlan, asks_of}
 use Rattle.cf_load.specs.declared.plan.LivePlan.{LivePlan}
 use Rattle.cf_fill.specs.Logs.{IsUnmade}
 use Rattle.cf_fill.specs.declared.log.Unmade.{Unmade}
@@ -100,6 +100,23 @@ module _ (shape : ShapeValue) (n : ℕ) where
   pub found_same : (questions : List Ask) (rows : List RowValue) → found_in few questions rows ≡ found_in shape questions rows
   found_same questions rows = map_agree (λ (ask : Ask). finding_in few ask rows) (λ (ask : Ask). finding_in shape ask rows) (λ ask. finding_same ask rows) questions
 
+  suits_same : (ask : Ask) → suits_of few ask ≡ suits_of shape ask
+  suits_same (asks.List expr) = refl
+  suits_same (asks.Find lane low high) = refl
+  suits_same (asks.Between lane low high) = refl
+  suits_same (asks.Measure lane low high) = refl
+  suits_same (asks.Fired trigger) = refl
+  suits_same (asks.Top lane part count) = refl
+  suits_same (asks.Groups lane) = refl
+  suits_same (asks.Total attr expr) = refl
+
+  pub plan_same : (plan : LivePlan) → IsPlan shape plan → IsPlan few plan
+  plan_same plan is = record {
+    asks = λ k d low. suits_same (slice_index_or plan.asks.items k d) ∙ is.asks k d low;
+    triggers = is.triggers;
+    lives = is.lives;
+  }
+
   lane_nodes_same : (row : RowValue) (lane : ℕ) → nodes_in few row lane ≡ nodes_in shape row lane
   lane_nodes_same row lane =
       ap (λ (k : ℕ). cond {A = List Node} (selected_by shape lane row) (path_of lane (levels_of shape lane) k) []) (key_same lane row)
@@ -135,3 +152,16 @@ all_nodes_same shape small less none =
     let fewer = less.fewer in
     let most : (small.nodes < shape.nodes → ⊥) → small.nodes ≡ shape.nodes = λ no. omega (arith, fewer, no) in
     less.same ∙ ap (λ (k : ℕ). with_nodes shape k) (most none)
+
+-- what is asked suits the smaller shape too
+pub plan_smaller : (shape small : ShapeValue) (plan : LivePlan) → IsSmaller shape small → IsPlan shape plan → IsPlan small plan
+plan_smaller shape small plan less is = subst (λ (h : ShapeValue). IsPlan h plan) (sym less.same) (plan_same shape small.nodes plan is)
+
+-- what came of letting go a log, by a plan that asks the same
+pub let_go_as : {T : Type 0} (items : T → List Finding) (shape : ShapeValue) (plan other : LivePlan) (h : ShapeValue) (rows : List RowValue)
+    (result : Result T Unmade) → h ≡ shape → IsSamePlan plan other → MatchResult result (λ t. IsLetGo h other rows (items t)) (IsUnmade h rows)
+    → MatchResult result (λ t. IsLetGo shape plan rows (items t)) (IsUnmade shape rows)
+let_go_as items shape plan other h rows (Ok t) same plans is =
+    let at : IsLetGo shape other rows (items t) = subst (λ (g : ShapeValue). IsLetGo g other rows (items t)) same is in
+    record { found_are = at.found_are ∙ ap (λ (qs : List Ask). found_in shape qs rows) (same_asks plan other plans); nodes = at.nodes }
+let_go_as items shape plan other h rows (Err why) same plans is = subst (λ (g : ShapeValue). IsUnmade g rows why) same is

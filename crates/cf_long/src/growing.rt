@@ -1,5 +1,5 @@
 // One segment of a log, which is opened with few nodes and may be loaded again with more.
-ghost use Rattle.std.specs.Prelude.{◌≡◌, ℕ, ◌+◌, ◌<◌, ◌≤◌, ◌++◌, [], List, All, length, nat_lt, None, IfOk, MatchResult, OnOk};
+ghost use Rattle.std.specs.Prelude.{◌≡◌, ℕ, ◌+◌, ◌<◌, ◌≤◌, ◌++◌, [], List, All, length, nat_lt, None, IfOk, MatchResult, OnOk, if◌then◌else◌};
 ghost use Rattle.cf_row.specs.Row.{Fits, RowValue};
 ghost use Rattle.cf_shape.specs.Lanes.{IsShape};
 ghost use Rattle.cf_segments.specs.Segments.{AllowsSegments};
@@ -49,6 +49,16 @@ fn push_copies(alloc: Global, kept: &mut Vec<Row>, rows: &[Row]) -> Result<(), M
 {
     for row in rows {
         kept.push(row.copy(alloc)?)?;
+    }
+    Ok(())
+}
+
+// Keeps the rows of a segment that has fewer nodes than it may have.
+fn keep(alloc: Global, kept: &mut Vec<Row>, is_small: bool, rows: &[Row]) -> Result<(), Memory>
+    ensures { OnOk result (kept.new.items ≡ (if is_small then kept.old.items ++ rows.now else kept.old.items)) }
+{
+    if is_small {
+        return push_copies(alloc, kept, rows);
     }
     Ok(())
 }
@@ -145,9 +155,8 @@ impl Growing {
         ensures few { OnOk result (length (waiting_in self.new) < 4096) }
         ensures none { OnOk result (rows.new.items ≡ []) }
     {
-        if self.is_small() {
-            push_copies(context.alloc, &mut self.kept, rows)?;
-        }
+        let is_small = self.is_small();
+        keep(context.alloc, &mut self.kept, is_small, rows)?;
         let mut filling = opened(context.alloc, &self.small, plan, self.filling.take())?;
         filling.take_rows(context, rows)?;
         self.filling = Some(filling);

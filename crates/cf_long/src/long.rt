@@ -47,6 +47,17 @@ impl Model for Long {
     ghost view = { λ l. record { plan = l.plan; small = l.small; segment = l.segment; found = l.found.items; gone = l.gone } };
 }
 
+// The shape with which the next segment is opened: that of this one, or with all nodes if its rows needed more.
+fn next_small(alloc: Global, small: &Shape, shape: &Shape, has_grown: bool) -> Result<Shape, Memory>
+    requires smaller { IsSmaller shape.now small.now }
+    ensures { IfOk result (λ next. IsSmaller shape.now next) }
+{
+    if has_grown {
+        return shape.copy(alloc);
+    }
+    small.copy(alloc)
+}
+
 impl Long {
     /// A log with no row, in segments of the shape, of which is asked what the plan says. No live question is asked. Segments are opened
     /// with the nodes of the smaller shape, which differs in nothing else, until one of them needs more.
@@ -124,9 +135,7 @@ impl Long {
         let full = mem::replace(&mut self.segment, next);
         let count = full.count();
         let (more, has_grown) = full.let_go(context, &self.plan, self.gone)?;
-        if has_grown {
-            self.small = self.segment.shape().copy(alloc)?;
-        }
+        self.small = next_small(alloc, &self.small, self.segment.shape(), has_grown)?;
         let found = mem::replace(&mut self.found, Vec::new(alloc));
         self.found = join_each(alloc, self.gone, found, more)?;
         self.gone += count;
