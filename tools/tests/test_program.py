@@ -2,8 +2,12 @@
 
 from __future__ import annotations
 
+import random
 import struct
+import sys
 import unittest
+
+from support import ROOT
 
 from program_cases import (
     ADDRESSES,
@@ -35,6 +39,11 @@ from program_cases import (
     segment,
     sent,
 )
+
+sys.path.append(str(ROOT / "bench"))
+
+import damage  # noqa: E402
+import plain_answers  # noqa: E402
 
 # Two hosts send in two seconds.
 KEYED_SETUP = (
@@ -534,6 +543,41 @@ class Program(Cases):
         for words in (("--writers", "1"), ("--writers", "15"), ("--capacity", "4096", "--segments", "3")):
             self.check(("synth", "--setup", "s", "--seed", "7", "--count", "9000", *words), 0, text, s=setup)
 
+    def test_random_packets_by_two_keys(self) -> None:
+        """As bench/plain_answers.py reads the capture and walks over all rows."""
+        for seed in range(30):
+            draw = random.Random(seed)
+            keys = draw.sample(
+                ["src", "dst", "dport", "proto", "etype", "vlan", "len", "src6", "flow", "payload", "ts"], 4
+            )
+            parts = draw.choices(["count", "sum", "least", "greatest"], k=4)
+            lines = ["schema packet6", f"width {draw.choice([1, 1000, 500_000, 10**9])}"]
+            lines += ["filter all *", "filter some caplen>20 && etype==0x0800 || kind==3"]
+            for k, (key, part) in enumerate(zip(keys, parts)):
+                over = draw.choice(["all", "some"])
+                lines.append(f"aggregate a{k} {over} {draw.choice(['len', 'ttl', 'sport'])} by {key}")
+                lines.append(
+                    f"trigger t{k} a{k} {part} {draw.choice(['>', '>=', '<', '==', '!='])} {draw.randrange(4)}"
+                )
+                lines += [f"ask f{k} fired t{k}", f"ask g{k} groups a{k}"]
+            setup = "".join(f"{it}\n" for it in lines).encode()
+            capture = HEADER
+            for _ in range(draw.choice([0, 1, 50, 400])):
+                data, second = damage.frame(draw), draw.randrange(3)
+                capture += record(
+                    data, len(data) + draw.choice([0, 1, 1000]), second, draw.choice([0, 1, 999_999])
+                )
+            self.put(s=setup, c=capture)
+            text = plain_answers.report(setup, capture)[1]
+            for words in (
+                ("--writers", "1"),
+                ("--writers", "15"),
+                ("--long", "--capacity", "16", "--writers", "2"),
+            ):
+                status, found = self.answer(("run", "--setup", "s", *words, "--nodes", "4096", "c"))
+                order = "" if "--long" in words else found[found.rindex("order") :]
+                self.assertEqual((status, found), (0, text + order), (seed, words))
+
     def test_segments(self) -> None:
         setup = b"schema packet\nwidth 1000000\nfilter f *\nask n between f 1000 1003\n"
         drawn = ("synth", "--setup", "s", "--seed", "1")
@@ -831,7 +875,9 @@ class Program(Cases):
         status, text = self.answer(("watch", "--setup", "s", "--every", "0", "c"))
         lines = [it for it in text.splitlines() if it.startswith("alert")]
         early = [it for it in lines if "@" in it]
-        self.assertEqual((status, [it.split()[2] for it in early]), (0, [f"{it}/167772165" for it in range(1, 19)]))
+        self.assertEqual(
+            (status, [it.split()[2] for it in early]), (0, [f"{it}/167772165" for it in range(1, 19)])
+        )
         # With the ninth bucket the first is forgotten, of which a round told before; later rounds come every six.
         self.assertEqual([it.split("@")[1] for it in early], ["8"] * 6 + ["14"] * 6 + ["20"] * 6)
         self.assertEqual(lines[18:], [f"alert u {it}/167772165 60" for it in range(13, 21)])
@@ -857,10 +903,14 @@ class Program(Cases):
         totals = ["at 65538 2", "total a count 65538 sum 3932280"]
         self.assertEqual(lines[-5:], [*totals, "records 65538", "window 0", "alert t 2/8 1"])
         # It is told once; later records of other keys count for nothing too, and those of kept keys go on.
-        self.put(s=setup.replace(b">= 1", b"> 1"), c=HEADER + many + one(70000, 1) + one(9, 1) * 2 + one(70001, 1))
+        self.put(
+            s=setup.replace(b">= 1", b"> 1"), c=HEADER + many + one(70000, 1) + one(9, 1) * 2 + one(70001, 1)
+        )
         status, text = self.answer(("watch", "--setup", "s", "--every", "0", "--beat", "65541", "c"))
         end = ["crowded a 1 @65541", "alert t 1/9 3 @65541", "at 65541 1", "total a count 65541 sum 3932460"]
-        self.assertEqual((status, text.splitlines()), (0, [*end, "records 65541", "window 0", "alert t 1/9 3"]))
+        self.assertEqual(
+            (status, text.splitlines()), (0, [*end, "records 65541", "window 0", "alert t 1/9 3"])
+        )
 
     def test_questions_of_a_watch_see_its_window(self) -> None:
         setup = (
