@@ -2,6 +2,7 @@
  * the records of numbers, or frames as rows without values, and knows the questions `list *` and `total`. It finds one fault in a setup,
  * a line without a space (code 3). It has one lock, never lacks memory, and is no measure of anything. CONFLUO_STAND_IN_VERSION gives it
  * another version. */
+#define _POSIX_C_SOURCE 200809L
 #include "confluo.h"
 #include <pthread.h>
 #include <stdio.h>
@@ -65,7 +66,8 @@ static uint32_t read_setup(shared *log, const uint8_t *setup, size_t length) {
         *end = saved;
         if (!strcmp(words[0], "schema")) {
             log->is_packets = strcmp(words[1], "records") != 0;
-            for (char *it = strtok(words[2], ","); it && log->attributes < MOST; it = strtok(NULL, ",")) {
+            char *rest = NULL; /* strtok would share it with the threads of other logs */
+            for (char *it = strtok_r(words[2], ",", &rest); it && log->attributes < MOST; it = strtok_r(NULL, ",", &rest)) {
                 thing *to = &log->attribute[log->attributes++];
                 sscanf(it, "%32[^:]:u%u", to->name, &to->kind);
             }

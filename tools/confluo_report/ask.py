@@ -15,7 +15,7 @@ from . import program
 from .addresses import Again, Answer, Asker, Ranked, both_families, whole_addresses
 from .details import details_of, details_of_all, dumped_values, split_rows
 from .doubled import Asker as PairAsker
-from .doubled import Doubled, doubled, doubled_lines
+from .doubled import Doubled, Firsts, Listed, doubled, doubled_lines
 from .errors import Complaint
 from .explain import Case, explain
 from .expressions import Attribute
@@ -35,8 +35,10 @@ from .questions import (
     answers_of,
     by_width,
     is_question,
+    listed_of,
     name_of,
     parse_question,
+    second_of,
     whole_of,
     write_setup,
 )
@@ -350,7 +352,9 @@ def _answer(job: Job, queries: list[Query], files: Files, style: Style, most: in
         if ranked:
             answered.ranked[at] = ranked
         if it.second:
-            answered.doubled[at] = doubled(it, _pair_asker_of(job, it, files))
+            answered.doubled[at] = doubled(
+                it, _firsts(job, answered, at, files), _pair_asker_of(job, it, files)
+            )
         if it.is_paired:
             answered.paired[at] = _paired(job, it, (merged.asks[at], answered.joined(answers_of(at))), files)
     return _with_flows(job, answered, files)
@@ -434,7 +438,14 @@ def _listed(job: Job, expression: str, names: Sequence[str], files: Files) -> It
     text = f"schema {job.schema}\nask q list {expression}\n"
     valid(text)
     bodies = [it.body for named in _reports(job, text, *files) for it in named.report.asks]
-    rows: Iterable[set[int]] = (set(it.rows) for it in bodies if isinstance(it, Found))
+    return _dumped(job, [it for it in bodies if isinstance(it, Found)], names, files)
+
+
+def _dumped(
+    job: Job, found: Sequence[Found], names: Sequence[str], files: Files
+) -> Iterator[tuple[int, ...]]:
+    """These values of the packets that each report lists, which `confluo dump` prints."""
+    rows: Iterable[set[int]] = (set(it.rows) for it in found)
     if job.as_one:
         (all_rows,) = rows
         rows = split_rows(files[1], sorted(all_rows), job.may_be_cut)
@@ -454,26 +465,32 @@ def _values(job: Job, query: Query, expression: str, files: Files) -> dict[int, 
     return {address: it[place] for address, it in parts.items()}
 
 
+def _firsts(job: Job, answered: Answered, at: int, files: Files) -> Firsts:
+    """What the first run says for the question of that place, which is over two attributes."""
+    names = (name_of(at), second_of(at), listed_of(at))
+    asked, seconds, listed = (answered.joined(it) for it in names)
+    bodies = [body for it in (listed, asked) if it for _, body in it.parts if isinstance(body, Found)]
+    return Firsts(_groups_in(asked), _groups_in(seconds), lambda wanted: _dumped(job, bodies, wanted, files))
+
+
+def _groups_in(joined: Joined | None) -> Sequence[Group]:
+    return joined.body.groups if joined and isinstance(joined.body, Groups) else ()
+
+
 def _pair_asker_of(job: Job, query: Query, files: Files) -> PairAsker:
     """Asks about two attributes."""
 
-    def groups(asked: Sequence[tuple[str, str]]) -> list[Mapping[int, Group]]:
+    def groups(asked: Sequence[tuple[str, str]]) -> list[Sequence[Group]]:
         lines = [f"schema {job.schema}"]
         for at, (key, expression) in enumerate(asked):
             lines += [f"tally t{at} {key} {query.measure} {expression}", f"ask q{at} groups t{at}"]
         text = "\n".join(lines) + "\n"
-        merged = merge(_reports(job, text, *files), valid(text))
-        bodies = [it.body for it in merged.asks if isinstance(it.body, Groups)]
-        return [{it.key: it for it in body.groups} for body in bodies]
+        return list(map(_groups_in, merge(_reports(job, text, *files), valid(text)).asks))
 
-    def timed(expression: str) -> Sequence[Group]:
-        lines = [f"schema {job.schema}", f"width {query.width}", f"filter f {expression}"]
-        lines += [f"aggregate a f {query.measure} by {query.second}", "ask q groups a"]
-        text = "\n".join(lines) + "\n"
-        body = merge(_reports(job, text, *files), valid(text)).asks[0].body
-        return body.groups if isinstance(body, Groups) else ()
+    def listed(expression: str) -> Listed:
+        return lambda wanted: _listed(job, expression, wanted, files)
 
-    return PairAsker(groups, timed, lambda expression, names: _listed(job, expression, names, files))
+    return PairAsker(groups, listed)
 
 
 def again_of(job: Job, query: Query, again: Sequence[Again], files: Files) -> list[Answer]:
@@ -527,7 +544,7 @@ def _one_shown(answered: Answered, query: Query, joined: Joined) -> list[str]:
         return [*lines[:1], lines[1] + count_of(query, answer), *paired_lines(viewer, query, answer)]
     if query.second:
         answer = answered.doubled[answered.queries.index(query)]
-        return lines + doubled_lines(viewer, joined.name, query, answer)
+        return lines + doubled_lines(viewer, query, answer)
     if query.is_of_buckets:
         lines += _buckets(answered, query, joined)
     elif isinstance(joined.body, Top):
@@ -565,7 +582,7 @@ def _has_all(joined: Joined) -> bool:
 
 def _title(viewer: Viewer, query: Query, joined: Joined) -> str:
     body: Body | None = joined.parts[0][1] if len(joined.parts) == 1 else None
-    count = count_text(viewer, body) if isinstance(body, Found) else ""
+    count = count_text(viewer, body) if isinstance(body, Found) and not query.second else ""
     return viewer.style.title(query.text) + count
 
 

@@ -19,18 +19,15 @@ from dataclasses import dataclass
 from ipaddress import IPv4Address
 from typing import Callable, Iterator, Mapping, Sequence
 
-from .conditions import TooLong, program_form
-from .questions import Query
+from .conditions import TooLong
+from .questions import BOTH, WHOLE, Query, beside, parts_of
 from .reports import Group
-from .setups import MOST, PACKETS, PARTS, Setup
-from .show import Viewer, part_text
+from .setups import MOST, PARTS, Setup
+from .show import Viewer, measured_text
 from .tables import marks, table
 from .values import address_text, clock, grouped, unit, utc, value_text
 
 MOST_RUNS = 4
-BOTH, WHOLE = ("src", "dst"), ("src6", "dst6")
-IPV6 = "kind>=1 and etype==0x86dd"
-NO_IPV6, OTHERS = "kind>=1 and etype!=0x86dd", "kind==0 or etype==0x86dd"
 ETYPE = 0x86DD
 # A value: of IPv4 and of all other attributes 4, of IPv6 6, of packets that are neither 7, and the number.
 Cell = tuple[int, int]
@@ -40,14 +37,26 @@ Quad = tuple[int, int, int, int]
 Known = dict[Pair, Quad]
 
 
+# Of packets that were listed, the values of these attributes.
+Listed = Callable[[Sequence[str]], Iterator[tuple[int, ...]]]
+
+
+@dataclass(frozen=True)
+class Firsts:
+    """What the first run says of the two expressions of `parts_of`: the groups of the first attribute, or of time and the second; those of
+    the second; and the packets that are listed."""
+
+    groups: Sequence[Group]
+    seconds: Sequence[Group]
+    listed: Listed
+
+
 @dataclass(frozen=True)
 class Asker:
     """Asks the program: `groups` for all values of attributes within expressions, at most 16 at once; `listed` for those of each packet."""
 
-    groups: Callable[[Sequence[tuple[str, str]]], list[Mapping[int, Group]]]
-    # Of time buckets and the second attribute.
-    timed: Callable[[str], Sequence[Group]]
-    listed: Callable[[str, Sequence[str]], Iterator[tuple[int, ...]]]
+    groups: Callable[[Sequence[tuple[str, str]]], list[Sequence[Group]]]
+    listed: Callable[[str], Listed]
 
 
 @dataclass(frozen=True)
@@ -95,17 +104,11 @@ def _add(known: Known, pair: Pair, quad: Quad) -> None:
     )
 
 
-def _form(query: Query, narrower: str) -> str:
-    """The question's condition and a narrower one."""
-    condition = narrower if query.expression == "*" else f"({query.expression}) and ({narrower})"
-    return program_form(PACKETS["packet6"], condition)
-
-
 class _Search:
     """What is known so far of the packets whose values are single numbers."""
 
-    def __init__(self, query: Query, narrower: str, others: Known, asker: Asker) -> None:
-        self.query, self.narrower, self.asker = query, narrower, asker
+    def __init__(self, query: Query, expression: str, others: Known, asker: Asker) -> None:
+        self.query, self.expression, self.asker = query, expression, asker
         self.known = dict(others)
         # How many different others a value has among packets that were listed.
         self.listed: dict[int, int] = {}
@@ -115,18 +118,12 @@ class _Search:
         self.sides = (query.key, query.second)
         self.is_all = True
 
-    def within(self, narrower: str = "") -> str:
-        both = " and ".join(f"({it})" for it in (self.narrower, narrower) if it)
-        return _form(self.query, both) if both else self.query.expression
-
-    def run(self) -> bool:
+    def run(self, firsts: Sequence[Group], seconds: Sequence[Group]) -> bool:
         """Whether the first rows are known; `is_all` then says whether there are no others."""
-        firsts, seconds = self.asker.groups([(it, self.within()) for it in self.sides])
         side = 1 if len(seconds) < len(firsts) else 0
         if self.query.part == "different" and len(seconds) > MOST_RUNS * MOST["lane"]:
             side = 0
-        values = (firsts, seconds)[side].items()
-        waiting = sorted((-self._bound(side, number, group), number) for number, group in values)
+        waiting = sorted((-self._bound(it), it.key) for it in (firsts, seconds)[side])
         for _ in range(MOST_RUNS):
             waiting = self._that_matter(side, waiting)
             if not waiting:
@@ -146,29 +143,32 @@ class _Search:
         self.is_all = self.is_all and len(found) == len(waiting)
         return found
 
-    def _bound(self, side: int, number: int, group: Group) -> int:
+    def _bound(self, group: Group) -> int:
         """No row with this value has more."""
         if self.query.part == "different":
-            return group.count + self.listed.get(number, 0)
+            return group.count + self.listed.get(group.key, 0)
         return group.greatest if self.query.part == "least" else int(getattr(group, self.query.part))
 
     def _ask(self, side: int, numbers: Sequence[int]) -> None:
         here, there = self.sides[side], self.sides[1 - side]
-        asked = [(there, self.within(f"{here}=={number}")) for number in numbers]
+        asked = [(there, beside(self.expression, f"{here}=={number}")) for number in numbers]
         for number, groups in zip(numbers, self.asker.groups(asked)):
-            for other, group in groups.items():
-                pair = ((4, number), (4, other)) if side == 0 else ((4, other), (4, number))
-                _add(self.known, pair, (group.count, group.sum, group.least, group.greatest))
+            for it in groups:
+                pair = ((4, number), (4, it.key)) if side == 0 else ((4, it.key), (4, number))
+                _add(self.known, pair, (it.count, it.sum, it.least, it.greatest))
 
 
-def _listed(query: Query, expression: str, asker: Asker) -> Known:
-    """All pairs of the packets that the expression selects."""
+def _added(query: Query, listed: Listed) -> Known:
+    """All pairs of the packets that were listed."""
     sides = ("ts" if query.is_timed_pair else query.key, query.second)
     names = [it for side in sides for it in _names(side)]
     wanted = list(dict.fromkeys([*names, "kind", "etype", query.measure]))
+    is_of_six = any(it in WHOLE for it in sides)
     known: Known = {}
-    for values in asker.listed(expression, wanted):
+    for values in listed(wanted):
         named = dict(zip(wanted, values))
+        if is_of_six and not (named["kind"] and named["etype"] == ETYPE):
+            continue
         first, second = (_cell(side, named) for side in sides)
         if query.is_timed_pair:
             first = 4, named["ts"] // query.width
@@ -195,38 +195,24 @@ def _cell(key: str, named: Mapping[str, int]) -> Cell:
     return 6, (named[high] << 64) + named[f"{high}_low"]
 
 
-def doubled(query: Query, asker: Asker) -> Doubled:
+def doubled(query: Query, firsts: Firsts, asker: Asker) -> Doubled:
     """The first rows of a question over two attributes."""
-    keys = (query.key, query.second)
-    if any(it in WHOLE for it in keys):
-        known = _listed(query, _form(query, IPV6), asker)
+    expression, listed = parts_of(query)
+    known = _added(query, firsts.listed) if listed else dict[Pair, Quad]()
+    if not expression:
         return _answer(query, known, True)
     if query.is_timed_pair:
-        return _answer(query, _timed(query, asker), True)
-    narrower, others = "", dict[Pair, Quad]()
+        for it in firsts.groups:
+            assert it.by is not None
+            known[(4, it.key), (4, it.by)] = (it.count, it.sum, it.least, it.greatest)
+        return _answer(query, known, True)
+    search = _Search(query, expression, known, asker)
     try:
-        if any(it in BOTH for it in keys):
-            narrower, others = NO_IPV6, _listed(query, _form(query, OTHERS), asker)
-        search = _Search(query, narrower, others, asker)
-        if search.run():
+        if search.run(firsts.groups, firsts.seconds):
             return _answer(query, search.known, search.is_all)
     except TooLong:
         pass
-    return _answer(query, _listed(query, query.expression, asker), True)
-
-
-def _timed(query: Query, asker: Asker) -> Known:
-    """All time buckets with values beside them."""
-    try:
-        is_of_both = query.second in BOTH
-        known = _listed(query, _form(query, OTHERS), asker) if is_of_both else dict[Pair, Quad]()
-        groups = asker.timed(_form(query, NO_IPV6) if is_of_both else query.expression)
-    except TooLong:
-        return _listed(query, query.expression, asker)
-    for it in groups:
-        assert it.by is not None
-        known[(4, it.key), (4, it.by)] = (it.count, it.sum, it.least, it.greatest)
-    return known
+    return _answer(query, _added(query, asker.listed(query.expression)), True)
 
 
 def _answer(query: Query, known: Known, is_all: bool) -> Doubled:
@@ -258,11 +244,10 @@ def texts_of(setup: Setup, query: Query, row: Row, time: Callable[[int], str] = 
     return [cell_text(setup, key, cell) for key, cell in zip((query.key, query.second), row.cells)]
 
 
-def doubled_lines(viewer: Viewer, name: str, query: Query, answer: Doubled) -> list[str]:
+def doubled_lines(viewer: Viewer, query: Query, answer: Doubled) -> list[str]:
     """The table of the first rows."""
     setup = viewer.setup
-    question = setup.question(name) if setup else None
-    assert setup and question and question.lane
+    assert setup
     is_different = query.part == "different"
     is_all = answer.is_all and query.verb != "over"
     noted = marks([it.value for it in answer.rows], is_all, is_all)
@@ -275,7 +260,7 @@ def doubled_lines(viewer: Viewer, name: str, query: Query, answer: Doubled) -> l
     if is_different:
         heads = [f"different {query.second}", "SYNs" if query.verb == "scans" else viewer.things]
     else:
-        heads = [query.second, part_text(setup, query.part, question.lane)]
+        heads = [query.second, measured_text(setup, query.part, query.measure)]
     first = f"{unit(query.width)} (UTC)" if query.is_timed_pair else query.key
     if query.verb == "over":
         # (by time, so no place is one)

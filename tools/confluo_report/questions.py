@@ -60,6 +60,9 @@ PAIRS = {
         f"{ANSWERS4} || icmp_type==129 && proto==58",
     ),
 }
+# Of two attributes: addresses of both families, and of IPv6; and the packets whose addresses are single numbers, or not.
+BOTH, WHOLE = ("src", "dst"), ("src6", "dst6")
+IPV6, NO_IPV6, OTHERS = "kind>=1 and etype==0x86dd", "kind>=1 and etype!=0x86dd", "kind==0 or etype==0x86dd"
 MOST_TOP = 1000
 # The tool's own questions: the buckets with a packet, and by `schema packet` what is not parsed.
 SPAN = "span"
@@ -307,6 +310,28 @@ def _of_conversations(query: Query, schema: Sequence[Attribute]) -> Query:
     return replace(query, key="flow", expression=narrowed(query, narrower))
 
 
+def parts_of(query: Query) -> tuple[str, str]:
+    """Of a question over two attributes the expressions of the packets whose values are single numbers, and of those that must be listed.
+
+    Where there are none of a kind it is empty.
+    """
+    keys = (query.key, query.second)
+    try:
+        if any(it in WHOLE for it in keys):
+            return "", beside(query.expression, IPV6)
+        if any(it in BOTH for it in keys):
+            return beside(query.expression, NO_IPV6), beside(query.expression, OTHERS)
+    except TooLong:
+        return "", query.expression
+    return query.expression, ""
+
+
+def beside(expression: str, narrower: str) -> str:
+    """Both conditions, in the program's form."""
+    condition = narrower if expression == "*" else f"({expression}) and ({narrower})"
+    return program_form(PACKETS["packet6"], condition)
+
+
 def _of_two(query: Query, second: str, schema: Sequence[Attribute]) -> Query:
     """With both attributes, which are numbers."""
     if tuple(schema) != PACKETS["packet6"]:
@@ -430,14 +455,17 @@ def _ask(writer: _Writer, query: Query, width: int, every: bool) -> str:
     if query.is_ranked:
         tally = writer.thing("tally", f"{query.key} {query.measure} {query.expression}")
         return f"top {tally} {query.bound} {MOST_TOP if every else query.count}"
-    if query.is_timed_pair:
-        lane = writer.thing("filter", query.expression)
+    if query.second:
+        expression, listed = parts_of(query) if every else (query.expression, "")
+        if not expression:
+            return f"list {listed}"
+        if not query.is_timed_pair:
+            return f"groups {writer.thing('tally', f'{query.key} {query.measure} {expression}')}"
+        lane = writer.thing("filter", expression)
         lane = writer.thing("aggregate", f"{lane} {query.measure} by {query.second}")
         if query.verb != "over" or every:
             return f"groups {lane}"
         return f"fired {writer.thing('trigger', f'{lane} {query.part} > {query.number}')}"
-    if query.second:
-        return f"groups {writer.thing('tally', f'{query.key} {query.measure} {query.expression}')}"
     if query.is_paired:
         return f"top {writer.thing('tally', f'flow len {query.expression}')} count {MOST_TOP}"
     if query.verb == "list":
@@ -479,6 +507,26 @@ def answers_of(number: int) -> str:
     return f"{name_of(number)}_answers"
 
 
+def _ask_beside(writer: _Writer, number: int, query: Query) -> None:
+    """What else the first run says for a question over two attributes."""
+    expression, listed = parts_of(query)
+    if expression and not query.is_timed_pair:
+        tally = writer.thing("tally", f"{query.second} {query.measure} {expression}")
+        writer.lines.append(f"ask {second_of(number)} groups {tally}")
+    if expression and listed:
+        writer.lines.append(f"ask {listed_of(number)} list {listed}")
+
+
+def second_of(number: int) -> str:
+    """The name of the question for the values of that question's second attribute."""
+    return f"{name_of(number)}_second"
+
+
+def listed_of(number: int) -> str:
+    """The name of the question for the packets of that question that are listed."""
+    return f"{name_of(number)}_listed"
+
+
 def write_setup(
     queries: Sequence[Query], schema: str = "packet6", every: bool = False, extras: bool = False
 ) -> str:
@@ -500,6 +548,8 @@ def write_setup(
             writer.lines.append(f"ask {answers_of(number)} top {tally} count {MOST_TOP}")
         if query.verb == "share":
             writer.lines.append(f"ask {whole_of(number)} total {query.measure} {query.expression}")
+        if query.second and every:
+            _ask_beside(writer, number, query)
     if extras:
         _extras(writer, queries, schema)
     return "\n".join(writer.lines) + "\n"

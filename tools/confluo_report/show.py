@@ -57,7 +57,11 @@ class Viewer:
 
 def part_text(setup: Setup, part: str, lane: Lane) -> str:
     """A part of what a lane measures, as `sum of len`."""
-    measure = setup.schema[lane.measure].name if lane.measure is not None else "?"
+    return measured_text(setup, part, setup.schema[lane.measure].name if lane.measure is not None else "?")
+
+
+def measured_text(setup: Setup, part: str, measure: str) -> str:
+    """The same of an attribute."""
     thing = "packets" if setup.is_packet else "records"
     return (
         f"number of {thing}"

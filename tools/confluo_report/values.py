@@ -4,7 +4,6 @@ from __future__ import annotations
 
 import datetime
 import ipaddress
-from dataclasses import replace
 from typing import Mapping
 
 from .expressions import Attribute
@@ -125,7 +124,18 @@ def key_text(setup: Setup, lane: Lane, value: int, flows: Mapping[int, str] | No
     `flows` are conversations whose endpoints are known.
     """
     assert lane.key is not None
-    attribute = setup.schema[lane.key]
+    return _text_of(setup, lane, setup.schema[lane.key], value, flows)
+
+
+def by_text(setup: Setup, lane: Lane, value: int, flows: Mapping[int, str] | None = None) -> str:
+    """The key beside a bucket of an aggregate by keys, as the same key of a tally."""
+    assert lane.by is not None
+    return _text_of(setup, lane, setup.schema[lane.by], value, flows)
+
+
+def _text_of(
+    setup: Setup, lane: Lane, attribute: Attribute, value: int, flows: Mapping[int, str] | None
+) -> str:
     if setup.source == "packet6" and attribute.name == "flow":
         return (flows or {}).get(value, str(value))
     other = _other_half(setup, lane, attribute.name) if setup.source == "packet6" else None
@@ -133,11 +143,6 @@ def key_text(setup: Setup, lane: Lane, value: int, flows: Mapping[int, str] | No
         return value_text(setup, attribute, value)
     high, low = (other, value) if attribute.name.endswith("_low") else (value, other)
     return address_text((high << 64) + low)
-
-
-def by_text(setup: Setup, lane: Lane, value: int, flows: Mapping[int, str] | None = None) -> str:
-    """The key beside a bucket of an aggregate by keys, as the same key of a tally."""
-    return key_text(setup, replace(lane, key=lane.by), value, flows)
 
 
 def _other_half(setup: Setup, lane: Lane, name: str) -> int | None:

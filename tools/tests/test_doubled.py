@@ -9,20 +9,23 @@ import pathlib
 import random
 import tempfile
 import unittest
-from typing import Iterator, Mapping, Sequence
+from typing import Iterator, Sequence
 from unittest import mock
 
-from support import INCIDENTS, frame, frame6, needs_program, pcap, tool
+from support import EXAMPLES, INCIDENTS, frame, frame6, needs_program, pcap, tool
 
-from confluo_report.doubled import Asker, Cell, doubled
+from confluo_report.doubled import Asker, Cell, Doubled, Firsts, Listed, Row, doubled, texts_of
 from confluo_report.errors import Complaint
 from confluo_report.expressions import parse_expression
-from confluo_report.questions import Query, parse_question
+from confluo_report.questions import Query, parse_question, parts_of
 from confluo_report.reports import Group
-from confluo_report.setups import PACKETS
+from confluo_report.rows import rows_of
+from confluo_report.setups import PACKETS, parse_setup
+from confluo_report.values import utc
 
 SCHEMA = PACKETS["packet6"]
 NAMES = [it.name for it in SCHEMA]
+CAPTURE = EXAMPLES / "dual_stack" / "dual_stack.pcap"
 SIX = 0x20010DB8 << 96
 
 
@@ -56,33 +59,40 @@ def holding(rows: Sequence[dict[str, int]], expression: str) -> Iterator[dict[st
     return (it for it in rows if found.holds(tuple(it[name] for name in NAMES)))
 
 
-def asker_over(query: Query, rows: Sequence[dict[str, int]], runs: list[int]) -> Asker:
-    """Answers as the program does; `runs` has for each run how many lanes it has, 0 for a listing."""
+def grouped(rows: Sequence[dict[str, int]], query: Query, key: str, expression: str) -> list[Group]:
+    """The groups of the rows of the expression, by time too where the question is."""
+    values: dict[tuple[int, ...], list[int]] = {}
+    for it in holding(rows, expression):
+        place = (it["ts"] // query.width, it[key]) if query.width else (it[key],)
+        values.setdefault(place, []).append(it["len"])
+    return [
+        Group(place[0], len(its), sum(its), min(its), max(its), *place[1:]) for place, its in values.items()
+    ]
 
-    def groups(asked: Sequence[tuple[str, str]]) -> list[Mapping[int, Group]]:
+
+def answer_over(query: Query, rows: Sequence[dict[str, int]], runs: list[int]) -> Doubled:
+    """The answer where the program says what it would; `runs` has for each further run how many lanes it has, 0 for a listing."""
+
+    def groups(asked: Sequence[tuple[str, str]]) -> list[Sequence[Group]]:
         runs.append(len(asked))
-        answers = []
-        for key, expression in asked:
-            values: dict[int, list[int]] = {}
-            for it in holding(rows, expression):
-                values.setdefault(it[key], []).append(it[measure])
-            answers.append(
-                {key: Group(key, len(its), sum(its), min(its), max(its)) for key, its in values.items()}
-            )
-        return answers
+        return [grouped(rows, query, *it) for it in asked]
 
-    def listed(expression: str, names: Sequence[str]) -> Iterator[tuple[int, ...]]:
+    def listed(expression: str) -> Listed:
+        return lambda names: (tuple(it[name] for name in names) for it in holding(rows, expression))
+
+    def listed_again(expression: str) -> Listed:
         runs.append(0)
-        return (tuple(it[name] for name in names) for it in holding(rows, expression))
+        return listed(expression)
 
-    def timed(expression: str) -> list[Group]:
-        values: dict[tuple[int, int], list[int]] = {}
-        for it in holding(rows, expression):
-            values.setdefault((it["ts"] // query.width, it[query.second]), []).append(it[measure])
-        return [Group(key, len(its), sum(its), min(its), max(its), by) for (key, by), its in values.items()]
+    expression, others = parts_of(query)
+    key = query.second if query.width else query.key
+    both = [grouped(rows, query, it, expression) if expression else [] for it in (key, query.second)]
+    firsts = Firsts(both[0], both[1], listed(others) if others else no_listing)
+    return doubled(query, firsts, Asker(groups, listed_again))
 
-    measure = "len"
-    return Asker(groups, timed, listed)
+
+def no_listing(_: Sequence[str]) -> Iterator[tuple[int, ...]]:
+    raise AssertionError
 
 
 def cell_of(key: str, row: dict[str, int]) -> Cell:
@@ -152,7 +162,7 @@ class Answers(unittest.TestCase):
             ):
                 for text in QUESTIONS:
                     query = parse_question(text.format(n=draw.choice((1, 3, 10))))
-                    answer = doubled(query, asker_over(query, rows, []))
+                    answer = answer_over(query, rows, [])
                     wanted = expected(query, rows)
                     found = [(-it.value, it.cells) for it in answer.rows]
                     most = len(wanted) if query.verb == "over" else query.count
@@ -173,18 +183,18 @@ class Answers(unittest.TestCase):
             rows += [row | {"dport": port} for port in (range(1, 90) if sender == 7 else (80,))]
         runs: list[int] = []
         query = parse_question("scans 1")
-        answer = doubled(query, asker_over(query, rows, runs))
+        answer = answer_over(query, rows, runs)
         self.assertEqual([(it.cells, it.value, it.packets) for it in answer.rows], [(((4, 7),), 89, 89)])
-        # (packets that are not IPv4, all senders and ports, and the first 16 senders)
-        self.assertEqual(runs, [0, 2, 16])
+        self.assertEqual(runs, [16])
         self.assertFalse(answer.is_all)
 
     def test_conditions_that_are_too_long_are_listed(self) -> None:
         rows = drawn_rows(random.Random(2), 200, 6)
         condition = " or ".join(f"dport=={it}" for it in range(1, 30))
-        query = parse_question(f"top src, dport by bytes where {condition}")
-        answer = doubled(query, asker_over(query, rows, []))
-        self.assertEqual([(-it.value, it.cells) for it in answer.rows], expected(query, rows)[:10])
+        for keys in ("src, dport", "src6, dport", "dport, len", "second, dst"):
+            query = parse_question(f"top {keys} by bytes where {condition}")
+            answer = answer_over(query, rows, [])
+            self.assertEqual([(-it.value, it.cells) for it in answer.rows], expected(query, rows)[:10], keys)
 
 
 BAD = (
@@ -260,6 +270,21 @@ class Runs(unittest.TestCase):
             "  2.  192.0.2.33                  2     2",
         ]
         self.assertEqual((ended.status, ended.out.splitlines()), (0, lines))
+
+    def test_real_traffic_as_in_one_pass_over_all_packets(self) -> None:
+        setup = parse_setup(b"schema packet6\n")
+        rows = [dict(zip(NAMES, it)) for it in rows_of(setup, str(CAPTURE))]
+        texts = [it.format(n=5) for it in QUESTIONS]
+        answers = json.loads(tool("ask", "--json", CAPTURE, *texts[:8]).out)["answers"]
+        answers += json.loads(tool("ask", "--json", CAPTURE, *texts[8:]).out)["answers"]
+        for text, answer in zip(texts, answers):
+            query = parse_question(text)
+            wanted = expected(query, rows)
+            found = [(-it["value"], it["text"]) for it in answer["keys"]]
+            shown = [
+                (value, ", ".join(texts_of(setup, query, Row(cells, 0, 0), utc))) for value, cells in wanted
+            ]
+            self.assertEqual(found, shown if query.verb == "over" else shown[:5], text)
 
     def test_a_flood_by_each_source(self) -> None:
         path = self.folder / "a.pcap"

@@ -6,7 +6,7 @@ ghost use Rattle.cf_log_tests.specs.Writers.{IsWriters};
 use crate::tests::{
     append_at, atom, check, dealt, expr_of, numbers_of, row_of, shape_of, triggers, two_of,
 };
-use cf_fold::Part;
+use cf_fold::{Part, Trigger};
 use cf_plain::{Ask, Body, Plain, suits};
 use cf_query::{finding, groups, measure};
 use cf_row::{Kind, Memory, Op, Row, fits};
@@ -203,6 +203,13 @@ fn questions(alloc: Global) -> Result<Vec<Ask>, Memory> {
     questions.push(Ask::Measure(0, 0, 1))?;
     questions.push(Ask::Top(2, Part::Sum, 3))?;
     questions.push(Ask::Groups(2))?;
+    questions.push(Ask::Groups(3))?;
+    questions.push(Ask::Fired(Trigger {
+        agg: 3,
+        part: Part::Sum,
+        op: Op::Gt,
+        number: 60,
+    }))?;
     questions.push(Ask::Total(2, expr_of(alloc, &[&[atom(1, Op::Lt, 3)]])?))?;
     Ok(questions)
 }
@@ -245,6 +252,7 @@ fn drawn<L: Ledger, R: Abort>(rt: &R, alloc: Global, blank: Blank) -> Result<(),
         (Key::Bucket, Some(2)),
         (Key::Attr(1), None),
         (Key::Attr(1), Some(2)),
+        (Key::BucketBy(1), Some(2)),
     ];
     let shape = shape_of(rt, alloc, &kinds, &lanes, 16, 2)?;
     let plain = Plain::new(alloc, shape.copy(alloc)?);

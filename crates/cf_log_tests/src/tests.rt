@@ -111,6 +111,14 @@ pub(crate) fn two_of<R: Abort>(rt: &R, passes: Vec<WriterPass>) -> (WriterPass, 
     (first, second)
 }
 
+// The key beside a bucket, if there is one.
+fn push_key(numbers: &mut Vec<u64>, key: Option<u64>) -> Result<(), Memory> {
+    if let Some(key) = key {
+        numbers.push(key)?;
+    }
+    Ok(())
+}
+
 // The numbers of a body, in order.
 pub(crate) fn numbers_of(alloc: Global, body: &Body) -> Result<Vec<u64>, Memory> {
     let mut numbers = Vec::new(alloc);
@@ -127,6 +135,7 @@ pub(crate) fn numbers_of(alloc: Global, body: &Body) -> Result<Vec<u64>, Memory>
         Body::Marks(marks) | Body::Tops(marks) => {
             for mark in marks.as_slice() {
                 numbers.push(mark.bucket)?;
+                push_key(&mut numbers, mark.key)?;
                 numbers.push(mark.value)?;
             }
         }
@@ -134,6 +143,7 @@ pub(crate) fn numbers_of(alloc: Global, body: &Body) -> Result<Vec<u64>, Memory>
             for group in groups.as_slice() {
                 let quad = group.quad;
                 numbers.push(group.key)?;
+                push_key(&mut numbers, group.by)?;
                 let four = [quad.count(), quad.sum(), quad.least(), quad.greatest()];
                 numbers.extend_from_slice(&four)?;
             }

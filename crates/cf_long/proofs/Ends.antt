@@ -1,5 +1,5 @@
 -- Records go into the log as they are read.
-use Rattle.std.proofs.Common.{◌≡◌, ◌∙◌, ℕ, ◌+◌, ◌-◌, ◌<◌, ◌≤◌, ◌^◌, Bool, true, false, List, [], ◌++◌, ◌*◌, length, take, Option, Some, None, Ok, Err, refl, sym, ap, subst, arith, length-append}
+use Rattle.std.proofs.Common.{◌≡◌, ◌∙◌, ℕ, ◌+◌, ◌-◌, ◌<◌, ◌≤◌, ◌^◌, Bool, true, false, List, [], ◌++◌, ◌*◌, length, take, Option, Ok, Err, refl, sym, ap, subst, arith, length-append}
 use Rattle.std.proofs.lemmas.List.{length-take}
 use Rattle.cf_outside.specs.Files.{File}
 use Rattle.cf_row.specs.Row.{RowValue}
@@ -8,7 +8,6 @@ use Rattle.cf_intake.specs.Reads.{numbered_on}
 use Rattle.cf_intake.specs.Series.{IsSeriesAt}
 use Rattle.cf_intake.specs.declared.refusal.Halt.{Halt}
 use Rattle.cf_intake.specs.declared.refusal.Halt.TheVariants as halts
-use Rattle.cf_intake.specs.declared.refusal.Refusal.{Refusal}
 use Rattle.cf_intake.specs.declared.refusal.Refusal.TheVariants as refusals
 use Rattle.cf_intake.specs.declared.series.Series.{Series}
 use Rattle.cf_intake.proofs.Numbering.{numbered_append, numbered_length}

@@ -1,6 +1,8 @@
 pub mod ByRow
 pub mod Found
 pub mod Nodes
+pub mod Smaller
+pub mod Takes
 pub mod Longs
 pub mod Texts
 pub mod Setups

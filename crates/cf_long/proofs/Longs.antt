@@ -1,32 +1,29 @@
 -- A log of any length goes on.
-use Rattle.std.proofs.Common.{◌≡◌, ◌∙◌, ℕ, suc, ◌+◌, ◌-◌, ◌*◌, ◌<◌, ◌≤◌, ◌^◌, List, [], ◌++◌, length, map, refl, sym, ap, ap₂, subst, arith, inl, inr, length-append, append-nil, append_assoc, mul-suc, one-mul}
+use Rattle.std.proofs.Common.{◌≡◌, ◌∙◌, ℕ, suc, ◌+◌, ◌-◌, ◌*◌, ◌<◌, ◌≤◌, ◌^◌, List, [], ◌++◌, length, map, refl, sym, ap, ap₂, subst, arith, inl, inr, length-append, append-nil, append_assoc, mul-suc}
 use Rattle.std.specs.List.{All, AllZip}
 use Rattle.std.proofs.lemmas.Bool.{cases_lt}
 use Rattle.std.proofs.lemmas.List.{get_or-append-add, get_or_append_left, length-map}
 use Rattle.cf_row.specs.Row.{RowValue}
 use Rattle.cf_row.specs.declared.row.Entry.{Entry}
-use Rattle.cf_fold.specs.declared.trigger.Trigger.{Trigger}
 use Rattle.cf_history.proofs.Logs.{same_rows}
 use Rattle.cf_shape.specs.Lanes.{ShapeValue}
 use Rattle.cf_shape.specs.Nodes.{distinct}
 use Rattle.cf_plain.specs.Asks.{no_row, row_at, rows_in}
 use Rattle.cf_plain.specs.Segments.{CanJoin}
-use Rattle.cf_plain.specs.declared.ask.Ask.{Ask}
-use Rattle.cf_plain.specs.declared.ask.Ask.TheVariants as asks
 use Rattle.cf_plain.specs.declared.finding.Finding.{Finding}
 use Rattle.cf_segments.proofs.Parts.{part_after}
-use Rattle.cf_segments.specs.Segments.{room_of}
 use Rattle.cf_segments.specs.declared.segments.Sealing.{Sealing}
-use Rattle.cf_load.specs.Planned.{IsPlan, IsSamePlan, asks_of}
+use Rattle.cf_load.specs.Planned.{asks_of}
 use Rattle.cf_load.specs.declared.plan.LivePlan.{LivePlan}
-use Rattle.cf_fill.specs.Filling.{FillingValue, IsFilled, KeepsLog}
 use Rattle.cf_fill.specs.Logs.{IsLogFound, IsUnmade}
 use Rattle.cf_fill.specs.declared.log.Unmade.{Unmade}
 use Rattle.cf_long.specs.ByRow.{AreNumbered, IsFoundWithin, by_row}
 use Rattle.cf_long.specs.Found.{found_in, joined_each}
+use Rattle.cf_long.specs.Growing.{GrowingValue, HasTaken, IsSmaller, TakesMore, count_in}
 use Rattle.cf_long.specs.Longs.{HaveNodes, IsLetGo, IsLong, LongValue, MayFollow, TakesSome, count_of, shape_in}
 use Rattle.cf_long.proofs.ByRow.{all_told, each_within}
 use Rattle.cf_long.proofs.Found.{can_join_each, joined_in}
+use Rattle.cf_long.proofs.Takes.{taken_count}
 use Rattle.cf_long.proofs.Nodes.{few_both, unmade_behind}
 
 -- Rows that are numbered one by one.
@@ -79,20 +76,12 @@ module _ (shape : ShapeValue) (plan : LivePlan) (rows : List RowValue) (sealing 
     nodes = made.few_nodes;
   }
 
--- plans that ask the same
-pub same_asks : (plan other : LivePlan) → IsSamePlan plan other → asks_of other ≡ asks_of plan
-same_asks plan other same =
-    ap₂ (λ (qs : List Ask) (ts : List Trigger). qs ++ map (λ (t : Trigger). asks.Fired t) ts) same.asks same.triggers
-
 module _ (long : LongValue) (rows : List RowValue) (is : IsLong long rows) where
   abbrev shape : ShapeValue
   shape = shape_in long
 
-  pub room_is : room_of long.filling.segments ≡ shape.capacity
-  room_is = ap (λ (n : ℕ). n * shape.capacity) is.one ∙ one-mul shape.capacity
-
-  pub here_count : long.filling.count ≡ length is.here
-  here_count = let counted = is.filled.count_is in let room = room_is in let low = is.within in omega (arith, counted, room, low)
+  pub here_count : count_in long.segment ≡ length is.here
+  here_count = taken_count long.plan long.segment is.here is.taken
 
   pub all_long : length rows ≡ length is.gone + length is.here
   all_long = ap (λ (rs : List RowValue). length rs) is.rows_are ∙ length-append is.gone is.here
@@ -103,9 +92,6 @@ module _ (long : LongValue) (rows : List RowValue) (is : IsLong long rows) where
   pub count_few : count_of long < 2 ^ 32
   count_few = let few = is.few in let count = counted in omega (arith, few, count)
 
-  pub fits_segment : long.filling.count ≤ room_of long.filling.segments
-  fits_segment = let here = here_count in let room = room_is in let low = is.within in omega (arith, here, room, low)
-
   -- those of the segment are numbered on
   pub here_numbered : AreNumbered long.gone is.here
   here_numbered =
@@ -113,10 +99,7 @@ module _ (long : LongValue) (rows : List RowValue) (is : IsLong long rows) where
       (numbered_behind 0 is.gone is.here (subst (λ (rs : List RowValue). AreNumbered 0 rs) is.rows_are is.numbered))
 
   abbrev IsFoundHere : List Finding → Type 0
-  IsFoundHere more = IsLetGo shape long.filling.loader.plan is.here more
-
-  more_are : (more : List Finding) → IsFoundHere more → more ≡ found_in shape (asks_of long.plan) is.here
-  more_are more let_go = let_go.found_are ∙ ap (λ (qs : List Ask). found_in shape qs is.here) (same_asks long.plan long.filling.loader.plan is.same)
+  IsFoundHere more = IsLetGo shape long.plan is.here more
 
   pub can_join : (more : List Finding) → IsFoundHere more → AllZip (CanJoin long.gone) long.found more
   can_join more let_go =
@@ -124,7 +107,7 @@ module _ (long : LongValue) (rows : List RowValue) (is : IsLong long rows) where
       let few = is.few in
       subst (λ (n : ℕ). AllZip (CanJoin n) long.found more) (sym is.gone_count)
       (subst (λ (fs : List Finding). AllZip (CanJoin (length is.gone)) fs more) (sym is.let_go.found_are)
-      (subst (λ (fs : List Finding). AllZip (CanJoin (length is.gone)) (found_in shape (asks_of long.plan) is.gone) fs) (sym (more_are more let_go))
+      (subst (λ (fs : List Finding). AllZip (CanJoin (length is.gone)) (found_in shape (asks_of long.plan) is.gone) fs) (sym let_go.found_are)
       (can_join_each shape is.gone is.here (omega (arith, all, few)) (asks_of long.plan))))
 
   -- what is found in all rows
@@ -133,7 +116,7 @@ module _ (long : LongValue) (rows : List RowValue) (is : IsLong long rows) where
   all_found more all let_go joined =
       joined
       ∙ (ap (λ (n : ℕ). joined_each n long.found more) is.gone_count
-      ∙ (ap₂ (λ (fs gs : List Finding). joined_each (length is.gone) fs gs) is.let_go.found_are (more_are more let_go)
+      ∙ (ap₂ (λ (fs gs : List Finding). joined_each (length is.gone) fs gs) is.let_go.found_are let_go.found_are
       ∙ joined_in shape is.gone is.here (asks_of long.plan)))
 
   all_nodes : (more : List Finding) → IsFoundHere more → HaveNodes shape (is.gone ++ is.here)
@@ -153,15 +136,14 @@ module _ (long : LongValue) (rows : List RowValue) (is : IsLong long rows) where
       subst (λ (rs : List RowValue). IsUnmade shape rs why) (sym is.rows_are) (unmade_behind shape is.segments is.gone is.here why is.whole unmade)
 
   -- a full segment was let go, and an empty one took its place
-  pub turned : (next : FillingValue) (more all : List Finding) (gone : ℕ) → shape.capacity ≤ long.filling.count
-      → next.segments.shape ≡ shape → next.segments.most ≡ 1
-      → IsSamePlan long.plan next.loader.plan → IsFilled next [] → IsFoundHere more → all ≡ joined_each long.gone long.found more
-      → gone ≡ long.gone + long.filling.count
-      → IsLong (record { plan = long.plan; filling = next; found = all; gone = gone }) rows
-  turned next more all gone full same one plan filled let_go joined count =
+  pub turned : (next : GrowingValue) (small : ShapeValue) (more all : List Finding) (gone : ℕ) → shape.capacity ≤ count_in long.segment
+      → next.shape ≡ shape → IsSmaller shape small → HasTaken long.plan next [] → IsFoundHere more → all ≡ joined_each long.gone long.found more
+      → gone ≡ long.gone + count_in long.segment
+      → IsLong (record { plan = long.plan; small = small; segment = next; found = all; gone = gone }) rows
+  turned next small more all gone full same smaller taken let_go joined count =
       let n = shape.capacity in
       let here = here_count in
-      let low = is.within in
+      let low = is.taken.within in
       let before = is.gone_count in
       let sum = length-append is.gone is.here in
       let was = is.whole in
@@ -170,9 +152,7 @@ module _ (long : LongValue) (rows : List RowValue) (is : IsLong long rows) where
       let both : IsLetGo shape long.plan (is.gone ++ is.here) all =
       record { found_are = all_found more all let_go joined; nodes = all_nodes more let_go } in
       record {
-        one = one;
-        plan = subst (λ (h : ShapeValue). IsPlan h long.plan) (sym same) is.plan;
-        same = plan;
+        smaller = subst (λ (h : ShapeValue). IsSmaller h small) (sym same) smaller;
         gone = is.gone ++ is.here;
         here = [];
         rows_are = is.rows_are ∙ sym (append-nil (is.gone ++ is.here));
@@ -181,25 +161,20 @@ module _ (long : LongValue) (rows : List RowValue) (is : IsLong long rows) where
         whole = subst (λ (h : ShapeValue). length (is.gone ++ is.here) ≡ h.capacity * (is.segments + 1)) (sym same)
             (omega (arith, sum, was, step, turn, full, here, low));
         let_go = subst (λ (h : ShapeValue). IsLetGo h long.plan (is.gone ++ is.here) all) (sym same) both;
-        filled = filled;
-        within = omega arith;
+        taken = taken;
         few = is.few;
         numbered = is.numbered;
       }
 
   -- more rows came, for which the segment has room
-  pub came : (next : FillingValue) (more : List RowValue) → KeepsLog long.filling next → IsFilled next (is.here ++ more)
-      → length is.here + length more ≤ shape.capacity → AreNumbered (count_of long) more → count_of long + length more < 2 ^ 32
-      → IsLong (record { plan = long.plan; filling = next; found = long.found; gone = long.gone }) (rows ++ more)
-  came next more keeps filled room numbered few =
-      let same : next.segments.shape ≡ shape = keeps.shape in
-      let sum = length-append is.here more in
+  pub came : (next : GrowingValue) (more : List RowValue) → next.shape ≡ shape → HasTaken long.plan next (is.here ++ more)
+      → AreNumbered (count_of long) more → count_of long + length more < 2 ^ 32
+      → IsLong (record { plan = long.plan; small = long.small; segment = next; found = long.found; gone = long.gone }) (rows ++ more)
+  came next more same taken numbered few =
       let all = length-append rows more in
       let count = counted in
       record {
-        one = keeps.most ∙ is.one;
-        plan = subst (λ (h : ShapeValue). IsPlan h long.plan) (sym same) is.plan;
-        same = subst (λ (p : LivePlan). IsSamePlan long.plan p) (sym keeps.plan) is.same;
+        smaller = subst (λ (h : ShapeValue). IsSmaller h long.small) (sym same) is.smaller;
         gone = is.gone;
         here = is.here ++ more;
         rows_are = ap (λ (rs : List RowValue). rs ++ more) is.rows_are ∙ append_assoc is.gone is.here more;
@@ -207,22 +182,19 @@ module _ (long : LongValue) (rows : List RowValue) (is : IsLong long rows) where
         segments = is.segments;
         whole = subst (λ (h : ShapeValue). length is.gone ≡ h.capacity * is.segments) (sym same) is.whole;
         let_go = subst (λ (h : ShapeValue). IsLetGo h long.plan is.gone long.found) (sym same) is.let_go;
-        filled = filled;
-        within = subst (λ (h : ShapeValue). length (is.here ++ more) ≤ h.capacity) (sym same) (omega (arith, sum, room));
+        taken = taken;
         few = omega (arith, all, count, few);
         numbered = numbered_then 0 rows more is.numbered (subst (λ (n : ℕ). AreNumbered n more) (counted ∙ (let e : length rows ≡ 0 + length rows = omega arith in e)) numbered);
       }
 
 -- a log with no row
-pub none_long : (plan : LivePlan) (filling : FillingValue) (found : List Finding) → filling.segments.most ≡ 1 → IsPlan filling.segments.shape plan
-    → IsSamePlan plan filling.loader.plan → found ≡ found_in filling.segments.shape (asks_of plan) [] → IsFilled filling []
-    → IsLong (record { plan = plan; filling = filling; found = found; gone = 0 }) []
-none_long plan filling found one lawful same none filled =
-    let n = filling.segments.shape.capacity in
+pub none_long : (plan : LivePlan) (small : ShapeValue) (segment : GrowingValue) (found : List Finding) → IsSmaller segment.shape small
+    → HasTaken plan segment [] → found ≡ found_in segment.shape (asks_of plan) []
+    → IsLong (record { plan = plan; small = small; segment = segment; found = found; gone = 0 }) []
+none_long plan small segment found smaller taken none =
+    let n = segment.shape.capacity in
     record {
-      one = one;
-      plan = lawful;
-      same = same;
+      smaller = smaller;
       gone = [];
       here = [];
       rows_are = refl;
@@ -231,22 +203,20 @@ none_long plan filling found one lawful same none filled =
       whole = omega arith;
       let_go = record {
         found_are = none;
-        nodes = λ k. subst (λ (rs : List RowValue). distinct filling.segments.shape rs ≤ filling.segments.shape.writers * filling.segments.shape.nodes)
+        nodes = λ k. subst (λ (rs : List RowValue). distinct segment.shape rs ≤ segment.shape.writers * segment.shape.nodes)
             (sym (part_after n (n * k) [] (omega arith))) (omega arith);
       };
-      filled = filled;
-      within = omega arith;
+      taken = taken;
       few = omega arith;
       numbered = λ place low. absurd (omega (arith, low));
     }
 
 -- A log, after the segment that was full was let go, takes the first of some rows.
 module _ (old v : LongValue) (keep : (rows : List RowValue) → IsLong old rows → IsLong v rows) (count : count_of v ≡ count_of old)
-    (all front rest : List RowValue) (follow : MayFollow old all) (split : front ++ rest ≡ all) (next : FillingValue) (keeps : KeepsLog v.filling next)
-    (fills : (first : List RowValue) → IsFilled v.filling first → IsFilled next (first ++ front))
-    (room : v.filling.count + length front ≤ (shape_in v).capacity) where
+    (all front rest : List RowValue) (follow : MayFollow old all) (split : front ++ rest ≡ all) (next : GrowingValue) (same : next.shape ≡ shape_in v)
+    (takes : TakesMore v.plan v.segment next front) where
   abbrev new : LongValue
-  new = record { plan = v.plan; filling = next; found = v.found; gone = v.gone }
+  new = record { plan = v.plan; small = v.small; segment = next; found = v.found; gone = v.gone }
 
   both : AreNumbered (count_of old) (front ++ rest)
   both = subst (λ (rs : List RowValue). AreNumbered (count_of old) rs) (sym split) follow.numbered
@@ -257,10 +227,9 @@ module _ (old v : LongValue) (keep : (rows : List RowValue) → IsLong old rows 
   pub takes_front : (before : List RowValue) → IsLong old before → IsLong new (before ++ front)
   takes_front before is =
       let at = keep before is in
-      let here = here_count v before at in
       let few = follow.few in
       let size = long_all in
-      came v before at next front keeps (fills at.here at.filled) (omega (arith, room, here))
+      came v before at next front same (takes at.here at.taken)
       (subst (λ (n : ℕ). AreNumbered n front) (sym count) (numbered_before (count_of old) front rest both))
       (omega (arith, few, size, count))
 

@@ -4,7 +4,7 @@ use Rattle.cf_outside.specs.Files.{File}
 use Rattle.cf_packet6.specs.Schema6.{attrs_by}
 use Rattle.cf_row.specs.Row.{RowValue}
 use Rattle.cf_shape.specs.Lanes.{ShapeValue}
-use Rattle.cf_setup.specs.Setups.{SetupValue, shaped}
+use Rattle.cf_setup.specs.Setups.{SetupValue}
 use Rattle.cf_report.specs.Meaning.{final_text}
 use Rattle.cf_intake.specs.Files.{HasLeft}
 use Rattle.cf_intake.specs.Reads.{numbered_on}

@@ -5,28 +5,30 @@ use Rattle.cf_shape.specs.Lanes.{ShapeValue}
 use Rattle.cf_shape.specs.Nodes.{distinct}
 use Rattle.cf_plain.specs.declared.finding.Finding.{Finding}
 use Rattle.cf_segments.specs.Blocks.{block}
-use Rattle.cf_load.specs.Planned.{IsPlan, IsSamePlan, asks_of}
+use Rattle.cf_load.specs.Planned.{asks_of}
 use Rattle.cf_load.specs.declared.plan.LivePlan.{LivePlan}
-use Rattle.cf_fill.specs.Filling.{FillingValue, IsFilled}
 use Rattle.cf_fill.specs.Logs.{IsPlanOf}
 use Rattle.cf_setup.specs.Setups.{SetupValue, shaped}
 use Rattle.cf_long.specs.ByRow.{AreNumbered}
 use Rattle.cf_long.specs.Found.{found_in}
+use Rattle.cf_long.specs.Growing.{GrowingValue, HasTaken, IsSmaller, count_in}
 
--- What is asked, the segment that rows go to, what was found in the rows before it, and how many these are.
+-- What is asked, the shape that the next segment is opened with, the segment that rows go to, what was found in the rows before it, and how
+-- many these are.
 pub record LongValue : Type 0 where
   pub plan : LivePlan
-  pub filling : FillingValue
+  pub small : ShapeValue
+  pub segment : GrowingValue
   pub found : List Finding
   pub gone : ℕ
 
 -- the shape of its segments
 abbrev pub shape_in : LongValue → ShapeValue
-shape_in long = long.filling.segments.shape
+shape_in long = long.segment.shape
 
 -- how many rows came
 abbrev pub count_of : LongValue → ℕ
-count_of long = long.gone + long.filling.count
+count_of long = long.gone + count_in long.segment
 
 -- the shape and the plan are as they were
 pub record KeepsLong (before after : LongValue) : Type 0 where
@@ -45,9 +47,7 @@ pub record IsLetGo (shape : ShapeValue) (plan : LivePlan) (rows : List RowValue)
 -- These rows came, fewer than 2^32 and numbered one by one from 0. The first of them filled whole segments, each of which was asked all
 -- that the plan asks and let go. The others are in the one segment that is kept, or wait for it.
 pub record IsLong (long : LongValue) (rows : List RowValue) : Type 0 where
-  pub one : long.filling.segments.most ≡ 1
-  pub plan : IsPlan (shape_in long) long.plan
-  pub same : IsSamePlan long.plan long.filling.loader.plan
+  pub smaller : IsSmaller (shape_in long) long.small
   pub gone : List RowValue
   pub here : List RowValue
   pub rows_are : rows ≡ gone ++ here
@@ -55,8 +55,7 @@ pub record IsLong (long : LongValue) (rows : List RowValue) : Type 0 where
   pub segments : ℕ
   pub whole : length gone ≡ (shape_in long).capacity * segments
   pub let_go : IsLetGo (shape_in long) long.plan gone long.found
-  pub filled : IsFilled long.filling here
-  pub within : length here ≤ (shape_in long).capacity
+  pub taken : HasTaken long.plan long.segment here
   pub few : length rows < 2 ^ 32
   pub numbered : AreNumbered 0 rows
 

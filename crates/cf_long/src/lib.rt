@@ -5,6 +5,7 @@
 #![tactic(auto)]
 
 mod answers;
+mod growing;
 mod joins;
 mod long;
 mod order;

@@ -6,12 +6,14 @@ ghost use Rattle.cf_segments.specs.Segments.{AllowsSegments};
 ghost use Rattle.cf_load.specs.Planned.{IsPlan};
 ghost use Rattle.cf_fill.specs.Logs.{IsUnmade};
 ghost use Rattle.cf_long.specs.Answered.{AreAnswers};
+ghost use Rattle.cf_long.specs.Growing.{IsSmaller, count_in, waiting_in};
 ghost use Rattle.cf_long.specs.Longs.{HaveNodes, IsLong, IsSomeLong, KeepsLong, MayFollow, TakesSome, count_of, shape_in};
 
 use crate::answers::{Answers, answers_of};
+use crate::growing::Growing;
 use crate::joins::join_each;
-use crate::segment::{let_go, nothings};
-use cf_fill::{Context, Filling, Unmade};
+use crate::segment::nothings;
+use cf_fill::{Context, Unmade};
 use cf_load::LivePlan;
 use cf_outside::Gate;
 use cf_plain::Finding;
@@ -27,8 +29,10 @@ use std::thread::Threads;
 #[derive(Drop)]
 pub struct Long {
     plan: LivePlan,
+    // The shape with which the next segment is opened: with few nodes, until one needed more.
+    small: Shape,
     // The segment that rows go to.
-    filling: Filling,
+    segment: Growing,
     // What each question and then each trigger found in the rows before it.
     found: Vec<Finding>,
     // How many these are.
@@ -40,25 +44,39 @@ impl Model for Long {
 
     ghost Value = { LongValue };
 
-    ghost view = { λ l. record { plan = l.plan; filling = l.filling; found = l.found.items; gone = l.gone } };
+    ghost view = { λ l. record { plan = l.plan; small = l.small; segment = l.segment; found = l.found.items; gone = l.gone } };
+}
+
+// The shape with which the next segment is opened: that of this one, or with all nodes if its rows needed more.
+fn next_small(alloc: Global, small: &Shape, shape: &Shape, has_grown: bool) -> Result<Shape, Memory>
+    requires smaller { IsSmaller shape.now small.now }
+    ensures { IfOk result (λ next. IsSmaller shape.now next) }
+{
+    if has_grown {
+        return shape.copy(alloc);
+    }
+    small.copy(alloc)
 }
 
 impl Long {
-    /// A log with no row, in segments of the shape, of which is asked what the plan says. No live question is asked.
-    pub fn new(alloc: Global, shape: Shape, plan: LivePlan) -> Result<Long, Memory>
-        requires allowed { AllowsSegments shape 1 }
-        requires plan { IsPlan shape plan }
+    /// A log with no row, in segments of the shape, of which is asked what the plan says. No live question is asked. Segments are opened
+    /// with the nodes of the smaller shape, which differs in nothing else, until one of them needs more.
+    pub fn new(alloc: Global, small: Shape, shape: &Shape, plan: LivePlan) -> Result<Long, Memory>
+        requires smaller { IsSmaller shape.now small }
+        requires allowed { AllowsSegments shape.now 1 }
+        requires plan { IsPlan shape.now plan }
         requires quiet { plan.rounds ≡ 0 }
-        ensures shape { IfOk result (λ long. shape_in long ≡ shape) }
+        ensures shape { IfOk result (λ long. shape_in long ≡ shape.now) }
         ensures plan { IfOk result (λ long. long.plan ≡ plan) }
         ensures none { IfOk result (λ long. IsLong long []) }
     {
         let asks = plan.questions(alloc)?;
         let found = nothings(alloc, &asks)?;
-        let filling = Filling::new(alloc, shape, 1, &plan)?;
+        let segment = Growing::new(alloc, &small, shape)?;
         Ok(Long {
             plan,
-            filling,
+            small,
+            segment,
             found,
             gone: 0,
         })
@@ -68,7 +86,7 @@ impl Long {
     pub fn shape(&self) -> &Shape
         ensures { result.now ≡ shape_in self.now }
     {
-        self.filling.shape()
+        self.segment.shape()
     }
 
     /// How many rows came.
@@ -76,7 +94,7 @@ impl Long {
         requires long { IsSomeLong self.now }
         ensures { result ≡ count_of self.now }
     {
-        self.gone + self.filling.count()
+        self.gone + self.segment.count()
     }
 
     /// How many more rows may come.
@@ -90,13 +108,14 @@ impl Long {
     // Whether its segment has as many rows as it may.
     fn is_full(&self) -> bool
         requires long { IsSomeLong self.now }
-        ensures full { result ≡ true → self.now.filling.count ≡ (shape_in self.now).capacity }
-        ensures room { result ≡ false → self.now.filling.count < (shape_in self.now).capacity }
+        ensures full { result ≡ true → count_in self.now.segment ≡ (shape_in self.now).capacity }
+        ensures room { result ≡ false → count_in self.now.segment < (shape_in self.now).capacity }
     {
-        self.filling.count() >= self.filling.shape().capacity()
+        self.segment.count() >= self.segment.shape().capacity()
     }
 
-    // Where its segment is full, asks it all that the plan asks and lets it go. The next one was opened before.
+    // Where its segment is full, asks it all that the plan asks and lets it go. The next one is opened for its first row, so that one table
+    // is there at a time.
     fn make_room<R: Threads + Sync, G: Gate>(
         &mut self,
         context: &Context<'_, R, G>,
@@ -105,18 +124,18 @@ impl Long {
         ensures keeps { KeepsLong self.old self.new }
         ensures long { IfOk result (λ _. (rows : List RowValue) → IsLong self.old rows → IsLong self.new rows) }
         ensures count { IfOk result (λ _. count_of self.new ≡ count_of self.old) }
-        ensures room { IfOk result (λ _. self.new.filling.count < (shape_in self.new).capacity) }
+        ensures room { IfOk result (λ _. count_in self.new.segment < (shape_in self.new).capacity) }
         ensures unmade { IfErr result (λ why. (rows : List RowValue) → IsLong self.old rows → IsUnmade (shape_in self.old) rows why) }
     {
         if !self.is_full() {
             return Ok(());
         }
         let Context { alloc, .. } = *context;
-        let shape = self.filling.shape().copy(alloc)?;
-        let next = Filling::new(alloc, shape, 1, &self.plan)?;
-        let full = mem::replace(&mut self.filling, next);
+        let next = Growing::new(alloc, &self.small, self.segment.shape())?;
+        let full = mem::replace(&mut self.segment, next);
         let count = full.count();
-        let more = let_go(context, full, self.gone)?;
+        let (more, has_grown) = full.let_go(context, &self.plan, self.gone)?;
+        self.small = next_small(alloc, &self.small, self.segment.shape(), has_grown)?;
         let found = mem::replace(&mut self.found, Vec::new(alloc));
         self.found = join_each(alloc, self.gone, found, more)?;
         self.gone += count;
@@ -143,10 +162,10 @@ impl Long {
             → IsUnmade (shape_in self.old) (before ++ rows.old.items) why) }
     {
         self.make_room(context)?;
-        let room = self.filling.shape().capacity() - self.filling.count();
+        let room = self.segment.shape().capacity() - self.segment.count();
         let most = rows.len().min(room as usize);
         let rest = rows.split_off(most)?;
-        self.filling.take_rows(context, rows)?;
+        self.segment.take_rows(context, &self.plan, rows)?;
         *rows = rest;
         Ok(())
     }
@@ -163,7 +182,7 @@ impl Long {
         requires follow { MayFollow self.old rows.old.items }
         ensures keeps { KeepsLong self.old self.new }
         ensures long { IfOk result (λ _. (before : List RowValue) → IsLong self.old before → IsLong self.new (before ++ rows.old.items)) }
-        ensures few { IfOk result (λ _. length self.new.filling.waiting < 4096) }
+        ensures few { IfOk result (λ _. length (waiting_in self.new.segment) < 4096) }
         ensures none { IfOk result (λ _. rows.new.items ≡ []) }
         ensures unmade { IfErr result (λ why. (before : List RowValue) → IsLong self.old before
             → IsUnmade (shape_in self.old) (before ++ rows.old.items) why) }
@@ -188,11 +207,12 @@ impl Long {
         let count = self.count();
         let Long {
             plan,
-            filling,
+            segment,
             found,
             gone,
+            ..
         } = self;
-        let more = let_go(context, filling, gone)?;
+        let (more, _) = segment.let_go(context, &plan, gone)?;
         let all = join_each(alloc, gone, found, more)?;
         Ok(answers_of(alloc, &plan, count, all)?)
     }

@@ -16,6 +16,20 @@ use cf_setup::{Setup, shape_of};
 use std::alloc::Global;
 use std::thread::Threads;
 
+// How many nodes all writers of a segment have together, as long as that is enough.
+const FEW_NODES: u32 = 16_384;
+
+// With how many nodes of a writer a segment is opened. One writer's take less room than the rows that are kept if there are fewer.
+fn few_nodes(writers: u8, nodes: u32) -> u32
+    requires some { 1 ≤ writers }
+    ensures { result ≤ nodes }
+{
+    if writers == 1 {
+        return nodes;
+    }
+    nodes.min(FEW_NODES / u32::from(writers))
+}
+
 /// A log with no row, in segments of so many rows, by that many writers with so many nodes each, of which is asked what the setup asks.
 /// Its live questions are not asked.
 pub fn long_of(
@@ -31,9 +45,10 @@ pub fn long_of(
     requires nodes { nodes ≤ 65536 }
     ensures { IfOk result (λ long. IsLongFor setup.now capacity writers nodes long []) }
 {
+    let small = shape_of(alloc, setup, capacity, writers, few_nodes(writers, nodes))?;
     let shape = shape_of(alloc, setup, capacity, writers, nodes)?;
     let plan = plan_of(alloc, setup, 0)?;
-    Long::new(alloc, shape, plan)
+    Long::new(alloc, small, &shape, plan)
 }
 
 /// The final part of the setup's report over all rows that came. There is none if the rows of some segment need more nodes than a writer

@@ -1,4 +1,4 @@
-use Rattle.std.proofs.Common.{◌∙◌, ◌++◌, Bool, Option, Some, None, Ok, Err, Vec, Global, ap, subst, sym}
+use Rattle.std.proofs.Common.{◌∙◌, ◌++◌, Bool, Option, Ok, Err, Vec, Global, ap, subst, sym}
 use Rattle.cf_row.specs.Row.{RowValue}
 use Rattle.cf_packet6.specs.Schema6.{attrs_by}
 use Rattle.cf_packet6.specs.declared.PacketSchema.{PacketSchema}

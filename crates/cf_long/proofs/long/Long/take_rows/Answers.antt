@@ -2,9 +2,9 @@ use Rattle.std.proofs.Common.{◌≡◌, ◌∙◌, [], ◌∷◌, ◌++◌, Err
 use Rattle.cf_row.specs.Row.{RowValue}
 use Rattle.cf_shape.specs.Lanes.{ShapeValue}
 use Rattle.cf_fill.specs.Logs.{IsUnmade}
-use Rattle.cf_fill.proofs.Filled.{waits_short}
 use Rattle.cf_long.specs.Longs.{shape_in}
 use Rattle.cf_long.proofs.Longs.{takes_all, takes_none, takes_then}
+use Rattle.cf_long.proofs.Takes.{waits_few}
 use Rattle.cf_long.proofs.long.Long.take_rows.Goals as goal
 
 none_left : (rows : List RowValue) → length rows ≡ 0 → rows ≡ []
@@ -41,7 +41,7 @@ returns-clause-long g c = λ before is.
     takes_all c.args.self.now c.loop-self.self c.args.rows.now.items c.loop-self.rows.items before c.loop-self.invariant.takes none is
 
 pub returns-clause-few : goal.returns-clause-few
-returns-clause-few g c = let some = c.loop-self.invariant.some in waits_short c.loop-self.self.filling some.1.here some.1.filled
+returns-clause-few g c = let some = c.loop-self.invariant.some in waits_few c.loop-self.self.plan c.loop-self.self.segment some.1.here some.1.taken
 
 pub returns-in_err-take_some-clause-unmade : goal.returns-in_err-take_some-clause-unmade
 returns-in_err-take_some-clause-unmade g c =
