@@ -1,11 +1,10 @@
 -- What is kept of each lane, as records come and marks are told.
-use Rattle.std.proofs.Common.{◌≡◌, ◌∙◌, ℕ, ◌+◌, ◌<◌, ◌≤◌, suc, zero, Bool, true, false, List, [], ◌∷◌, ◌++◌, length, take, drop, get_or, set, fold, map, All, if◌then◌else◌, refl, sym, ap, subst, inl, inr, arith, append_assoc, add-zero}
+use Rattle.std.proofs.Common.{◌≡◌, ◌∙◌, ℕ, ◌+◌, ◌<◌, ◌≤◌, suc, zero, Bool, true, false, List, [], ◌∷◌, ◌++◌, length, take, drop, get_or, set, fold, map, refl, sym, ap, subst, inl, inr, arith, append_assoc, add-zero}
 use Rattle.std.specs.List.{range_with_len}
 use Rattle.std.proofs.lemmas.Bool.{cases_Bool, cases_lt}
 use Rattle.std.proofs.lemmas.List.{drop_more, get_or_at, get_or_default, length-append, length-map, length-set, length-take-le, set_at, take_more}
 use Rattle.std.proofs.Math.ListN.{get_or-eq_default}
 use Rattle.std.proofs.lemmas.List.Elements.{All-append, All-drop, All-get_or, All-map, All-set, All-take, All-weaker}
-use Rattle.std.proofs.lemmas.List.Sums.{fold_push}
 use Rattle.cf_row.specs.Row.{RowValue}
 use Rattle.cf_fold.specs.declared.trigger.Trigger.{Trigger}
 use Rattle.cf_shape.specs.Lanes.{ShapeValue, has_by, selected_by}

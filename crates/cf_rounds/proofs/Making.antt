@@ -7,7 +7,7 @@ use Rattle.cf_window.specs.Windows.{rows_in_all}
 use Rattle.cf_watch.specs.declared.watched.Watched.{Watched}
 use Rattle.cf_rounds.specs.Held.{HasAsked, HasBeaten, RoundsValue, standing_in, view_in}
 use Rattle.cf_rounds.specs.Lines.{RoundView, beat_text, end_text, is_beat, is_due, live_line, news_lines}
-use Rattle.cf_rounds.specs.Streams.{Standing, after_round, round_text, told, view_of}
+use Rattle.cf_rounds.specs.Streams.{after_round, round_text, told, view_of}
 use Rattle.cf_rounds.proofs.Moving.{of_parts}
 
 -- what a round sees of the window is what it sees of where the stream stands

@@ -1,5 +1,5 @@
 -- A record goes into the window of rounds.
-use Rattle.std.proofs.Common.{◌≡◌, ◌∙◌, ℕ, ◌+◌, ◌-◌, ◌^◌, ◌<◌, ◌≤◌, List, [], ◌∷◌, ◌++◌, length, drop, Bool, true, false, not, ◌&&◌, ◌||◌, nat_le, slice_index_or, refl, sym, ap, ap₂, subst, arith, length-append}
+use Rattle.std.proofs.Common.{◌≡◌, ◌∙◌, ℕ, ◌+◌, ◌-◌, ◌^◌, ◌<◌, ◌≤◌, List, [], ◌∷◌, length, drop, Bool, true, false, not, ◌&&◌, ◌||◌, nat_le, refl, sym, ap, ap₂, subst, arith, length-append}
 use Rattle.std.proofs.lemmas.List.{length-map}
 use Rattle.std.proofs.lemmas.List.Elements.{All-weaker}
 use Rattle.cf_row.specs.Row.{RowValue}
@@ -10,7 +10,7 @@ use Rattle.cf_shape.specs.Lanes.{ShapeValue, has_by}
 use Rattle.cf_watch.specs.Watched.{nothing_watched, watched_count}
 use Rattle.cf_watch.specs.declared.watched.Watched.{Watched}
 use Rattle.cf_window.specs.Held.{HasPushed, WindowValue, count_of, replaced}
-use Rattle.cf_window.specs.Windows.{after_row, drops, goes_in, is_refused, is_small, rows_in_all}
+use Rattle.cf_window.specs.Windows.{after_row, drops, goes_in, is_small, rows_in_all}
 use Rattle.cf_window.specs.declared.window.Pushed.{Pushed}
 use Rattle.cf_window.specs.declared.window.Pushed.TheVariants.{Full, Gone, NeedsDrop, NoNodes}
 use Rattle.cf_window.proofs.Dropping.{out_of}
@@ -18,7 +18,7 @@ use Rattle.cf_window.proofs.Rows.{count_first, rows_dropped, rows_kept}
 use Rattle.cf_rounds.specs.Held.{HasAnswered, HasMoved, IsRounds, RoundsValue, WaitsFor, standing_in}
 use Rattle.cf_rounds.specs.Lanes.{AreCounted, forgets, keeps, none_kept}
 use Rattle.cf_rounds.proofs.Keeping.{none_counted}
-use Rattle.cf_rounds.specs.Streams.{after_record, forces}
+use Rattle.cf_rounds.specs.Streams.{after_record}
 use Rattle.cf_rounds.specs.declared.rounds.Taken.TheVariants as taken
 
 -- The count of a window after a row.

@@ -1,5 +1,5 @@
 -- How streams go on as records come and rounds are made.
-use Rattle.std.proofs.Common.{◌≡◌, ◌∙◌, ℕ, ◌+◌, ◌<◌, ◌≤◌, List, [], ◌∷◌, ◌++◌, length, fold, Bool, true, false, ◌||◌, if◌then◌else◌, nat_lt, refl, sym, ap, subst, inl, inr, append-nil, append_assoc}
+use Rattle.std.proofs.Common.{◌≡◌, ◌∙◌, ◌+◌, List, [], ◌∷◌, ◌++◌, length, fold, Bool, true, false, ◌||◌, if◌then◌else◌, nat_lt, refl, sym, ap, subst, inl, inr, append-nil, append_assoc}
 use Rattle.std.proofs.lemmas.Bool.{cases_Bool}
 use Rattle.cf_row.specs.Row.{RowValue}
 use Rattle.cf_window.specs.Courses.{IsCourse}
@@ -7,7 +7,7 @@ use Rattle.cf_window.specs.Rounds.{Course, Span, came}
 use Rattle.cf_window.specs.Windows.{after_row, drops, rows_in_all}
 use Rattle.cf_window.proofs.Courses.{course_came, course_round, course_start}
 use Rattle.cf_rounds.specs.Held.{IsAt, RoundsValue}
-use Rattle.cf_rounds.specs.Streams.{Standing, Stream, Terms, after_record, after_reads, after_round, begun, comes, course_of, forces, ready_for, round_text, through, was_read, with_round}
+use Rattle.cf_rounds.specs.Streams.{Standing, Stream, Terms, after_record, after_reads, after_round, begun, comes, course_of, forces, round_text, through, was_read, with_round}
 
 -- the record comes, whatever was made before it
 abbrev pub put : Terms → Stream → RowValue → Stream

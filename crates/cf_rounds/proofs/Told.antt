@@ -3,11 +3,9 @@ use Rattle.std.proofs.Common.{◌≡◌, ◌∙◌, ℕ, ◌+◌, ◌<◌, true,
 use Rattle.std.specs.List.{flat_map}
 use Rattle.std.proofs.lemmas.List.{length-map, take_more}
 use Rattle.std.proofs.lemmas.List.Concat.{flat_map-append}
-use Rattle.cf_plain.specs.declared.ask.Ask.{Ask}
 use Rattle.cf_plain.specs.declared.answer.Body.{Body}
-use Rattle.cf_plain.specs.declared.answer.Body.TheVariants as bodies
 use Rattle.cf_report.specs.Answered.{ask_at}
-use Rattle.cf_report.specs.Bodies.{line, number_text, numbers_text, places_in, shown, word_of}
+use Rattle.cf_report.specs.Bodies.{line, number_text, numbers_text, places_in, word_of}
 use Rattle.cf_report.specs.Report.{ask_name}
 use Rattle.cf_setup.specs.Setups.{SetupValue}
 use Rattle.cf_shape.specs.Lanes.{ShapeValue}

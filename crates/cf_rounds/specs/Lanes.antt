@@ -1,5 +1,5 @@
 -- What is kept of each lane of a setup: of an aggregate its whole buckets, with their keys apart if it keeps them so; of another lane nothing.
-use Rattle.std.specs.Prelude.{◌≡◌, ℕ, ◌+◌, ◌≤◌, Bool, List, [], ◌∷◌, length, map, slice_index_or, slice_set, fold, All, false, if◌then◌else◌}
+use Rattle.std.specs.Prelude.{ℕ, ◌+◌, ◌≤◌, Bool, List, [], ◌∷◌, length, map, slice_index_or, slice_set, fold, All, false, if◌then◌else◌}
 use Rattle.std.specs.List.{list_any, range_with_len}
 use Rattle.cf_row.specs.Row.{RowValue}
 use Rattle.cf_fold.specs.declared.trigger.Trigger.{Trigger}

@@ -1,5 +1,5 @@
 -- The lines of a round, and those of a stream's end.
-use Rattle.std.specs.Prelude.{ℕ, ◌+◌, ◌-◌, ◌/◌, ◌^◌, Bool, true, false, ◌&&◌, nat_lt, nat_le, List, [], ◌++◌, length, map, slice_index_or, codes, decimal, if◌then◌else◌}
+use Rattle.std.specs.Prelude.{ℕ, ◌+◌, ◌/◌, ◌^◌, Bool, true, false, ◌&&◌, nat_lt, nat_le, List, [], ◌++◌, length, map, slice_index_or, codes, decimal, if◌then◌else◌}
 use Rattle.std.specs.List.{flat_map, range_with_len}
 use Rattle.cf_row.specs.Row.{RowValue}
 use Rattle.cf_plain.specs.Asks.{eval_rows, is_aggregate}

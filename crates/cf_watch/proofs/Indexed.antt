@@ -1,11 +1,10 @@
 -- Keys and their places.
-use Rattle.std.proofs.Common.{◌≡◌, ℕ, suc, zero, ◌+◌, ◌<◌, true, false, cond, ◌==◌, List, [], ◌∷◌, ◌++◌, length, get_or, set, map, refl, sym, ap, ◌∙◌, inl, inr, arith, Option, Some, None}
+use Rattle.std.proofs.Common.{◌≡◌, ℕ, suc, zero, ◌<◌, true, false, cond, ◌==◌, List, [], ◌∷◌, ◌++◌, length, get_or, set, map, refl, sym, ap, ◌∙◌, inl, inr, arith, Option, Some, None}
 use Rattle.std.proofs.lemmas.Bool.{eq-eqb, ne_eqb, cases_eq, false≢true, or_from, or_parts}
 use Rattle.std.proofs.lemmas.List.{get_or-map, get_or_append_left, length-map, length_push}
 use Rattle.std.proofs.lemmas.List.Folds.{list_any-append, list_any_at}
 use Rattle.std.proofs.Math.Seq.{get_or-append_seam}
 use Rattle.std.specs.BTreeMap.{BTreeMap, get}
-use Rattle.std.specs.List.{list_any}
 use Rattle.std.specs.Option.{MatchOption}
 use Rattle.std.specs.Ordering.{is_eq, nat_cmp}
 use Rattle.cf_watch.specs.Kept.{AreApart, BucketValue, begun, is_kept, is_of, with_record}

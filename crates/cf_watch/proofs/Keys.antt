@@ -1,5 +1,5 @@
 -- Keys of rows that fit are numbers of 64 bits.
-use Rattle.std.proofs.Common.{◌≡◌, ℕ, zero, suc, ◌/◌, ◌<◌, ◌≤◌, ◌^◌, true, false, List, [], ◌∷◌, get_or, map, fold, Option, Some, None, refl, sym, ap, ◌∙◌, inl, inr, arith}
+use Rattle.std.proofs.Common.{◌≡◌, ℕ, zero, suc, ◌/◌, ◌<◌, ◌^◌, true, false, List, [], ◌∷◌, get_or, map, fold, None, refl, sym, inl, inr, arith}
 use Rattle.std.proofs.Math.Nat.{div-le_self}
 use Rattle.std.proofs.lemmas.Bool.{and_parts, cases_order, eq-eqb, false≢true, le-ltb, lt-ltb, ltb-true, ne_eqb}
 use Rattle.std.specs.List.{AllByRecursion}
@@ -11,7 +11,7 @@ use Rattle.cf_row.specs.declared.row.Value.{Value}
 use Rattle.cf_row.specs.declared.row.Value.TheVariants.{Num, Raw}
 use Rattle.cf_row.specs.Row.{Fits, RowValue, is_of_kind, values_fit}
 use Rattle.cf_row.specs.Expr.{number_of}
-use Rattle.cf_row.specs.Times.{number_at, time_of}
+use Rattle.cf_row.specs.Times.{time_of}
 use Rattle.cf_shape.specs.Lanes.{ShapeValue, by_in, by_of, group_key, has_by, key_by, key_of, lane_at}
 use Rattle.cf_shape.specs.declared.lane.Key.{Key}
 use Rattle.cf_shape.specs.declared.lane.Key.TheVariants as keys

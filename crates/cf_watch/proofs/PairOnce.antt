@@ -1,21 +1,20 @@
 -- A key is told once while its bucket is kept, and so is that a bucket is crowded.
-use Rattle.std.proofs.Common.{◌≡◌, ℕ, suc, zero, ◌<◌, Bool, true, false, not, nat_lt, ◌||◌, ◌&&◌, ◌==◌, List, [], ◌∷◌, ◌++◌, length, take, drop, get_or, map, filter, fold, All, refl, sym, ap, ◌∙◌, inl, inr, arith, ◌⊎◌, append-nil, Option, Some, None}
+use Rattle.std.proofs.Common.{◌≡◌, ℕ, suc, zero, ◌<◌, Bool, true, false, not, nat_lt, ◌||◌, ◌&&◌, ◌==◌, List, [], ◌∷◌, ◌++◌, length, take, drop, get_or, map, filter, fold, All, refl, sym, ap, ◌∙◌, inl, inr, arith, ◌⊎◌, append-nil, Some}
 use Rattle.std.proofs.lemmas.Bool.{and_parts, cases_Bool, eq-eqb, eqb-true, false≢true, not-true, or_cases, or_from, or_left, or_parts, or_right}
 use Rattle.std.proofs.lemmas.List.{drop_all, take_all}
 use Rattle.std.proofs.lemmas.List.Sums.{fold-append}
-use Rattle.std.proofs.lemmas.List.Elements.{All-cons, All-contains, All-get_or, All-head, All-map, All-nil, All-tail, All-take, All-weaker}
+use Rattle.std.proofs.lemmas.List.Elements.{All-cons, All-contains, All-get_or, All-head, All-nil, All-tail, All-take, All-weaker}
 use Rattle.std.proofs.lemmas.List.Folds.{Any-from_list_any, list_any-append, list_any_at}
 use Rattle.std.specs.List.{flat_map, list_any}
-use Rattle.std.specs.Option.{option_eq}
 use Rattle.cf_fold.specs.declared.trigger.Trigger.{Trigger}
-use Rattle.cf_plain.specs.Groups.{ascending, key_of_mark}
+use Rattle.cf_plain.specs.Groups.{key_of_mark}
 use Rattle.cf_plain.specs.declared.answer.Fired.{Fired}
 use Rattle.cf_plain.proofs.Grouped.{any_ascending}
-use Rattle.cf_watch.specs.Kept.{AreApart, BucketValue, is_kept, is_of, most_triggers}
+use Rattle.cf_watch.specs.Kept.{AreApart, BucketValue, is_kept, most_triggers}
 use Rattle.cf_watch.specs.Marks.{is_told, is_untold, meets, put_mark, settled_count, with_told}
 use Rattle.cf_watch.specs.New.{is_on}
 use Rattle.cf_watch.specs.Pairs.{ApartValue, AreSeparate, IsApart, has_bucket, is_at}
-use Rattle.cf_watch.specs.PairMarks.{apart_fresh, apart_telling, crowds_on, crowds_told, is_crowd_untold, marks_at, pair_mark, settled_apart, with_crowd_told, with_pairs_told}
+use Rattle.cf_watch.specs.PairMarks.{apart_fresh, apart_telling, crowds_told, is_crowd_untold, marks_at, pair_mark, settled_apart, with_crowd_told, with_pairs_told}
 use Rattle.cf_watch.specs.PairLaws.{HasCrowd, HasMarkOn, PairStep, told, crowds, after_pair_step, after_pair_steps}
 use Rattle.cf_watch.proofs.Distinct.{kept_same}
 use Rattle.cf_watch.proofs.Told.{told_numbers}

@@ -1,17 +1,17 @@
 -- What a step leaves of each bucket whose keys are kept apart.
-use Rattle.std.proofs.Common.{◌≡◌, ℕ, suc, zero, ◌+◌, ◌≤◌, ◌<◌, Bool, true, false, not, nat_le, ◌||◌, ◌&&◌, ◌==◌, ◌⊎◌, List, [], ◌∷◌, ◌++◌, length, take, drop, get_or, map, filter, fold, All, refl, sym, ap, ◌∙◌, inl, inr, arith, Option, Some, None}
-use Rattle.std.proofs.lemmas.Bool.{cases_Bool, cases_eq, cases_lt, eq-eqb, eqb-false, eqb-true, false≢true, le-leb, lt-leb, ne_eqb, not-true, or_cases, or_from, or_left, or_parts, or_right}
-use Rattle.std.proofs.lemmas.List.Elements.{All-append, All-cons, All-contains, All-contains_itself, All-drop, All-filter, All-map, All-nil, All-push, All-take, All-weaker, filter_passes}
-use Rattle.std.proofs.lemmas.List.Folds.{list_any-append, list_any_at}
+use Rattle.std.proofs.Common.{◌≡◌, ℕ, suc, zero, ◌+◌, ◌<◌, true, false, nat_le, ◌==◌, ◌⊎◌, List, [], ◌∷◌, ◌++◌, length, take, drop, get_or, map, filter, fold, All, refl, sym, ap, ◌∙◌, inl, inr, arith, Option, Some, None}
+use Rattle.std.proofs.lemmas.Bool.{cases_Bool, cases_lt, false≢true, not-true, or_cases, or_left, or_right}
+use Rattle.std.proofs.lemmas.List.Elements.{All-append, All-cons, All-contains_itself, All-drop, All-filter, All-map, All-nil, All-push, All-take, All-weaker}
+use Rattle.std.proofs.lemmas.List.Folds.{list_any-append}
 use Rattle.std.proofs.lemmas.List.Quantifiers.{position-Some}
-use Rattle.std.specs.List.{Contains, list_any, position, remove}
+use Rattle.std.specs.List.{Contains, position, remove}
 use Rattle.cf_fold.specs.declared.trigger.Trigger.{Trigger}
-use Rattle.cf_watch.specs.Kept.{AreApart, BucketValue, begun, is_kept, is_of, most_triggers}
-use Rattle.cf_watch.specs.Marks.{is_told, settled_count, with_told}
+use Rattle.cf_watch.specs.Kept.{BucketValue, begun, is_kept, is_of}
+use Rattle.cf_watch.specs.Marks.{settled_count, with_told}
 use Rattle.cf_watch.specs.Pairs.{ApartValue, AreSeparate, IsKeptApart, begun_apart, forgotten_at, has_bucket, has_pair, if_of, is_at, is_elsewhere, most_apart, most_pairs, no_bucket, pair_count, with_key, without}
 use Rattle.cf_watch.specs.PairMarks.{with_crowd_told, with_pairs_told}
 use Rattle.cf_watch.specs.PairLaws.{PairStep, took, told, crowds, after_pair_step, after_pair_steps}
-use Rattle.cf_watch.proofs.Distinct.{kept_same, numbers}
+use Rattle.cf_watch.proofs.Distinct.{kept_same}
 use Rattle.cf_watch.proofs.Once.{IsSized, IsTold}
 use Rattle.cf_watch.proofs.PairsTold.{kept_crowds_told, kept_pairs_told}
 use Rattle.cf_watch.proofs.Placing.{forgets_no_pair, forgets_none, forgets_other, kept_taking_apart, key_bucket, key_numbers}

@@ -1,12 +1,12 @@
 -- Keys and crowded buckets are told.
-use Rattle.std.proofs.Common.{◌≡◌, ℕ, ◌+◌, ◌≤◌, List, [], ◌∷◌, ◌++◌, length, take, drop, map, sum, All, refl, sym, ap, ◌∙◌, arith}
+use Rattle.std.proofs.Common.{◌≡◌, ℕ, ◌≤◌, List, [], ◌∷◌, ◌++◌, length, take, drop, map, sum, All, refl, sym, ap, ◌∙◌, arith}
 use Rattle.std.proofs.lemmas.List.{length-map, map-append, take-append-drop}
 use Rattle.std.proofs.lemmas.List.Elements.{All-append, All-drop, All-map, All-take, All-weaker}
 use Rattle.std.proofs.lemmas.List.Sums.{sum-map}
 use Rattle.cf_fold.specs.declared.trigger.Trigger.{Trigger}
 use Rattle.cf_watch.specs.Kept.{BucketValue}
 use Rattle.cf_watch.specs.Marks.{with_told}
-use Rattle.cf_watch.specs.Pairs.{ApartValue, IsApart, IsKeptApart, most_apart, most_pairs, pair_count}
+use Rattle.cf_watch.specs.Pairs.{ApartValue, IsApart, IsKeptApart, pair_count}
 use Rattle.cf_watch.specs.PairMarks.{crowds_told, with_crowd_told, with_pairs_told}
 use Rattle.cf_watch.proofs.Distinct.{apart_same}
 use Rattle.cf_watch.proofs.Separate.{numbers, separate_same}

@@ -1,15 +1,15 @@
 -- A record of a bucket and a key is taken.
-use Rattle.std.proofs.Common.{◌≡◌, ℕ, suc, zero, ◌+◌, ◌≤◌, ◌<◌, Bool, true, false, not, nat_le, ◌||◌, ◌&&◌, ◌==◌, ◌⊎◌, List, [], ◌∷◌, ◌++◌, length, take, drop, get_or, map, filter, All, refl, sym, ap, ◌∙◌, inl, inr, arith, Option, Some, None}
-use Rattle.std.proofs.lemmas.Bool.{and_left, and_right, cases_Bool, cases_lt, cases_eq, eq-eqb, eqb-true, eqb-false, false≢true, le-leb, lt-leb, ne_eqb, not-true, or_from, or_left, or_parts, or_right}
+use Rattle.std.proofs.Common.{◌≡◌, ℕ, suc, zero, ◌+◌, ◌≤◌, ◌<◌, Bool, true, false, not, nat_le, ◌||◌, ◌&&◌, ◌==◌, ◌⊎◌, List, [], ◌∷◌, ◌++◌, length, take, drop, get_or, map, All, refl, sym, ap, ◌∙◌, inl, inr, arith, Option, Some, None}
+use Rattle.std.proofs.lemmas.Bool.{and_right, cases_Bool, cases_lt, eq-eqb, eqb-true, false≢true, le-leb, lt-leb, ne_eqb, or_from, or_left, or_parts}
 use Rattle.std.proofs.lemmas.Iterator.Adapters.{position_from-zero}
-use Rattle.std.proofs.lemmas.List.{length-append, length-map, length_push, get_or_default}
+use Rattle.std.proofs.lemmas.List.{length-map, length_push, get_or_default}
 use Rattle.std.proofs.lemmas.List.Edits.{length-remove}
-use Rattle.std.proofs.lemmas.List.Elements.{All-append, All-cons, All-drop, All-get_or, All-head, All-map, All-nil, All-push, All-tail, All-take, All-weaker}
+use Rattle.std.proofs.lemmas.List.Elements.{All-append, All-cons, All-drop, All-get_or, All-map, All-nil, All-push, All-take, All-weaker}
 use Rattle.std.proofs.lemmas.List.Folds.{Any-from_list_any, list_any_at}
 use Rattle.std.proofs.lemmas.List.Quantifiers.{position-Some}
-use Rattle.std.proofs.lemmas.List.Sums.{sum_by-cons, sum_by-remove, sum_by_push}
+use Rattle.std.proofs.lemmas.List.Sums.{sum_by-remove, sum_by_push}
 use Rattle.std.specs.List.{list_any, position, position_from, remove}
-use Rattle.cf_watch.specs.Kept.{AreApart, BucketValue, begun, is_kept}
+use Rattle.cf_watch.specs.Kept.{BucketValue, begun, is_kept}
 use Rattle.cf_watch.specs.Pairs.{ApartValue, AreSeparate, IsApart, IsKeptApart, begun_apart, forgotten_at, has_bucket, has_pair, if_of, is_at, is_elsewhere, most_apart, most_pairs, no_bucket, pair_count, placing, taking_apart, with_key, without}
 use Rattle.cf_watch.proofs.Distinct.{apart_push, apart_same, numbers}
 use Rattle.cf_watch.proofs.Separate.{elsewhere_lack, one_of, separate_push}

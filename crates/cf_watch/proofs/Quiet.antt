@@ -1,6 +1,6 @@
 -- Keys of which nothing is untold.
 use Rattle.std.proofs.Common.{◌≡◌, ℕ, zero, suc, ◌+◌, ◌<◌, ◌≤◌, Bool, true, false, not, ◌||◌, ◌&&◌, List, [], ◌∷◌, ◌++◌, length, take, get_or, set, map, filter, fold, replicate, refl, sym, ap, ◌∙◌, inl, inr, arith, Option, Some, None}
-use Rattle.std.proofs.lemmas.Bool.{and_cases, and_left, and_parts, cases_Bool, cases_eq, cases_lt, false≢true, or_from, or_parts, true≢false}
+use Rattle.std.proofs.lemmas.Bool.{and_cases, cases_Bool, cases_eq, cases_lt, false≢true, or_from, or_parts}
 use Rattle.std.proofs.Math.ListN.{get_or-eq_default}
 use Rattle.std.proofs.lemmas.List.{get_or-set_other, get_or-set_same, length-set, set-get_or, take_more_set}
 use Rattle.std.proofs.lemmas.List.Folds.{list_any-append}
@@ -11,7 +11,6 @@ use Rattle.cf_watch.specs.Kept.{BucketValue, most_triggers}
 use Rattle.cf_watch.specs.Marks.{is_told, is_untold, meets, put_mark, with_told}
 use Rattle.cf_watch.specs.Pairs.{ApartValue}
 use Rattle.cf_watch.specs.PairMarks.{AreQuiet, marks_at, pair_mark}
-use Rattle.cf_watch.proofs.Told.{told_quad}
 
 none_pass : (test : BucketValue → Bool) (pairs : List BucketValue) → list_any test pairs ≡ false → filter test pairs ≡ []
 none_pass test [] none = refl

@@ -1,15 +1,15 @@
 -- The marks of streams of few buckets and few pairs.
-use Rattle.std.proofs.Common.{◌≡◌, ℕ, suc, zero, ◌+◌, ◌-◌, ◌^◌, ◌≤◌, ◌<◌, Bool, true, false, nat_lt, ◌||◌, ◌&&◌, ◌==◌, List, [], ◌∷◌, ◌++◌, length, take, map, filter, fold, min, All, refl, sym, ap, ap₂, subst, ◌∙◌, inl, inr, arith, append-nil, append_assoc, Option, Some, None}
+use Rattle.std.proofs.Common.{◌≡◌, ℕ, ◌+◌, ◌-◌, ◌^◌, ◌≤◌, ◌<◌, Bool, true, false, nat_lt, ◌&&◌, ◌==◌, List, [], ◌∷◌, ◌++◌, length, map, filter, fold, min, All, refl, sym, ap, ap₂, subst, ◌∙◌, inl, inr, arith, append-nil, append_assoc, Option, Some}
 use Rattle.std.proofs.lemmas.Bool.{cases_Bool, cases_order, cond-false, cond-true, eq-eqb, false≢true, le-ltb, lt-ltb, ne_eqb}
 use Rattle.std.proofs.lemmas.List.{map-append, take_all}
 use Rattle.std.proofs.lemmas.List.Elements.{All-nil, recursion_from_All}
-use Rattle.std.specs.List.{AllByRecursion, flat_map, list_any}
+use Rattle.std.specs.List.{AllByRecursion, flat_map}
 use Rattle.std.specs.Option.{unwrap_or}
 use Rattle.cf_row.specs.Row.{Fits, RowValue}
 use Rattle.cf_fold.specs.Quads.{QuadValue, quad_of}
 use Rattle.cf_fold.specs.Triggers.{fires_of, part_of}
 use Rattle.cf_fold.specs.declared.trigger.Trigger.{Trigger}
-use Rattle.cf_shape.specs.Lanes.{ShapeValue, both_keys, by_in, by_of, group_key, has_by, key_of, lane_at, measure_of, selected_by}
+use Rattle.cf_shape.specs.Lanes.{ShapeValue, both_keys, by_in, group_key, has_by, key_of, lane_at, measure_of, selected_by}
 use Rattle.cf_shape.specs.declared.lane.Key.{Key}
 use Rattle.cf_shape.specs.declared.lane.Key.TheVariants as keys
 use Rattle.cf_plain.specs.Asks.{mark_of, marks_in, marks_over}
@@ -29,7 +29,7 @@ use Rattle.cf_watch.proofs.PairRows.{pair_step, rows_are_pair_steps}
 use Rattle.cf_watch.proofs.Placing.{kept_taking_apart}
 use Rattle.cf_watch.proofs.Totals.{selected}
 use Rattle.cf_watch.proofs.Whole.{buckets_in, has, has_filter, longer, rise_filter, shorter_front}
-use Rattle.cf_watch.proofs.WholePairs.{IsWhole, IsWholeBucket, IsWholePair, all_numbers, number, numbers_at, took_whole}
+use Rattle.cf_watch.proofs.WholePairs.{IsWhole, IsWholeBucket, all_numbers, number, numbers_at, took_whole}
 
 -- a lane that keeps keys apart
 by_there : (key : Key) (row : RowValue) → has_by key ≡ true → by_in key row ≡ Some (unwrap_or (by_in key row) 0)

@@ -1,22 +1,22 @@
 -- Streams of few buckets and few pairs, of which none is forgotten.
-use Rattle.std.proofs.Common.{◌≡◌, ℕ, suc, zero, ◌+◌, ◌*◌, ◌-◌, ◌^◌, ◌≤◌, ◌<◌, Bool, true, false, not, nat_le, ◌||◌, ◌&&◌, ◌==◌, List, [], ◌∷◌, ◌++◌, length, take, drop, get_or, map, filter, fold, min, All, refl, sym, ap, ap₂, subst, ◌∙◌, inl, inr, arith, append-nil, Option, Some, None}
-use Rattle.std.proofs.lemmas.Bool.{cases_Bool, cases_eq, cases_lt, cond-false, cond-true, eq-eqb, eqb-true, false≢true, lt-leb, ne_eqb, or_from, or_left, or_parts}
-use Rattle.std.proofs.lemmas.List.{length-append, length-map, length_push, map-append}
+use Rattle.std.proofs.Common.{◌≡◌, ℕ, suc, zero, ◌+◌, ◌^◌, ◌≤◌, ◌<◌, Bool, true, false, ◌||◌, ◌&&◌, ◌==◌, List, [], ◌∷◌, ◌++◌, length, take, drop, get_or, map, All, refl, sym, ap, ap₂, subst, ◌∙◌, inl, inr, arith, append-nil, Some}
+use Rattle.std.proofs.lemmas.Bool.{cases_Bool, cases_eq, cond-false, cond-true, eq-eqb, false≢true, lt-leb, ne_eqb}
+use Rattle.std.proofs.lemmas.List.{length-map, length_push, map-append}
 use Rattle.std.proofs.lemmas.List.Concat.{flat_map-append}
 use Rattle.std.proofs.lemmas.List.Edits.{length-remove}
 use Rattle.std.proofs.lemmas.List.Elements.{All-append, All-cons, All-drop, All-get_or, All-head, All-map, All-nil, All-push, All-tail, All-take, All-weaker}
 use Rattle.std.proofs.lemmas.List.Folds.{list_any-append, list_any_at}
-use Rattle.std.proofs.lemmas.List.Sums.{fold_push, sum_by_push}
+use Rattle.std.proofs.lemmas.List.Sums.{sum_by_push}
 use Rattle.std.specs.List.{flat_map, list_any, remove}
 use Rattle.cf_fold.specs.Quads.{QuadValue, plus, quad_of}
 use Rattle.cf_shape.specs.Lanes.{both_keys}
-use Rattle.cf_plain.specs.Groups.{ascending, insert_into}
+use Rattle.cf_plain.specs.Groups.{ascending}
 use Rattle.cf_plain.proofs.Grouped.{any_ascending, rise_ascending}
-use Rattle.cf_watch.specs.Kept.{AreApart, BucketValue, begun, is_kept, is_of, with_record}
+use Rattle.cf_watch.specs.Kept.{BucketValue, begun, is_kept, is_of}
 use Rattle.cf_watch.specs.Laws.{Step, took, value_in, values_of}
-use Rattle.cf_watch.specs.Pairs.{ApartValue, AreSeparate, IsApart, IsKeptApart, begun_apart, forgotten_at, has_bucket, has_pair, if_of, is_at, most_apart, most_pairs, no_bucket, pair_count, placing, taking_apart, with_key, without}
+use Rattle.cf_watch.specs.Pairs.{ApartValue, IsKeptApart, begun_apart, has_bucket, has_pair, if_of, is_at, most_apart, most_pairs, no_bucket, pair_count, placing, taking_apart, with_key, without}
 use Rattle.cf_watch.proofs.Distinct.{numbers}
-use Rattle.cf_watch.proofs.Placing.{begun_at, forgets_no_pair, forgets_none, found_place, gone, key_numbers, left_size, no_pair, pair_bucket, pair_of, taken_at}
+use Rattle.cf_watch.proofs.Placing.{begun_at, forgets_no_pair, forgets_none, found_place, gone, key_numbers, left_size, pair_bucket, pair_of, taken_at}
 use Rattle.cf_watch.proofs.Steps.{plus_push}
 use Rattle.cf_watch.proofs.Whole.{ascending_push, bucket_in, buckets_in, eq_swap, grows_by_one, has, has_again, has_push, no_values, or_false, stays_as_long}
 

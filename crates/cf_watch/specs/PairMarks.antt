@@ -1,5 +1,5 @@
 -- The marks of triggers on buckets whose keys are kept apart, which of them were told, and which buckets are crowded.
-use Rattle.std.specs.Prelude.{◌≡◌, ℕ, ◌-◌, ◌/◌, ◌%◌, ◌^◌, Bool, true, false, not, ◌&&◌, ◌||◌, nat_lt, ◌==◌, List, ◌++◌, length, take, drop, map, filter, min, slice_index_or, Option, Some, None}
+use Rattle.std.specs.Prelude.{◌≡◌, ℕ, ◌-◌, ◌/◌, ◌%◌, ◌^◌, Bool, false, not, ◌&&◌, ◌||◌, nat_lt, ◌==◌, List, ◌++◌, length, take, drop, map, filter, min, slice_index_or, Option, Some, None}
 use Rattle.std.specs.List.{flat_map, list_any, range_with_len}
 use Rattle.cf_fold.specs.Triggers.{part_of}
 use Rattle.cf_fold.specs.declared.trigger.Trigger.{Trigger}

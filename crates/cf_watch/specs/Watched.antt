@@ -1,5 +1,5 @@
 -- What is kept of a lane: whole buckets, or buckets whose keys are kept apart.
-use Rattle.std.specs.Prelude.{ℕ, Bool, true, false, ◌&&◌, List, [], if◌then◌else◌}
+use Rattle.std.specs.Prelude.{ℕ, Bool, ◌&&◌, List, [], if◌then◌else◌}
 use Rattle.cf_row.specs.Row.{RowValue}
 use Rattle.cf_fold.specs.declared.trigger.Trigger.{Trigger}
 use Rattle.cf_shape.specs.Lanes.{ShapeValue, key_of, selected_by}

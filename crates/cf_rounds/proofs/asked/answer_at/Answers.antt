@@ -1,7 +1,6 @@
 use Rattle.std.proofs.Common.{ap, arith, length, subst, sym, ◌∙◌}
 use Rattle.cf_plain.specs.Asks.{Suits}
 use Rattle.cf_shape.specs.Lanes.{ShapeValue}
-use Rattle.cf_report.specs.Answered.{ask_at}
 use Rattle.cf_rounds.specs.Held.{view_in}
 use Rattle.cf_rounds.proofs.Suited.{near_ok}
 use Rattle.cf_rounds.proofs.asked.answer_at.Goals as goal

@@ -3,7 +3,7 @@ use Rattle.std.specs.List.{flat_map, range_with_len}
 use Rattle.cf_plain.specs.declared.answer.Fired.{Fired}
 use Rattle.cf_report.specs.Bodies.{line}
 use Rattle.cf_report.specs.Report.{alert_lines_at}
-use Rattle.cf_window.specs.Held.{WindowValue, count_of}
+use Rattle.cf_window.specs.Held.{count_of}
 use Rattle.cf_rounds.specs.Held.{view_in}
 use Rattle.cf_rounds.specs.Lanes.{marks_by}
 use Rattle.cf_rounds.specs.Lines.{final_line}

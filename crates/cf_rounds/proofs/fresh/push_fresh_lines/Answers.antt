@@ -3,7 +3,6 @@ use Rattle.std.specs.List.{flat_map}
 use Rattle.cf_lemmas.proofs.Ranges.{step_range}
 use Rattle.cf_fold.specs.declared.trigger.Trigger.{Trigger}
 use Rattle.cf_plain.specs.declared.answer.Fired.{Fired}
-use Rattle.cf_report.specs.Report.{trigger_name}
 use Rattle.cf_watch.specs.declared.watched.Watched.{Watched}
 use Rattle.cf_watch.specs.Watched.{watched_fresh}
 use Rattle.cf_rounds.specs.Lanes.{AreCounted, fresh_at, kept_at, told_by, told_first, trigger_at}

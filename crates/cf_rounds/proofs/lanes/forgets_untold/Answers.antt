@@ -3,7 +3,7 @@ use Rattle.std.specs.List.{list_any, range_with_len}
 use Rattle.cf_watch.specs.Watched.{watched_forgets}
 use Rattle.cf_watch.specs.declared.watched.Watched.{Watched}
 use Rattle.cf_watch.proofs.Told.{any_more, or_here, or_not}
-use Rattle.cf_rounds.specs.Lanes.{forgets_at, kept_at}
+use Rattle.cf_rounds.specs.Lanes.{forgets_at}
 use Rattle.cf_rounds.proofs.Keeping.{lane_at_place}
 use Rattle.cf_rounds.proofs.lanes.forgets_untold.Goals as goal
 use Rattle.cf_rounds.proofs.lanes.forgets_untold.Goals.{then-forgets_untold, else-forgets_untold}

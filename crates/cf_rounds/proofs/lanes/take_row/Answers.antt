@@ -1,6 +1,5 @@
-use Rattle.std.proofs.Common.{◌≡◌, ◌∙◌, ◌+◌, ◌<◌, length, ap, arith}
+use Rattle.std.proofs.Common.{ap, arith}
 use Rattle.cf_watch.specs.Watched.{watched_count}
-use Rattle.cf_rounds.specs.Lanes.{kept_with}
 use Rattle.cf_rounds.proofs.Keeping.{kept_more, set_counted, to_counted}
 use Rattle.cf_rounds.proofs.lanes.take_row.Goals as goal
 

@@ -1,4 +1,4 @@
-use Rattle.std.proofs.Common.{◌≡◌, ◌∙◌, ◌++◌, List, ℕ, ap, arith, string_bytes}
+use Rattle.std.proofs.Common.{◌∙◌, ◌++◌, List, ℕ, ap, arith, string_bytes}
 use Rattle.std.specs.List.{flat_map}
 use Rattle.std.proofs.lemmas.List.{take_all}
 use Rattle.cf_window.specs.Held.{WindowValue}

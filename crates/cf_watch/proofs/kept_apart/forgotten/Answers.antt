@@ -1,4 +1,4 @@
-use Rattle.std.proofs.Common.{◌≡◌, ◌<◌, sym, arith, inl, inr}
+use Rattle.std.proofs.Common.{◌<◌, arith, inl, inr}
 use Rattle.std.proofs.lemmas.Bool.{eq-eqb}
 use Rattle.std.proofs.lemmas.List.Folds.{list_any_at}
 use Rattle.cf_watch.specs.Pairs.{is_at, most_pairs, no_bucket, pair_count}

@@ -1,4 +1,4 @@
-use Rattle.std.proofs.Common.{◌≡◌, ◌∙◌, sym, ap}
+use Rattle.std.proofs.Common.{◌∙◌, sym, ap}
 use Rattle.std.proofs.lemmas.List.{get_or_default}
 use Rattle.cf_watch.specs.Kept.{is_kept}
 use Rattle.cf_watch.specs.Pairs.{ApartValue, no_bucket}

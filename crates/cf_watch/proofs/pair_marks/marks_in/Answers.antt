@@ -1,4 +1,4 @@
-use Rattle.std.proofs.Common.{◌≡◌, ◌∙◌, sym, ap, ap₂, get_or, map, filter, fold, ℕ, List}
+use Rattle.std.proofs.Common.{◌≡◌, ◌∙◌, ap, ap₂, map, filter, fold, ℕ, List}
 use Rattle.std.proofs.lemmas.List.{get_or_read}
 use Rattle.cf_plain.specs.declared.answer.Fired.{Fired}
 use Rattle.cf_watch.specs.Kept.{BucketValue}

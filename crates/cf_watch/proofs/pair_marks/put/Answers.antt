@@ -1,8 +1,7 @@
-use Rattle.std.proofs.Common.{◌≡◌, ◌+◌, ◌*◌, ◌^◌, ◌<◌, ◌∙◌, ap, sym, ℕ, arith}
+use Rattle.std.proofs.Common.{◌≡◌, ◌+◌, ◌*◌, ◌^◌, ◌<◌, ◌∙◌, ap, ℕ, arith}
 use Rattle.std.specs.BTreeMap.{insert_entry}
 use Rattle.std.specs.Ordering.{nat_cmp}
 use Rattle.cf_plain.specs.declared.answer.Fired.{Fired}
-use Rattle.cf_watch.specs.Marks.{mark_in}
 use Rattle.cf_watch.proofs.Putting.{put_pair}
 use Rattle.cf_watch.proofs.pair_marks.put.Goals as goal
 

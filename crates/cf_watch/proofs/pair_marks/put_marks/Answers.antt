@@ -1,6 +1,5 @@
 use Rattle.std.proofs.Common.{◌≡◌, ◌∙◌, sym, ap, true, false, get_or, map}
 use Rattle.std.proofs.lemmas.List.{get_or_read}
-use Rattle.cf_plain.specs.declared.answer.Fired.{Fired}
 use Rattle.cf_watch.specs.Kept.{BucketValue, begun}
 use Rattle.cf_watch.specs.Marks.{meets, put_mark}
 use Rattle.cf_watch.specs.PairMarks.{pair_fired, pair_mark}

@@ -1,4 +1,3 @@
-use Rattle.std.proofs.Common.{◌<◌, length, arith}
 use Rattle.cf_watch.specs.PairMarks.{with_crowd_told}
 use Rattle.cf_watch.proofs.Told.{told_more}
 use Rattle.cf_watch.proofs.pair_marks.tell_crowds.Goals as goal

@@ -1,4 +1,4 @@
-use Rattle.std.proofs.Common.{◌≡◌, ◌∙◌, ap, map, fold, List}
+use Rattle.std.proofs.Common.{◌∙◌, ap, map, fold, List}
 use Rattle.std.proofs.lemmas.List.{get_or_read}
 use Rattle.cf_plain.specs.declared.answer.Fired.{Fired}
 use Rattle.cf_watch.specs.Marks.{is_untold, put_mark}

@@ -1,4 +1,4 @@
-use Rattle.std.proofs.Common.{◌≡◌, ◌∙◌, ◌≤◌, ◌<◌, ℕ, ap, arith, length, subst, sym}
+use Rattle.std.proofs.Common.{◌∙◌, ◌<◌, ℕ, ap, arith, length, subst, sym}
 use Rattle.std.proofs.lemmas.List.{with_items_is}
 use Rattle.cf_window.specs.Held.{WindowValue, count_of}
 use Rattle.cf_rounds.proofs.Moving.{gone, moved_kept, rounds_kept, rounds_still}

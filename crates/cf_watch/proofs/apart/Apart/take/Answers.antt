@@ -1,4 +1,4 @@
-use Rattle.std.proofs.Common.{◌≡◌, ◌∙◌, ap, List}
+use Rattle.std.proofs.Common.{◌∙◌, ap, List}
 use Rattle.cf_watch.specs.Kept.{BucketValue, begun}
 use Rattle.cf_watch.specs.Pairs.{ApartValue, with_key}
 use Rattle.cf_watch.proofs.Indexed.{key_at, key_found, took_key}

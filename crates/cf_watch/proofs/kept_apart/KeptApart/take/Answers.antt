@@ -1,5 +1,5 @@
-use Rattle.std.proofs.Common.{◌≡◌, ◌+◌, ◌<◌, ◌^◌, ◌∙◌, ap, arith, ℕ, List, subst, sym}
-use Rattle.cf_watch.specs.Pairs.{ApartValue, AreSeparate, IsApart, IsKeptApart, KeptApartValue, forgotten_at, taking_apart, without}
+use Rattle.std.proofs.Common.{◌<◌, ◌^◌, ap, arith}
+use Rattle.cf_watch.specs.Pairs.{KeptApartValue, forgotten_at, without}
 use Rattle.cf_watch.proofs.Placing.{all_apart, kept_taking_apart, left_for}
 use Rattle.cf_watch.proofs.kept_apart.KeptApart.take.Goals as goal
 

@@ -1,4 +1,4 @@
-use Rattle.std.proofs.Common.{◌≡◌, ◌∙◌, List}
+use Rattle.std.proofs.Common.{◌∙◌, List}
 use Rattle.std.proofs.lemmas.List.{with_items_is}
 use Rattle.cf_watch.specs.Pairs.{ApartValue}
 use Rattle.cf_watch.proofs.PairsTold.{kept_pairs_told}

@@ -1,7 +1,7 @@
-use Rattle.std.proofs.Common.{◌≡◌, ◌<◌, ◌∙◌, sym, ap, List, map, false, length, refl}
+use Rattle.std.proofs.Common.{◌≡◌, ◌∙◌, sym, ap, List, map, false, refl}
 use Rattle.std.proofs.lemmas.List.{with_items_is}
 use Rattle.std.specs.List.{list_any}
-use Rattle.cf_watch.specs.Kept.{BucketValue, most_triggers}
+use Rattle.cf_watch.specs.Kept.{BucketValue}
 use Rattle.cf_watch.specs.Marks.{is_untold, with_told}
 use Rattle.cf_watch.specs.Pairs.{IsIndexed}
 use Rattle.cf_watch.proofs.Distinct.{numbers}
