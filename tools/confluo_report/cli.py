@@ -116,7 +116,9 @@ def _show(words: Words) -> int:
     if words.capture and isinstance(read, Report):
         cut = read.truncated
         details = details_of(asks_of(read), read.records, setup, words.capture, words.most, cut)
-    flows = flows_of(read, setup, words.capture) if words.capture and isinstance(read, Report) else {}
+    flows = (
+        flows_of(read, setup, words.capture, words.most) if words.capture and isinstance(read, Report) else {}
+    )
     viewer = Viewer(setup, details.lines, style, words.most, addresses, flows)
     if isinstance(read, Merged):
         lines = merged_shown(viewer, read)
@@ -201,7 +203,7 @@ def _plot(words: Words) -> int:
         merge(named, setup)
     if words.capture and len(named) > 1:
         raise Complaint("--capture is for one report")
-    flows = flows_of(named[0].report, setup, words.capture) if words.capture else {}
+    flows = flows_of(named[0].report, setup, words.capture, words.most) if words.capture else {}
     plot(drawing_of(named, setup, words.width, words.dotted, words.most, flows), pathlib.Path(words.out))
     return 0
 

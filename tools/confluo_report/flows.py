@@ -7,12 +7,14 @@ from dataclasses import dataclass
 from typing import Callable, Collection, Sequence
 
 from .details import packets_at
-from .reports import Ask, Top
-from .setups import MOST, Lane, Setup
+from .reports import Body, Fired, Groups, Report, Top
+from .setups import MOST, Lane, Question, Setup
 
 NAME = "flow"
 # What has no endpoints.
 NONE = "not IP"
+# With more of them beside buckets, these stay numbers: each 64 cost a run over the capture.
+MOST_MARKED = 1000
 # Runs a setup over all captures end to end; the answer is the report's text, which may be long.
 Run = Callable[[str], str]
 FIRST = re.compile(r"(?m)^ask \w+ list [0-9]+: ([0-9]+)")
@@ -26,21 +28,48 @@ class Conversation:
     first: int
 
 
-def is_of_flows(setup: Setup | None, lane: Lane | None) -> bool:
-    """Whether the keys of the lane are conversations."""
-    if setup is None or setup.source != "packet6" or lane is None or lane.key is None:
-        return False
-    return setup.schema[lane.key].name == NAME
+def _is_flow(setup: Setup, attribute: int | None) -> bool:
+    return setup.source == "packet6" and attribute is not None and setup.schema[attribute].name == NAME
 
 
-def numbers_in(setup: Setup | None, asks: Sequence[Ask]) -> set[int]:
-    """The conversations that a report ranks."""
+def numbers_in(setup: Setup | None, report: Report, most: int) -> set[int]:
+    """The conversations that a report names, of a table of groups those of the first `most` (0: of all)."""
     numbers: set[int] = set()
-    for it in asks:
-        question = setup.question(it.name) if setup else None
-        if question and isinstance(it.body, Top) and is_of_flows(setup, question.lane):
-            numbers |= {pair.key for pair in it.body.keys}
-    return numbers
+    marked: set[int] = set()
+    if setup is None:
+        return numbers
+    for ask in report.asks:
+        question = setup.question(ask.name)
+        if question and question.lane:
+            numbers |= _listed(setup, question.lane, ask.body, most)
+        elif question:
+            marked |= _marked(setup, question, ask.body)
+    for it in report.alerts:
+        trigger = setup.trigger(it.trigger)
+        if it.by is not None and trigger and _is_flow(setup, trigger.aggregate.by):
+            marked.add(it.by)
+    return numbers | marked if len(marked) <= MOST_MARKED else numbers
+
+
+def _listed(setup: Setup, lane: Lane, body: Body, most: int) -> set[int]:
+    """Of keys and of groups."""
+    if isinstance(body, Top) and _is_flow(setup, lane.key):
+        return {it.key for it in body.keys}
+    shown = body.groups[: most or None] if isinstance(body, Groups) else ()
+    if _is_flow(setup, lane.by):
+        return {it.by for it in shown if it.by is not None}
+    return {it.key for it in shown} if _is_flow(setup, lane.key) else set()
+
+
+def _marked(setup: Setup, question: Question, body: Body) -> set[int]:
+    """Beside the buckets in which a trigger fires."""
+    if (
+        not isinstance(body, Fired)
+        or not question.trigger
+        or not _is_flow(setup, question.trigger.aggregate.by)
+    ):
+        return set()
+    return {it.by for it in body.marks if it.by is not None}
 
 
 def conversations(

@@ -58,9 +58,9 @@ def addresses_of(report: Report, setup: Setup | None, capture: str) -> Mapping[s
         return {name: _addresses(job, query, body, files) for name, query, body in wanted}
 
 
-def flows_of(report: Report, setup: Setup | None, capture: str) -> Mapping[int, str]:
-    """The conversations that the report ranks, by their endpoints."""
-    numbers = numbers_in(setup, report.asks)
+def flows_of(report: Report, setup: Setup | None, capture: str, most: int) -> Mapping[int, str]:
+    """The conversations that the report names, of a table of groups those of the first `most`, by their endpoints."""
+    numbers = numbers_in(setup, report, most)
     if not numbers:
         return {}
     job = Job([capture], [], may_be_cut=report.truncated is not None)

@@ -239,6 +239,15 @@ class Answers(unittest.TestCase):
         self.assertIn("  1.  TCP 10.0.0.2:40002 > 10.0.1.10:80          74\n", shown)
         other.write_bytes(pcap([(1, frame(7)), (2, frame(8))]))
         self.assertIn("other conversations", tool("show", "--setup", setup, "--capture", other, report).err)
+        setup.write_text(
+            "schema packet6\ntally t flow len *\nfilter f *\naggregate a f len by flow\ntrigger x a count > 0\n"
+            "ask g groups t\nask k groups a\nask w fired x\n"
+        )
+        report.write_text(confluo("run", "--long", "--setup", setup, path).out)
+        shown = tool("show", "--setup", setup, "--capture", path, report).out
+        self.assertEqual(shown.count("TCP 10.0.0.2:40002 > 10.0.1.10:80"), 4, shown)
+        setup.write_text("schema packet6\ntally t flow len *\nask h top t sum 3\n")
+        report.write_text(confluo("run", "--long", "--setup", setup, path).out)
         picture = self.folder / "p.svg"
         drawn = tool("plot", "--setup", setup, "--capture", path, "--out", picture, report)
         if "matplotlib is missing" not in drawn.err:
