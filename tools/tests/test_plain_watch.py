@@ -172,7 +172,9 @@ class Rows(unittest.TestCase):
         kept.take(60, 1, 70000)
         self.assertEqual((list(kept.buckets), kept.crowds()), ([1], []))
         kept.take(60, 1, 70001)
-        self.assertEqual((len(kept.buckets[1]), kept.crowds(), kept.count), (plain_watch.MOST_PAIRS, [1], 65539))
+        self.assertEqual(
+            (len(kept.buckets[1]), kept.crowds(), kept.count), (plain_watch.MOST_PAIRS, [1], 65539)
+        )
         kept.take(60, 5, 0)
         self.assertEqual((list(kept.buckets), kept.crowds()), ([5], []))
         for bucket in range(6, 13):
