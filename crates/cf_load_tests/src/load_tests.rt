@@ -132,6 +132,7 @@ fn check<R: Abort>(rt: &R, loaded: &Loaded, count: u32) {
     }
     let fired = Fired {
         bucket: 0,
+        key: None,
         value: u64::from(count),
     };
     for marks in loaded.alerts() {
