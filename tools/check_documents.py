@@ -6,10 +6,10 @@
 - Each relative link and its anchor exists.
 - docs/full_link.svg is what tools/draw_full_link.py draws, and the table of crates what tools/crate_table.py writes.
 - Each block of docs/LIBRARY.md in Rattle stands in crates/confluo_example.
-- docs/INCIDENTS.md shows each setup of examples/incidents, without its comments, and below each command the stored report.
+- examples/incidents/README.md shows each setup of that folder, without its comments, and below each command the stored report.
 - VERSION is the newest version of CHANGELOG.md, the README has at most 900 words, WATCH.md 900, LIBRARY.md 1,200
   and the rest of docs/ 20,000.
-- With PROGRAM: README.md, docs/GUIDE.md, docs/WATCH.md, examples/*.md and, of confluo-report, docs/INCIDENTS.md are right
+- With PROGRAM: README.md, docs/GUIDE.md, docs/WATCH.md, examples/*.md and, of confluo-report, the incidents are right
   about what commands print. A block whose first line begins with `$ ` is run, with `confluo` being PROGRAM and
   `questions.setup` the setup shown last, and must print the lines below. Blocks with confluo-report are passed over if tools/
   has none, blocks with `confluo watch` if PROGRAM has no such command.
@@ -38,7 +38,7 @@ RUN = [
     "README.md",
     "docs/GUIDE.md",
     "docs/WATCH.md",
-    "docs/INCIDENTS.md",
+    "examples/incidents/README.md",
     "examples/README.md",
     "examples/formats/README.md",
     "examples/dual_stack/README.md",
@@ -111,11 +111,11 @@ def agrees_front(shown, printed):
 
 def wrong_incidents():
     """Setups that the page of incidents does not show, and shown reports that are not the stored ones."""
-    page = ROOT / "docs" / "INCIDENTS.md"
+    page = INCIDENTS / "README.md"
     blocks = list(blocks_of(page))
     for setup in sorted(INCIDENTS.glob("*.setup")):
         if [it for it in setup.read_text().splitlines() if not it.startswith("#")] not in blocks:
-            yield f"docs/INCIDENTS.md does not show {setup.name}"
+            yield f"{page.relative_to(ROOT)} does not show {setup.name}"
     shown = {
         re.search(r"(\w+)\.setup", block[0]).group(1): block[1:]
         for block in blocks
@@ -123,7 +123,7 @@ def wrong_incidents():
     }
     for report in sorted(INCIDENTS.glob("*.report")):
         if not agrees(shown.get(report.stem, []), report.read_text().splitlines()):
-            yield f"docs/INCIDENTS.md does not show {report.name}"
+            yield f"{page.relative_to(ROOT)} does not show {report.name}"
 
 
 def has_watch(program):
@@ -156,7 +156,7 @@ def wrong_sessions(program):
                 if (
                     is_of_tool
                     and not (ROOT / "tools" / "confluo-report").exists()
-                    or name == "docs/INCIDENTS.md"
+                    or name == "examples/incidents/README.md"
                     and not is_of_tool
                     or "confluo watch" in commands
                     and not knows_watch

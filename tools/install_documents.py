@@ -19,16 +19,14 @@ import check_documents  # noqa: E402
 
 ROOT = pathlib.Path(__file__).resolve().parent.parent
 PAGES = ["README.md", "CHANGELOG.md"]
-PAGES += [
-    f"docs/{it}.md"
-    for it in ("GUIDE", "FILTERS", "FORMATS", "INCIDENTS", "WATCH", "LIBRARY", "PROVED", "SPEED")
-]
+PAGES += [f"docs/{it}.md" for it in ("GUIDE", "FILTERS", "FORMATS", "WATCH", "LIBRARY", "PROVED", "SPEED")]
 OTHERS = ["docs/report.schema.json", "docs/full_link.svg"]
 EXAMPLES = [
     "*.md",
     "*.pcap",
     "*.setup",
     "*.report",
+    "incidents/*.md",
     "incidents/*.pcap*",
     "incidents/*.setup",
     "incidents/*.report",

@@ -6,7 +6,7 @@
 Makes each capture anew and compares its bytes with the stored file, and runs `PROGRAM run` over each setup, with one, four and
 fifteen writers. The part of the report up to the last `alert` must be the stored one; what follows depends on threads. What
 `PROGRAM snapshot` prints must be the stored text as it is. Ends with 1 if something differs. tools/check_documents.py compares
-docs/INCIDENTS.md with the stored reports.
+README.md here with the stored reports.
 """
 
 import pathlib
