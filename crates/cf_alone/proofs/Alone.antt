@@ -5,7 +5,7 @@ use Rattle.std.specs.Result.{result_unwrap_or}
 use Rattle.cf_row.specs.Row.{RowValue}
 use Rattle.cf_row.specs.declared.row.Entry.{Entry}
 use Rattle.cf_shape.specs.Lanes.{ShapeValue}
-use Rattle.cf_words.specs.Words.{Spot}
+use Rattle.cf_law.specs.Words.{Spot}
 use Rattle.cf_lemmas.proofs.Truths.{eq_true}
 use Rattle.cf_lemmas.proofs.Lists.{get_push_same}
 use Rattle.cf_law.specs.Passes.{Own, Book, Pass}

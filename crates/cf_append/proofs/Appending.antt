@@ -7,8 +7,8 @@ use Rattle.cf_row.specs.Words.{word_count, spelled}
 use Rattle.cf_shape.specs.Lanes.{ShapeValue}
 use Rattle.cf_shape.specs.Uses.{Use}
 use Rattle.cf_shape.proofs.Used.{plain_at}
-use Rattle.cf_words.specs.Words.{entry}
-use Rattle.cf_words.specs.Law.{Skips}
+use Rattle.cf_law.specs.Words.{entry}
+use Rattle.cf_law.specs.Law.{Skips}
 use Rattle.cf_law.specs.Passes.{Book, Flight, Pass}
 use Rattle.cf_law.specs.Steps.{IsAtRest, IsNext, ticket_of, own_word, book_with_flight, fresh_flight}
 use Rattle.cf_law.specs.Steps.Act.{take_ticket, store_cell}

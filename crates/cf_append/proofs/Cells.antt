@@ -12,8 +12,8 @@ use Rattle.cf_shape.specs.Uses.Use.{version}
 use Rattle.cf_shape.specs.Places.{sizes_of, head_slot}
 use Rattle.cf_shape.proofs.Counts.{count_cons, count_none}
 use Rattle.cf_shape.proofs.Used.{version_at, before_fits}
-use Rattle.cf_words.specs.Words.{Spot, spot, fresh_ticket, has, same_path, version_word, link_to_newest}
-use Rattle.cf_words.specs.Law.{IsWhole, Skips}
+use Rattle.cf_law.specs.Words.{Spot, spot, fresh_ticket, has, same_path, version_word, link_to_newest}
+use Rattle.cf_law.specs.Law.{IsWhole, Skips}
 use Rattle.cf_law.specs.Passes.{Own, Book, Flight, Pass}
 use Rattle.cf_law.specs.Steps.{Knows, IsNext, ticket_of, book_with_flight, book_with_head, book_with_record, own_word, own_lane_word, mine_chain}
 use Rattle.cf_law.specs.Steps.Act.{store_cell, store_head, finish_record}

@@ -5,7 +5,7 @@ use Rattle.cf_lemmas.proofs.Lists.{Has, has_flat, has_map, has_range}
 use Rattle.cf_row.specs.Row.{RowValue}
 use Rattle.cf_shape.specs.Lanes.{ShapeValue, IsShape, selected_by, key_of}
 use Rattle.cf_shape.specs.Nodes.{Node, levels_of, path_of, nodes_in, nodes_for}
-use Rattle.cf_words.specs.Words.{Spot, spot}
+use Rattle.cf_law.specs.Words.{Spot, spot}
 use Rattle.cf_law.specs.Nibbles.{nibbles}
 use Rattle.cf_law.specs.Shapes.{path_in}
 use Rattle.cf_law.proofs.Nibbles.{length-nibbles, drop-nibbles}

@@ -17,9 +17,9 @@ use Rattle.cf_table.specs.Values.{PassValue}
 use Rattle.cf_table.specs.Effects.{HasStepped, IsLawfulStep, cell_effect}
 use Rattle.cf_table.proofs.Mays.{may_cell}
 use Rattle.cf_shape.specs.Uses.{is_measured, cell_words, cells_before}
-use Rattle.cf_words.specs.Words.{Spot, spot, Layout, same_path, link_to_newest, version_word}
-use Rattle.cf_words.proofs.Chains.{same_path_true}
-use Rattle.cf_words.proofs.Cells.{version_to_cell, cell_to_version}
+use Rattle.cf_law.specs.Words.{Spot, spot, Layout, same_path, link_to_newest, version_word}
+use Rattle.cf_law.proofs.Chains.{same_path_true}
+use Rattle.cf_law.proofs.Cells.{version_to_cell, cell_to_version}
 use Rattle.cf_law.specs.Passes.{Own, Book, Pass}
 use Rattle.cf_law.specs.Steps.{IsOwn, mine_chain}
 use Rattle.cf_law.specs.Steps.Act.{load_cell}

@@ -6,8 +6,8 @@ use Rattle.cf_row.specs.Row.{RowValue}
 use Rattle.cf_shape.specs.Lanes.{ShapeValue, IsShape, selected_by, key_of}
 use Rattle.cf_shape.specs.Nodes.{levels_of}
 use Rattle.cf_shape.specs.Places.Slot.{root, body}
-use Rattle.cf_words.specs.Words.{Spot, spot}
-use Rattle.cf_words.proofs.Heads.{get_set_other}
+use Rattle.cf_law.specs.Words.{Spot, spot}
+use Rattle.cf_law.proofs.Heads.{get_set_other}
 use Rattle.cf_law.specs.Nibbles.{nibbles}
 use Rattle.cf_law.specs.Passes.{Pass}
 use Rattle.cf_law.specs.Steps.{IsChild, Knows, Reaches}

@@ -2,7 +2,7 @@
 use Rattle.std.proofs.Common.{◌≡◌, ◌⊎◌, ℕ, ◌<◌, ◌≤◌, inl, inr, List, length, false, take, slice_get, refl, ap, sym, subst, ◌∙◌, arith}
 use Rattle.cf_row.specs.declared.row.Entry.{Entry}
 use Rattle.cf_shape.specs.Lanes.{ShapeValue}
-use Rattle.cf_words.specs.Words.{Spot}
+use Rattle.cf_law.specs.Words.{Spot}
 use Rattle.cf_law.specs.Passes.{Book, Pass, Look}
 use Rattle.cf_law.specs.Steps.{Holds, Knows}
 use Rattle.cf_law.specs.Shapes.{layout}

@@ -2,7 +2,7 @@
 use Rattle.std.proofs.Common.{◌≡◌, ℕ, ◌+◌, ◌-◌, ◌*◌, ◌<◌, ◌≤◌, zero, suc, inl, inr, List, [], ◌∷◌, ◌++◌, length, get_or, set, mul_comm, append-nil, append_assoc, Option, Some, None, MatchOption, slice_get, refl, ap, sym, subst, ◌∙◌, arith}
 use Rattle.cf_shape.specs.Lanes.{ShapeValue}
 use Rattle.cf_shape.specs.Places.{Slot, place, sizes_of}
-use Rattle.cf_words.specs.Words.{Spot, spot, Layout}
+use Rattle.cf_law.specs.Words.{Spot, spot, Layout}
 use Rattle.cf_law.specs.Passes.{Book, Pass}
 use Rattle.std.proofs.lemmas.Nat.{mul-add-lt}
 use Rattle.cf_law.specs.Events.{no_book}

@@ -5,8 +5,8 @@ use Rattle.cf_row.specs.Words.{word_count}
 use Rattle.cf_shape.specs.Lanes.{ShapeValue, selected_by, key_of, measure_of}
 use Rattle.cf_shape.specs.Nodes.{levels_of}
 use Rattle.cf_shape.specs.Uses.{cells_before, ticket_words, use_at}
-use Rattle.cf_words.specs.Words.{Spot, spot, Layout, fresh_ticket, version_word}
-use Rattle.cf_words.specs.Law.{Skips}
+use Rattle.cf_law.specs.Words.{Spot, spot, Layout, fresh_ticket, version_word}
+use Rattle.cf_law.specs.Law.{Skips}
 use Rattle.cf_law.specs.Nibbles.{nibbles}
 use Rattle.cf_law.specs.Passes.{Own, Book}
 use Rattle.cf_law.specs.Steps.{mine_chain}

@@ -4,7 +4,7 @@ use Rattle.cf_row.specs.Row.{RowValue}
 use Rattle.cf_shape.specs.Lanes.{ShapeValue, selected_by, key_of}
 use Rattle.cf_shape.specs.Nodes.{levels_of}
 use Rattle.cf_shape.specs.Places.{Slot, place, sizes_of}
-use Rattle.cf_words.specs.Words.{Spot, spot}
+use Rattle.cf_law.specs.Words.{Spot, spot}
 use Rattle.cf_law.specs.Nibbles.{nibbles}
 use Rattle.cf_law.specs.Passes.{Book, Pass}
 use Rattle.cf_law.specs.Steps.{Knows, Reaches}

@@ -6,7 +6,7 @@ ghost use Rattle.cf_shape.specs.Lanes.{key_of, measure_of};
 ghost use Rattle.cf_shape.specs.Nodes.{levels_of};
 ghost use Rattle.cf_fold.specs.Quads.{quad_of};
 ghost use Rattle.cf_shape.specs.Uses.{cell_count, is_measured};
-ghost use Rattle.cf_words.specs.Words.{Spot, spot, link_to_newest};
+ghost use Rattle.cf_law.specs.Words.{Spot, spot, link_to_newest};
 ghost use Rattle.cf_law.specs.Steps.{mine_chain};
 ghost use Rattle.cf_law.specs.Steps.Act.{store_head as stores_head};
 ghost use Rattle.cf_law.specs.Readers.{own_top};

@@ -4,7 +4,7 @@ ghost use Rattle.cf_row.specs.Row.{Fits};
 ghost use Rattle.cf_shape.specs.Lanes.{selected_by};
 ghost use Rattle.cf_shape.specs.Nodes.{levels_of};
 ghost use Rattle.cf_shape.specs.Places.{Slot, place as place_by, sizes_of};
-ghost use Rattle.cf_words.specs.Words.{Spot};
+ghost use Rattle.cf_law.specs.Words.{Spot};
 ghost use Rattle.cf_law.specs.Steps.{IsChild};
 ghost use Rattle.cf_law.specs.Shapes.{layout as layout_of};
 ghost use Rattle.cf_table.specs.Loads.{CountsLoads};

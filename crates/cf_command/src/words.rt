@@ -9,7 +9,7 @@ use crate::number::number_between;
 use crate::table::{
     DumpTexts, LongTexts, RunTexts, Said, SnapshotTexts, SynthTexts, WatchTexts, read_words,
 };
-use cf_packet6::PacketSchema;
+use cf_row::PacketSchema;
 use std::alloc::Global;
 
 // The records that the segments of a log hold together at most.

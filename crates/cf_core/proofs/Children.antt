@@ -3,7 +3,7 @@ use Rattle.std.proofs.Common.{◌≡◌, ℕ, ◌+◌, ◌*◌, ◌<◌, zero, s
 use Rattle.std.proofs.lemmas.Option.{slice_get_read}
 use Rattle.cf_shape.specs.Places.{Slot, place, IsReal}
 use Rattle.cf_shape.specs.Places.Slot.{root, body}
-use Rattle.cf_words.specs.Words.{Spot, spot}
+use Rattle.cf_law.specs.Words.{Spot, spot}
 use Rattle.cf_law.specs.Passes.{Pass}
 use Rattle.cf_law.specs.Steps.{Reaches, IsChild, pass_with_child}
 use Rattle.cf_law.specs.Steps.Act.{load_child}

@@ -3,8 +3,8 @@ use Rattle.std.proofs.Common.{◌≡◌, ℕ, ◌+◌, ◌<◌, suc, List, ◌�
 use Rattle.cf_row.specs.Row.{RowValue}
 use Rattle.cf_shape.specs.Places.{place_of, head_slot}
 use Rattle.cf_shape.specs.Places.WordName.{head as head_word}
-use Rattle.cf_words.specs.Words.{Spot, spot, has}
-use Rattle.cf_words.specs.Law.{IsWhole}
+use Rattle.cf_law.specs.Words.{Spot, spot, has}
+use Rattle.cf_law.specs.Law.{IsWhole}
 use Rattle.cf_law.specs.Passes.{Book, Flight, Pass}
 use Rattle.cf_law.specs.Steps.{HoldsInFlight, Knows, pass_with_book, book_with_head, ticket_of}
 use Rattle.cf_law.specs.Steps.Act.{store_head}

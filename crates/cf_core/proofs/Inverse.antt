@@ -5,8 +5,8 @@ use Rattle.cf_row.specs.declared.row.Entry.{Entry}
 use Rattle.cf_shape.specs.Places.{Slot, place}
 use Rattle.cf_shape.specs.Places.Slot.{cell}
 use Rattle.cf_shape.specs.Uses.Use.{version}
-use Rattle.cf_words.specs.Words.{Spot, spot, Layout, has}
-use Rattle.cf_words.specs.Law.{IsWhole}
+use Rattle.cf_law.specs.Words.{Spot, spot, Layout, has}
+use Rattle.cf_law.specs.Law.{IsWhole}
 use Rattle.cf_law.specs.Passes.{Book, Flight, Pass}
 use Rattle.cf_law.specs.Steps.{Act, Step, Splits, Holds, HoldsInFlight, IsNext, IsChild, Knows, IsOwn, IsNamed, free_node, label_of, ticket_of, own_word}
 use Rattle.cf_law.specs.Steps.Act.{store_cell, finish_record, advance, load_word, label, link, store_head, load_child, load_head, load_cell}

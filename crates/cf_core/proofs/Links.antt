@@ -11,7 +11,7 @@ use Rattle.cf_shape.specs.Nodes.{levels_of, nibbles_of_kind, nibbles_of_attr, ni
 use Rattle.cf_shape.specs.Places.{Slot, place, place_of}
 use Rattle.cf_shape.specs.Places.WordName.{label as label_word}
 use Rattle.cf_shape.specs.Places.Slot.{body}
-use Rattle.cf_words.specs.Words.{Spot}
+use Rattle.cf_law.specs.Words.{Spot}
 use Rattle.cf_law.specs.Passes.{Book, Pass}
 use Rattle.cf_law.specs.Steps.{Act, Holds, IsChild, pass_with_book, book_with_label, pass_with_link, child_word, label_of, free_node}
 use Rattle.cf_law.specs.Steps.Act.{label, link}

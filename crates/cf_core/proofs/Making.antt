@@ -6,7 +6,7 @@ use Rattle.cf_shape.specs.Uses.{ticket_words}
 use Rattle.cf_shape.specs.Places.{Slot, place, IsReal}
 use Rattle.cf_shape.specs.Places.Slot.{tail, cell}
 use Rattle.cf_shape.proofs.Slots.{place_within}
-use Rattle.cf_words.specs.Words.{Layout}
+use Rattle.cf_law.specs.Words.{Layout}
 use Rattle.cf_law.specs.Passes.{Pass}
 use Rattle.cf_law.specs.Steps.{Act, Step, pass_with_look}
 use Rattle.cf_law.specs.Steps.Act.{look_done, load_word}

@@ -9,9 +9,9 @@ use Rattle.cf_shape.specs.Lanes.{ShapeValue, lane_at, no_lane}
 use Rattle.cf_shape.specs.Uses.{cell_count, cell_words, cells_before, ticket_words, use_at}
 use Rattle.cf_shape.proofs.Counts.{count_cons, count_none}
 use Rattle.cf_shape.proofs.Used.{plain_at, version_at}
-use Rattle.cf_words.specs.Words.{Layout, Ticket, has, same_path}
-use Rattle.cf_words.specs.Law.{Skips, IsWhole}
-use Rattle.cf_words.proofs.Chains.{same_bool, same_path_true, same_path_intro}
+use Rattle.cf_law.specs.Words.{Layout, Ticket, has, same_path}
+use Rattle.cf_law.specs.Law.{Skips, IsWhole}
+use Rattle.cf_law.proofs.Chains.{same_bool, same_path_true, same_path_intro}
 use Rattle.cf_law.specs.Nibbles.{nibbles}
 use Rattle.cf_law.specs.Steps.{IsNext}
 use Rattle.cf_law.specs.Shapes.{layout}

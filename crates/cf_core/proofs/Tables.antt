@@ -8,7 +8,7 @@ use Rattle.cf_row.specs.Row.{values_fit}
 use Rattle.cf_row.proofs.Bytes.{both}
 use Rattle.cf_shape.specs.Places.{place}
 use Rattle.cf_shape.specs.Places.Slot.{tail, cell}
-use Rattle.cf_words.specs.Words.{Layout, Ticket, entry}
+use Rattle.cf_law.specs.Words.{Layout, Ticket, entry}
 use Rattle.cf_law.specs.Passes.{Pass}
 use Rattle.cf_law.specs.Steps.{pass_that_sees, pass_with_tail}
 use Rattle.cf_law.specs.Steps.Act.{load_tail, advance}

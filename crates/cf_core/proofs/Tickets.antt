@@ -5,7 +5,7 @@ use Rattle.cf_row.proofs.Bytes.{both}
 use Rattle.cf_shape.specs.Uses.{ticket_words, use_at}
 use Rattle.cf_shape.specs.Places.{place}
 use Rattle.cf_shape.specs.Places.Slot.{tail, cell}
-use Rattle.cf_words.specs.Law.{IsWhole}
+use Rattle.cf_law.specs.Law.{IsWhole}
 use Rattle.cf_law.specs.Passes.{Book, Flight, Pass}
 use Rattle.cf_law.specs.Steps.{HoldsInFlight, IsNext, pass_with_book, book_with_word, book_with_record, book_with_ticket, ticket_of, own_word}
 use Rattle.cf_law.specs.Steps.Act.{take_ticket, store_cell, finish_record}

@@ -10,7 +10,7 @@ use Rattle.cf_row.proofs.Bytes.{both}
 use Rattle.cf_shape.specs.Lanes.{ShapeValue, IsShape, measure_of}
 use Rattle.cf_shape.specs.Uses.{is_measured, use_at}
 use Rattle.cf_shape.proofs.Measured.{measure_low}
-use Rattle.cf_words.specs.Words.{Spot, spot, Layout, same_path, link_to_newest, version_word}
+use Rattle.cf_law.specs.Words.{Spot, spot, Layout, same_path, link_to_newest, version_word}
 use Rattle.cf_law.specs.Passes.{Own, Book, Pass}
 use Rattle.cf_law.specs.Lawful.{mine_in}
 use Rattle.cf_law.specs.Steps.{Holds, mine_chain, own_word, own_lane_word}
@@ -172,5 +172,5 @@ pub version_none : (shape : ShapeValue) (b : Book) (row : RowValue) (lane j : �
 version_none shape b row lane j none = ap (own_lane_word (layout shape) b row lane j) (sym none)
 
 pub own_plain : (shape : ShapeValue) (b : Book) (row : RowValue) (i : ℕ) → IsPlainUse shape i
-    → own_word (layout shape) b row (use_at shape i) ≡ get_or (Rattle.cf_row.specs.Words.spelled (Rattle.cf_words.specs.Words.entry b.writer row)) i 0
+    → own_word (layout shape) b row (use_at shape i) ≡ get_or (Rattle.cf_row.specs.Words.spelled (Rattle.cf_law.specs.Words.entry b.writer row)) i 0
 own_plain shape b row i is = ap (own_word (layout shape) b row) is.1

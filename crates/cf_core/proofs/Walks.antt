@@ -7,7 +7,7 @@ use Rattle.cf_shape.specs.Places.WordName.{head as head_word, version as version
 use Rattle.cf_shape.specs.Places.Slot.{cell}
 use Rattle.cf_shape.specs.Uses.{ticket_words, cells_before}
 use Rattle.cf_shape.proofs.Used.{version_at, version_is, before_fits}
-use Rattle.cf_words.specs.Words.{Spot, spot}
+use Rattle.cf_law.specs.Words.{Spot, spot}
 use Rattle.cf_law.specs.Passes.{Pass}
 use Rattle.cf_law.specs.Steps.{Knows, pass_with_head, pass_with_cell}
 use Rattle.cf_law.specs.Steps.Act.{load_head, load_cell}

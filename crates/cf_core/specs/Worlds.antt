@@ -9,8 +9,8 @@ use Rattle.cf_shape.specs.Uses.Use.{plain, version}
 use Rattle.cf_row.specs.Row.{RowValue, Fits}
 use Rattle.cf_shape.specs.Places.{Slot, place}
 use Rattle.cf_shape.specs.Places.Slot.{root, body}
-use Rattle.cf_words.specs.Words.{Spot, spot, Ticket as Taken, has}
-use Rattle.cf_words.specs.Law.{Skips}
+use Rattle.cf_law.specs.Words.{Spot, spot, Ticket as Taken, has}
+use Rattle.cf_law.specs.Law.{Skips}
 use Rattle.cf_law.specs.Passes.{Own, Pass}
 use Rattle.cf_law.specs.Steps.{IsChild, Knows, label_of}
 use Rattle.cf_law.specs.Lawful.{World, Lawful}

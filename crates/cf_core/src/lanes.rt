@@ -4,7 +4,7 @@ ghost use Rattle.cf_core.specs.Worlds.{Answers, IsLivePass, IsRootAt, NoRootAt, 
 ghost use Rattle.cf_row.specs.Row.{Fits};
 ghost use Rattle.cf_law.specs.Events.WorldEvent.{acts};
 ghost use Rattle.cf_law.specs.Steps.{child_word};
-ghost use Rattle.cf_words.specs.Words.{Spot};
+ghost use Rattle.cf_law.specs.Words.{Spot};
 ghost use Rattle.cf_law.specs.Steps.Act.{label, link, store_head, load_child, load_head, load_cell};
 
 use crate::World;

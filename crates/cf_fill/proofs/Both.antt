@@ -2,7 +2,7 @@
 use Rattle.std.proofs.Common.{refl, Bool, ◌≡◌, ◌^◌, ◌++◌, ℕ, List, Option, Result, Ok, Err, OnErr, IfOk, Vec, sym, subst}
 use Rattle.std.specs.declared.alloc.Global.{Global}
 use Rattle.cf_row.specs.Row.{RowValue}
-use Rattle.cf_packet6.specs.declared.PacketSchema.{PacketSchema}
+use Rattle.cf_row.specs.declared.packet6.PacketSchema.{PacketSchema}
 use Rattle.cf_fill.specs.Taking.{GivesBoth}
 use Rattle.cf_intake.specs.Devices.{TakesAtMost}
 use Rattle.cf_intake.specs.Reading.{IsReadOn, ReadsOn, StopsOn, TakesPackets}

@@ -9,8 +9,8 @@ use Rattle.cf_outside.specs.Files.{File, Opens, file_named}
 use Rattle.cf_outside.specs.declared.shelf.OpenFault.{OpenFault}
 use Rattle.cf_outside.specs.declared.shelf.OpenFault.TheVariants as open_faults
 use Rattle.cf_row.specs.Row.{RowValue}
-use Rattle.cf_packet6.specs.declared.PacketSchema.TheVariants.{Packet, Packet6}
-use Rattle.cf_packet6.specs.Schema6.{attrs_by}
+use Rattle.cf_row.specs.declared.packet6.PacketSchema.TheVariants.{Packet, Packet6}
+use Rattle.cf_row.specs.Schema6.{attrs_by}
 use Rattle.cf_setup.specs.declared.source.Source.{Source}
 use Rattle.cf_setup.specs.declared.source.Source.TheVariants.{Packets, Records}
 use Rattle.cf_pcap.specs.declared.limit.Length.TheVariants.{Limited}

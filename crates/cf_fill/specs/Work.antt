@@ -4,7 +4,7 @@ use Rattle.cf_row.specs.Row.{RowValue}
 use Rattle.cf_make.specs.Generated.{generated_frames}
 use Rattle.cf_command.specs.declared.words.LogSizes.{LogSizes}
 use Rattle.cf_command.specs.Call.{SynthCall}
-use Rattle.cf_packet6.specs.declared.PacketSchema.TheVariants.{Packet, Packet6}
+use Rattle.cf_row.specs.declared.packet6.PacketSchema.TheVariants.{Packet, Packet6}
 use Rattle.cf_setup.specs.declared.source.Source.{Source}
 use Rattle.cf_setup.specs.declared.source.Source.TheVariants.{Packets, Records}
 use Rattle.cf_setup.specs.Setups.{SetupValue, shaped}

@@ -1,8 +1,8 @@
 // The packets that a seed draws go into a log as they are read.
 ghost use Rattle.std.specs.Prelude.{◌≡◌, ◌≤◌, ◌^◌, [], IfOk};
 ghost use Rattle.cf_make.specs.Generated.{generated_bytes, generated_frames};
-ghost use Rattle.cf_packet6.specs.Schema6.{attrs_by};
-ghost use Rattle.cf_packet6.specs.declared.PacketSchema.TheVariants.{Packet};
+ghost use Rattle.cf_row.specs.Schema6.{attrs_by};
+ghost use Rattle.cf_row.specs.declared.packet6.PacketSchema.TheVariants.{Packet};
 ghost use Rattle.cf_fill.specs.Filling.{IsFilled, KeepsLog};
 ghost use Rattle.cf_intake.specs.Rows.{packet_rows};
 
@@ -12,8 +12,7 @@ use crate::filling::Filling;
 use cf_intake::{Halt, Stop};
 use cf_make::make_capture;
 use cf_outside::{Gate, Shelf, SteadyShelf};
-use cf_packet6::PacketSchema;
-use cf_row::Memory;
+use cf_row::{Memory, PacketSchema};
 use std::alloc::{AllocError, Global};
 use std::thread::Threads;
 

@@ -2,7 +2,7 @@
 ghost use Rattle.std.specs.Prelude.{◌≡◌, ◌≤◌, ◌<◌, ◌+◌, [], length, true, All, IfOk, OnErr};
 ghost use Rattle.std.specs.Thread.{IsSync};
 ghost use Rattle.cf_row.specs.Row.{Fits};
-ghost use Rattle.cf_packet6.specs.Schema6.{attrs_by};
+ghost use Rattle.cf_row.specs.Schema6.{attrs_by};
 ghost use Rattle.cf_intake.specs.Causes.{HasHaltCause, HasStopCause};
 ghost use Rattle.cf_intake.specs.Parts.{source_in, attrs_in};
 ghost use Rattle.cf_intake.specs.Reading.{HasMore, IfReadOn, ReadsOn, ReadsRows, StopsOn, TakesPackets, pieces_left};
@@ -13,8 +13,7 @@ use crate::context::Context;
 use crate::filling::Filling;
 use cf_intake::{Format, Halt, Manner, Pieces, Stop, first_lines, open_packets};
 use cf_outside::{Gate, Shelf};
-use cf_packet6::PacketSchema;
-use cf_row::{Memory, Row};
+use cf_row::{Memory, PacketSchema, Row};
 use std::thread::{Threads, join_mut};
 
 // The rows at hand go into the log, in a thread of its own where one can be made, while this one reads on, until there are as many

@@ -4,7 +4,7 @@ use Rattle.std.specs.Io.KnownBytes.{Consumes, IsAtEnd}
 use Rattle.std.proofs.KnownBytes.{Consumes-trans}
 use Rattle.cf_outside.specs.Files.{ShelfView}
 use Rattle.std.proofs.lemmas.List.{take_all}
-use Rattle.cf_packet6.specs.declared.PacketSchema.{PacketSchema}
+use Rattle.cf_row.specs.declared.packet6.PacketSchema.{PacketSchema}
 use Rattle.cf_row.specs.Row.{RowValue}
 use Rattle.cf_pcap.specs.declared.limit.Length.TheVariants.{Any}
 use Rattle.cf_row.proofs.Bytes.{both}

@@ -2,7 +2,7 @@
 use Rattle.std.proofs.Common.{◌≡◌, ◌∙◌, ℕ, ◌+◌, ◌-◌, ◌*◌, ◌<◌, ◌≤◌, ◌^◌, inl, inr, List, [], ◌∷◌, ◌++◌, length, Bool, true, false, Option, Some, None, refl, sym, ap, subst, arith, append-nil}
 use Rattle.std.proofs.lemmas.Bool.{cases_lt}
 use Rattle.std.proofs.lemmas.List.{length-map, length-take, map-append}
-use Rattle.cf_packet6.specs.declared.PacketSchema.{PacketSchema}
+use Rattle.cf_row.specs.declared.packet6.PacketSchema.{PacketSchema}
 use Rattle.cf_row.specs.Row.{RowValue}
 use Rattle.cf_pcap.specs.Capture.{FrameValue}
 use Rattle.cf_pcap.specs.declared.scope.Scope.{Scope}

@@ -5,7 +5,7 @@ use Rattle.std.specs.Io.KnownBytes.{Appends, Keeps}
 use Rattle.std.proofs.KnownBytes.{Appends-nil, Appends-trans, Keeps-refl}
 use Rattle.cf_outside.specs.Files.{ShelfView}
 use Rattle.cf_row.specs.Row.{RowValue}
-use Rattle.cf_packet6.specs.declared.PacketSchema.{PacketSchema}
+use Rattle.cf_row.specs.declared.packet6.PacketSchema.{PacketSchema}
 use Rattle.cf_pcap.specs.declared.limit.Length.TheVariants.{Any}
 use Rattle.cf_intake.specs.Devices.{WritesFront}
 use Rattle.cf_intake.specs.Faults.{HasPacketFaultTo, ShowNoFault}

@@ -1,7 +1,7 @@
 -- One ending alone is due.
 use Rattle.std.proofs.Common.{◌≡◌, ◌∙◌, ◌⊎◌, ℕ, ◌+◌, ◌<◌, ◌≤◌, inl, inr, List, [], ◌∷◌, ◌++◌, length, fold, Bool, true, false, Option, Some, refl, sym, ap, ap₂, subst, arith, length-append, append-nil, append_assoc}
 use Rattle.cf_outside.specs.Files.{ShelfView}
-use Rattle.cf_packet6.specs.declared.PacketSchema.{PacketSchema}
+use Rattle.cf_row.specs.declared.packet6.PacketSchema.{PacketSchema}
 use Rattle.cf_row.specs.Row.{RowValue}
 use Rattle.cf_shape.specs.Lanes.{ShapeValue}
 use Rattle.cf_pcap.specs.declared.limit.Length.TheVariants.{Any}

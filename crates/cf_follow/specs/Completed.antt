@@ -1,7 +1,7 @@
 -- Which captures are followed to their end.
 use Rattle.std.specs.Prelude.{◌≡◌, ◌⊎◌, ℕ, ◌≤◌, Bool, true, List, length, All}
 use Rattle.cf_row.specs.Row.{RowValue}
-use Rattle.cf_packet6.specs.declared.PacketSchema.{PacketSchema}
+use Rattle.cf_row.specs.declared.packet6.PacketSchema.{PacketSchema}
 use Rattle.cf_pcap.specs.declared.limit.Length.TheVariants.{Any}
 use Rattle.cf_intake.specs.Rows.{CaptureValue, ArePacketsTo}
 use Rattle.cf_intake.specs.declared.refusal.Stop.TheVariants as stops

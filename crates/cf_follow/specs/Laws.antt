@@ -1,7 +1,7 @@
 -- One ending alone is due.
 use Rattle.std.specs.Prelude.{◌≡◌, ℕ, Bool, List, Some}
 use Rattle.cf_outside.specs.Files.{ShelfView}
-use Rattle.cf_packet6.specs.declared.PacketSchema.{PacketSchema}
+use Rattle.cf_row.specs.declared.packet6.PacketSchema.{PacketSchema}
 use Rattle.cf_rounds.specs.Held.{RoundsValue}
 use Rattle.cf_intake.specs.declared.refusal.Stop.TheVariants.{ReadFault}
 use Rattle.cf_follow.specs.Followed.{IsDueOfStream}

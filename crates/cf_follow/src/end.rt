@@ -2,7 +2,7 @@
 ghost use Rattle.std.specs.Prelude.{◌≡◌, ◌≤◌, ℕ, List, Option, IfOk, string_bytes};
 ghost use Rattle.cf_outside.specs.Causes.{Rose};
 ghost use Rattle.cf_outside.specs.Files.{ShelfView};
-ghost use Rattle.cf_packet6.specs.declared.PacketSchema.{PacketSchema};
+ghost use Rattle.cf_row.specs.declared.packet6.PacketSchema.{PacketSchema};
 ghost use Rattle.cf_rounds.specs.Held.{RoundsValue};
 ghost use Rattle.cf_follow.specs.Followed.{IsAtLast, IsFollowed};
 ghost use Rattle.cf_follow.specs.Heard.{Concludes, ended_text};

@@ -6,7 +6,7 @@ use Rattle.cf_row.specs.declared.schema.Kind.TheVariants.{U64}
 use Rattle.cf_row.specs.declared.row.Value.{Value}
 use Rattle.cf_row.specs.declared.row.Value.TheVariants.{Num}
 use Rattle.cf_row.specs.Row.{Fits, values_fit, is_of_kind}
-use Rattle.cf_packet6.specs.Schema6.{address_attrs, more_attrs, packet6_attrs}
+use Rattle.cf_row.specs.Schema6.{address_attrs, more_attrs, packet6_attrs}
 use Rattle.cf_pcap.specs.declared.links.Link.{Link}
 use Rattle.cf_pcap.specs.declared.links.Link.TheVariants.{Ethernet, LinuxCooked, LinuxCookedV2, RawIp, Ipv4, Ipv6, Null, Loop}
 use Rattle.cf_pcap.specs.Links.{link_of}

@@ -3,7 +3,7 @@ use Rattle.std.proofs.Common.{◌≡◌, ℕ, ◌+◌, ◌^◌, ◌<◌, ◌≤�
 use Rattle.std.proofs.lemmas.Bool.{and_from, lt-ltb}
 use Rattle.cf_row.specs.declared.row.Value.{Value}
 use Rattle.cf_row.specs.Row.{values_fit}
-use Rattle.cf_packet6.specs.Schema6.{more_attrs}
+use Rattle.cf_row.specs.Schema6.{more_attrs}
 use Rattle.cf_headers.specs.declared.carried.Carried.{Carried}
 use Rattle.cf_headers.specs.declared.transport.Transport.{Transport}
 use Rattle.cf_headers.specs.declared.transport.Transport.TheVariants.{Unread, Tcp, Udp}

@@ -59,5 +59,5 @@ lies_within row fits =
     let long : length row.values ≡ 20 = as_long packet_attrs row.values fits in
     let words : length (values_words row.values) ≡ 20 = values_long packet_attrs row.values fits ∙ packet_words in
     and_from _ _
-    (and_from _ _ (le-leb (length row.values) 20 (omega (arith, long))) (all_kept packet_attrs row.values refl fits))
-    (le-leb (length (values_words row.values)) 20 (omega (arith, words)))
+    (and_from _ _ (le-leb (length row.values) 32 (omega (arith, long))) (all_kept packet_attrs row.values refl fits))
+    (le-leb (length (values_words row.values)) 32 (omega (arith, words)))

@@ -1,7 +1,7 @@
 // The row of a captured packet with its IPv6 addresses and what more is asked of it.
 ghost use Rattle.std.specs.Prelude.{◌≡◌, ◌+◌, ◌≤◌, length, IfOk, IfSome, IsTrue};
 ghost use Rattle.cf_row.specs.Row.{Fits};
-ghost use Rattle.cf_packet6.specs.Schema6.{packet6_attrs};
+ghost use Rattle.cf_row.specs.Schema6.{packet6_attrs};
 ghost use Rattle.cf_pcap.specs.Capture.{FrameValue};
 ghost use Rattle.cf_headers.specs.Frames.{frame_of};
 ghost use Rattle.cf_headers.specs.Packet6.{packet6_row_of, network_values_in as network_values_of, transport_behind as transport_behind_of, address6_if as address6_if_of, Agrees};

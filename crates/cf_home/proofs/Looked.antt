@@ -3,7 +3,7 @@ use Rattle.std.proofs.Common.{true, false, Bool, Option, ◌-◌, ◌≡◌, ◌
 use Rattle.std.specs.Option.{is_some}
 use Rattle.std.proofs.lemmas.Option.{slice_get-get_or}
 use Rattle.std.proofs.lemmas.Bool.{cases_lt}
-use Rattle.cf_words.proofs.Heads.{get_set_other, get_set_same}
+use Rattle.cf_law.proofs.Heads.{get_set_other, get_set_same}
 use Rattle.cf_table.specs.Values.{PassValue}
 use Rattle.cf_home.specs.Homes.{HasLooked, HaveLooked, IsAway, MayCome, PlaceValue}
 

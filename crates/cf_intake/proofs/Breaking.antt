@@ -1,6 +1,6 @@
 -- A fault that was found stays, whatever follows.
 use Rattle.std.proofs.Common.{◌≡◌, ◌==◌, if◌then◌else◌, inl, ℕ, Bool, true, false, List, [], ◌++◌, length, Option, Some, None, IfSome, IsNone, refl, sym, subst, ◌∙◌}
-use Rattle.cf_packet6.specs.declared.PacketSchema.{PacketSchema}
+use Rattle.cf_row.specs.declared.packet6.PacketSchema.{PacketSchema}
 use Rattle.cf_pcap.specs.Capture.{FrameValue, HasPcapFault}
 use Rattle.cf_row.specs.Row.{RowValue}
 use Rattle.cf_pcap.specs.declared.fault.PcapFault.{PcapFault}

@@ -1,8 +1,8 @@
 -- A setup over packets has the attributes of its schema.
 use Rattle.std.proofs.Common.{◌≡◌, ℕ, ◌+◌, List, [], ◌∷◌, Some, Result, Ok, sym, ap, ◌∙◌, subst}
 use Rattle.cf_row.specs.declared.schema.Attr.{Attr}
-use Rattle.cf_packet6.specs.declared.PacketSchema.{PacketSchema}
-use Rattle.cf_packet6.specs.Schema6.{attrs_by}
+use Rattle.cf_row.specs.declared.packet6.PacketSchema.{PacketSchema}
+use Rattle.cf_row.specs.Schema6.{attrs_by}
 use Rattle.cf_setup.specs.declared.source.Source.TheVariants.{Packets, Records}
 use Rattle.cf_setup.specs.Drafts.{DraftValue, nothing_stated}
 use Rattle.cf_setup.specs.Forms.{StatementFormValue}

@@ -10,7 +10,7 @@ use Rattle.cf_outside.specs.Files.{File, Opens}
 use Rattle.cf_outside.specs.declared.shelf.OpenFault.{OpenFault}
 use Rattle.cf_outside.specs.declared.shelf.OpenFault.TheVariants as open_faults
 use Rattle.cf_row.specs.Row.{RowValue}
-use Rattle.cf_packet6.specs.declared.PacketSchema.{PacketSchema}
+use Rattle.cf_row.specs.declared.packet6.PacketSchema.{PacketSchema}
 use Rattle.cf_intake.specs.Files.{HasFile, HasLeft}
 use Rattle.cf_intake.specs.Rows.{ArePacketsTo, CaptureValue}
 use Rattle.cf_intake.specs.Several.{names_in}

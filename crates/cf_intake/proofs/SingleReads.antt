@@ -2,8 +2,8 @@
 use Rattle.std.proofs.Common.{◌≡◌, inl, inr, ℕ, ◌+◌, ◌<◌, ◌≤◌, suc, zero, drop, Bool, true, false, List, [], ◌∷◌, ◌++◌, length, Option, Some, None, Result, MatchResult, refl, sym, ap, ap₂, subst, ◌∙◌, arith, length-append}
 use Rattle.std.specs.List.{slice_get}
 use Rattle.std.proofs.lemmas.List.{map-append}
-use Rattle.cf_packet6.specs.declared.PacketSchema.{PacketSchema}
-use Rattle.cf_packet6.specs.declared.PacketSchema.TheVariants.{Packet, Packet6}
+use Rattle.cf_row.specs.declared.packet6.PacketSchema.{PacketSchema}
+use Rattle.cf_row.specs.declared.packet6.PacketSchema.TheVariants.{Packet, Packet6}
 use Rattle.cf_row.specs.Row.{RowValue}
 use Rattle.cf_pcap.specs.Capture.{FrameValue}
 use Rattle.cf_pcap.specs.declared.scope.Scope.{Scope}

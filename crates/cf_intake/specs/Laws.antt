@@ -1,7 +1,7 @@
 -- Each file has one meaning, by what a setup's rows are read from: as a capture of packets, which may be truncated or not, or as a file of other records.
 use Rattle.std.specs.Prelude.{◌≡◌, ◌⊎◌, ℕ, Bool, List, Some}
 use Rattle.cf_outside.specs.Files.{File}
-use Rattle.cf_packet6.specs.declared.PacketSchema.{PacketSchema}
+use Rattle.cf_row.specs.declared.packet6.PacketSchema.{PacketSchema}
 use Rattle.cf_row.specs.Row.{RowValue}
 use Rattle.cf_row.specs.declared.schema.Attr.{Attr}
 use Rattle.cf_setup.specs.declared.source.Source.{Source}

@@ -3,8 +3,8 @@ use Rattle.std.specs.Prelude.{◌≡◌, ℕ, false, List, All, map, take, Optio
 use Rattle.cf_outside.specs.Files.{File}
 use Rattle.cf_row.specs.Row.{Fits, RowValue}
 use Rattle.cf_row.specs.declared.schema.Attr.{Attr}
-use Rattle.cf_packet6.specs.declared.PacketSchema.{PacketSchema}
-use Rattle.cf_packet6.specs.Schema6.{attrs_by}
+use Rattle.cf_row.specs.declared.packet6.PacketSchema.{PacketSchema}
+use Rattle.cf_row.specs.Schema6.{attrs_by}
 use Rattle.cf_setup.specs.declared.source.Source.{Source}
 use Rattle.cf_setup.specs.declared.source.Source.TheVariants as sources
 use Rattle.cf_setup.specs.Setups.{SetupValue, IsSetup}

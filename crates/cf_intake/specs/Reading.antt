@@ -13,8 +13,8 @@ use Rattle.cf_pcapng.specs.Reader as ng
 use Rattle.cf_pcap.specs.Limits.{number_of}
 use Rattle.cf_pcap.specs.Streams as streams
 use Rattle.cf_intake.specs.Devices.{TakesUpTo, TakesAtMost}
-use Rattle.cf_packet6.specs.declared.PacketSchema.{PacketSchema}
-use Rattle.cf_packet6.specs.Schema6.{attrs_by}
+use Rattle.cf_row.specs.declared.packet6.PacketSchema.{PacketSchema}
+use Rattle.cf_row.specs.Schema6.{attrs_by}
 use Rattle.cf_setup.specs.declared.source.Source.{Source}
 use Rattle.cf_setup.specs.declared.source.Source.TheVariants.{Packets}
 use Rattle.cf_intake.specs.Faults.{HasFaultIn, HasFaultTo, ShowNoFaultIn, ShowsFaultIn}

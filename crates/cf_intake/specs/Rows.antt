@@ -4,8 +4,8 @@ use Rattle.cf_row.specs.Row.{RowValue}
 use Rattle.cf_row.specs.declared.schema.Attr.{Attr}
 use Rattle.cf_headers.specs.Packet.{packet_row_of}
 use Rattle.cf_headers.specs.Packet6.{packet6_row_of}
-use Rattle.cf_packet6.specs.declared.PacketSchema.{PacketSchema}
-use Rattle.cf_packet6.specs.declared.PacketSchema.TheVariants.{Packet, Packet6}
+use Rattle.cf_row.specs.declared.packet6.PacketSchema.{PacketSchema}
+use Rattle.cf_row.specs.declared.packet6.PacketSchema.TheVariants.{Packet, Packet6}
 use Rattle.cf_records.specs.Records.{IsRecordFile}
 use Rattle.cf_pcap.specs.Capture.{FrameValue, IsCapture}
 use Rattle.cf_pcap.specs.declared.links.LinkSet.{LinkSet}

@@ -2,9 +2,9 @@
 ghost use Rattle.std.specs.Prelude.{◌≡◌, Bool, false, All, Ok, IfOk, MatchResult};
 ghost use Rattle.cf_outside.specs.Files.{Opens};
 ghost use Rattle.cf_row.specs.Row.{Fits};
-ghost use Rattle.cf_packet6.specs.Schema6.{attrs_by};
+ghost use Rattle.cf_row.specs.Schema6.{attrs_by};
 ghost use Rattle.cf_setup.specs.declared.source.Source.TheVariants.{Packets, Records};
-ghost use Rattle.cf_packet6.specs.declared.PacketSchema.{PacketSchema};
+ghost use Rattle.cf_row.specs.declared.packet6.PacketSchema.{PacketSchema};
 ghost use Rattle.cf_intake.specs.Files.{setups, captures, IsReadAs, Halts};
 ghost use Rattle.cf_intake.specs.Causes.{HasHaltCause};
 ghost use Rattle.cf_intake.specs.Parts.{HasFirst, IsFirstOf, IsSetupRead, captured, captures_by, attrs_in};

@@ -3,7 +3,7 @@ ghost use Rattle.std.specs.Prelude.{ℕ, Bool, List};
 ghost use Rattle.cf_row.specs.declared.schema.Attr.{Attr};
 ghost use Rattle.cf_setup.specs.declared.source.Source.{Source};
 ghost use Rattle.cf_outside.specs.Files.{File};
-ghost use Rattle.cf_packet6.specs.declared.PacketSchema.{PacketSchema};
+ghost use Rattle.cf_row.specs.declared.packet6.PacketSchema.{PacketSchema};
 ghost use Rattle.cf_intake.specs.Laws.{OneCase, OneSeries};
 
 /// Each file is a capture of one list of rows in the format that a schema asks for, or has one fault: of packets by either schema,

@@ -3,7 +3,7 @@ ghost use Rattle.std.specs.Prelude.{◌≡◌, ◌≤◌, ◌<◌, ◌^◌, ◌+
 ghost use Rattle.cf_outside.specs.Causes.{HasCause};
 ghost use Rattle.cf_pcap.specs.Capture.{FrameValue};
 ghost use Rattle.cf_row.specs.Row.{Fits, RowValue};
-ghost use Rattle.cf_packet6.specs.Schema6.{attrs_by};
+ghost use Rattle.cf_row.specs.Schema6.{attrs_by};
 ghost use Rattle.cf_intake.specs.Devices.{TakesUpTo, TakesAtMost};
 ghost use Rattle.cf_intake.specs.Causes.{HasHaltCause, HasStopCause};
 ghost use Rattle.cf_intake.specs.Reading.{AddsFew, Feeds, HasMore, IfReadOn, IfReaderAt, IsLast, IsReadOn, ReadsOn, StopsOn, TakesPackets, pieces_left, reads_blocks, reads_scope};
@@ -16,9 +16,8 @@ use crate::reader::Reader;
 use crate::refusal::{Halt, Stop};
 use crate::rows::{Captured, rows_of};
 use cf_outside::{Failed, Shelf};
-use cf_packet6::PacketSchema;
 use cf_pcap::{LinkSet, Scope};
-use cf_row::{Memory, Row};
+use cf_row::{Memory, PacketSchema, Row};
 use std::alloc::Global;
 
 /// The bytes of a piece.

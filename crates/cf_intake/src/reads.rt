@@ -1,7 +1,7 @@
 // A capture of packets is read by single reads, and its rows come read by read.
 ghost use Rattle.std.specs.Prelude.{◌≡◌, ◌≤◌, ◌<◌, ◌+◌, ◌*◌, ℕ, List, [], ◌++◌, None, Err, All, IfOk, IfSome, IsNone, length, option_map};
 ghost use Rattle.cf_row.specs.Row.{Fits, RowValue};
-ghost use Rattle.cf_packet6.specs.Schema6.{attrs_by};
+ghost use Rattle.cf_row.specs.Schema6.{attrs_by};
 ghost use Rattle.cf_intake.specs.Causes.{HasStopCause};
 ghost use Rattle.cf_intake.specs.declared.refusal.Stop.TheVariants as stops;
 ghost use Rattle.cf_intake.specs.Reading.{AddsFew, Feeds, IfReaderAt, reads_blocks, reads_scope};
@@ -13,9 +13,8 @@ use crate::reader::Reader;
 use crate::refusal::{Halt, Refusal, Stop};
 use crate::rows::{numbered_rows, rows_of};
 use cf_outside::Shelf;
-use cf_packet6::PacketSchema;
 use cf_pcap::{Frame, Scope};
-use cf_row::{Memory, Row};
+use cf_row::{Memory, PacketSchema, Row};
 use std::alloc::Global;
 
 /// The most bytes that a read moves.

@@ -1,7 +1,7 @@
 // The rows of the bytes of a capture.
 ghost use Rattle.std.specs.Prelude.{◌≡◌, All, IfOk, MatchResult};
 ghost use Rattle.cf_row.specs.Row.{Fits};
-ghost use Rattle.cf_packet6.specs.Schema6.{attrs_by};
+ghost use Rattle.cf_row.specs.Schema6.{attrs_by};
 ghost use Rattle.cf_records.specs.Records.{AreFirst};
 ghost use Rattle.cf_intake.specs.Faults.{HasLineFault};
 ghost use Rattle.cf_intake.specs.Parts.{IsBad, IsSetupRead, source_in, attrs_in};
@@ -10,10 +10,9 @@ ghost use Rattle.cf_intake.specs.Rows.{packet_rows, row_by};
 
 use crate::refusal::Halt;
 use cf_headers::{packet_row, packet6_row};
-use cf_packet6::PacketSchema;
 use cf_pcap::Frame;
 use cf_records::read_first;
-use cf_row::{Memory, Row, Schema};
+use cf_row::{Memory, PacketSchema, Row, Schema};
 use cf_setup::{Setup, Source};
 use std::alloc::Global;
 

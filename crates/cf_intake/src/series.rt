@@ -1,7 +1,7 @@
 // Captures of packets, of any length, are read one after another.
 ghost use Rattle.std.specs.Prelude.{◌≡◌, ◌<◌, ◌≤◌, ℕ, List, [], None, Some, Err, All, IfOk, IfSome, MatchResult, length, Option};
 ghost use Rattle.cf_outside.specs.Files.{File};
-ghost use Rattle.cf_packet6.specs.Schema6.{attrs_by};
+ghost use Rattle.cf_row.specs.Schema6.{attrs_by};
 ghost use Rattle.cf_row.specs.Row.{Fits, RowValue};
 ghost use Rattle.cf_intake.specs.Causes.{HasHaltCause};
 ghost use Rattle.cf_intake.specs.Files.{HasLeft};
@@ -14,8 +14,7 @@ use crate::devices::ReadError;
 use crate::reads::Reads;
 use crate::refusal::{Halt, Stop};
 use cf_outside::Shelf;
-use cf_packet6::PacketSchema;
-use cf_row::Row;
+use cf_row::{PacketSchema, Row};
 use std::alloc::Global;
 
 /// Captures of packets, of any length, that are read one after another by single reads: each is opened when the one before has been read to its

@@ -1,12 +1,12 @@
 -- A step of one pass keeps what the others know and hold.
 use Rattle.std.proofs.Common.{true, ◌≡◌, ◌≢◌, ℕ, ◌<◌, ◌≤◌, zero, suc, List, [], ◌∷◌, length, set, Some, slice_get, inl, inr, refl, arith, ap, sym, ◌∙◌, subst}
 use Rattle.std.proofs.lemmas.Bool.{cases_eq}
-use Rattle.cf_words.specs.Words.{Layout}
+use Rattle.cf_law.specs.Words.{Layout}
 use Rattle.cf_law.specs.Passes.{Book, Pass}
 use Rattle.cf_law.specs.Steps.{Holds, pass_with_book}
 use Rattle.cf_law.specs.Lawful.{Base, BaseLaw, book_at, PassLaw, HoldsAt, Stands}
-use Rattle.cf_words.proofs.Links.{Grows}
-use Rattle.cf_words.proofs.Heads.{get_set_same, get_set_other}
+use Rattle.cf_law.proofs.Links.{Grows}
+use Rattle.cf_law.proofs.Heads.{get_set_same, get_set_other}
 use Rattle.cf_law.proofs.Passes.{Evolves, known_grows, cursor_evolves, done_evolves}
 use Rattle.cf_law.proofs.Bases.{get_from_set, grows_self, evolves_self}
 use Rattle.cf_law.proofs.Fronts.{front_evolves}

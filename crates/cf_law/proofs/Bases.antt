@@ -7,14 +7,14 @@ use Rattle.std.proofs.lemmas.Bool.{cases_eq, cases_lt}
 use Rattle.std.proofs.lemmas.Option.{slice_get_within}
 use Rattle.cf_shape.specs.Places.{Slot, place}
 use Rattle.cf_shape.specs.Places.Slot.{tail, cell, body}
-use Rattle.cf_words.proofs.Forms.{stocks_with_label, stocks_with_node, stocks_with_mark, ticket_with_word, ticket_with_head, ticket_with_done, CanFill, CanHead, CanLink}
-use Rattle.cf_words.specs.Words.{Spot, Layout, Ticket, NodeStock, stock_of, Spells, has, marked_books, free_of, fresh_ticket, full_word}
-use Rattle.cf_words.specs.Law.{LayoutLaw, HasLeaf, Skips, IsWhole}
+use Rattle.cf_law.proofs.Forms.{stocks_with_label, stocks_with_node, stocks_with_mark, ticket_with_word, ticket_with_head, ticket_with_done, CanFill, CanHead, CanLink}
+use Rattle.cf_law.specs.Words.{Spot, Layout, Ticket, NodeStock, stock_of, Spells, has, marked_books, free_of, fresh_ticket, full_word}
+use Rattle.cf_law.specs.Law.{LayoutLaw, HasLeaf, Skips, IsWhole}
 use Rattle.cf_law.specs.Lawful.{Base, BaseLaw, IsFilledIn}
-use Rattle.cf_words.proofs.Nodes.{over_node_at, relabel_marked, use_marked, over_marked, relabel_over, use_over}
-use Rattle.cf_words.proofs.Chains.{has_nothing, has_more, has_rest}
-use Rattle.cf_words.proofs.Links.{Grows, label_keeps, link_keeps, label_law, link_law, link_leaves, label_leaves, none_from_zero, over_keeps, over_law}
-use Rattle.cf_words.proofs.Heads.{get_set_same, get_set_other, head_keeps, fill_keeps, finish_keeps, ticket_keeps, read_tail_keeps}
+use Rattle.cf_law.proofs.Nodes.{over_node_at, relabel_marked, use_marked, over_marked, relabel_over, use_over}
+use Rattle.cf_law.proofs.Chains.{has_nothing, has_more, has_rest}
+use Rattle.cf_law.proofs.Links.{Grows, label_keeps, link_keeps, label_law, link_law, link_leaves, label_leaves, none_from_zero, over_keeps, over_law}
+use Rattle.cf_law.proofs.Heads.{get_set_same, get_set_other, head_keeps, fill_keeps, finish_keeps, ticket_keeps, read_tail_keeps}
 use Rattle.cf_law.proofs.Passes.{Becomes, Evolves}
 
 -- the words after a store of v at the slot t

@@ -3,7 +3,7 @@ use Rattle.std.proofs.Common.{◌≡◌, ℕ, ◌+◌, ◌<◌, ◌==◌, ◌≢
 use Rattle.cf_lemmas.proofs.Truths.{eq_false, eq_from, eq_true}
 use Rattle.cf_row.specs.Row.{RowValue}
 use Rattle.std.proofs.lemmas.Bool.{cases_Bool}
-use Rattle.cf_words.specs.Words.{Ticket, fresh_ticket}
+use Rattle.cf_law.specs.Words.{Ticket, fresh_ticket}
 use Rattle.cf_law.specs.Passes.{Own, Flight}
 use Rattle.cf_law.specs.Steps.{ticket_of, fresh_flight}
 use Rattle.cf_law.specs.Lawful.{mine_in, flight_in}

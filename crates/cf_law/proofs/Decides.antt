@@ -4,16 +4,16 @@ use Rattle.cf_shape.specs.Uses.{Use}
 use Rattle.std.proofs.lemmas.Bool.{cases_eq}
 use Rattle.cf_shape.specs.Places.{Slot, place}
 use Rattle.cf_shape.specs.Places.Slot.{body}
-use Rattle.cf_words.specs.Words.{Spot, spot, Layout, Ticket, NodeStock, node_at, has, IsNamedBy}
+use Rattle.cf_law.specs.Words.{Spot, spot, Layout, Ticket, NodeStock, node_at, has, IsNamedBy}
 use Rattle.cf_shape.specs.Uses.Use.{plain, version}
-use Rattle.cf_words.specs.Law.{Skips, IsWhole}
+use Rattle.cf_law.specs.Law.{Skips, IsWhole}
 use Rattle.cf_law.specs.Passes.{Book, Flight, Pass}
 use Rattle.cf_law.specs.Steps.{Holds, HoldsInFlight, IsChild, Knows, free_node, ticket_of}
 use Rattle.cf_law.specs.Lawful.{Base, BaseLaw, PassLaw, Stands}
 use Rattle.cf_law.specs.Decides.{skips, skips_all, linked_if, linked_all}
 use Rattle.cf_shape.proofs.Slots.{same_slot}
-use Rattle.cf_words.proofs.Nodes.{row_of}
-use Rattle.cf_words.proofs.Chains.{both, both_intro}
+use Rattle.cf_law.proofs.Nodes.{row_of}
+use Rattle.cf_law.proofs.Chains.{both, both_intro}
 use Rattle.cf_law.proofs.Keeps.{aloft}
 use Rattle.cf_law.proofs.Loads.{reached, child_lane}
 

@@ -8,8 +8,8 @@ use Rattle.std.specs.Bool.{nat_lt}
 use Rattle.std.proofs.lemmas.Bool.{cases_lt, cases_eq}
 use Rattle.std.proofs.lemmas.Option.{slice_get_within}
 use Rattle.cf_shape.specs.Places.Slot.{cell}
-use Rattle.cf_words.specs.Words.{Layout, entry, Ticket, ticket_word, full_word, used_word, done_word}
-use Rattle.cf_words.specs.Law.{LayoutLaw, Skips}
+use Rattle.cf_law.specs.Words.{Layout, entry, Ticket, ticket_word, full_word, used_word, done_word}
+use Rattle.cf_law.specs.Law.{LayoutLaw, Skips}
 use Rattle.cf_law.specs.Lawful.{Base, BaseLaw, front}
 use Rattle.cf_law.specs.Events.{tabulated, word_at, plain_at, entries_spelled}
 use Rattle.cf_law.proofs.Passes.{Evolves, no_gap}

@@ -6,7 +6,7 @@ use Rattle.std.specs.Bool.{nat_lt}
 use Rattle.std.proofs.lemmas.Bool.{cases_Bool, cases_lt}
 use Rattle.std.proofs.lemmas.Option.{slice_get_within}
 use Rattle.cf_shape.specs.Places.Slot.{cell}
-use Rattle.cf_words.specs.Words.{Layout, Ticket, ticket_word, done_word, full_word}
+use Rattle.cf_law.specs.Words.{Layout, Ticket, ticket_word, done_word, full_word}
 use Rattle.cf_law.specs.Passes.{Own, Book, Pass}
 use Rattle.cf_law.specs.Steps.{Holds}
 use Rattle.cf_law.specs.Lawful.{Base, BaseLaw, front, mine_in, flight_in, PassLaw}

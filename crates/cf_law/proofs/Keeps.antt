@@ -7,15 +7,15 @@ use Rattle.std.proofs.lemmas.Bool.{cases_eq, cases_lt, cases_Bool}
 use Rattle.std.proofs.lemmas.Option.{slice_get_within}
 use Rattle.cf_shape.specs.Places.{Slot, place}
 use Rattle.cf_shape.specs.Places.Slot.{tail, cell}
-use Rattle.cf_words.proofs.Forms.{stocks_with_label, stocks_with_mark, ticket_with_word, ticket_with_done, CanFill, CanHead}
-use Rattle.cf_words.specs.Words.{spot, Layout, Ticket, NodeStock, stock_of, marked_books, has, fresh_ticket}
-use Rattle.cf_words.specs.Law.{LayoutLaw, IsWhole}
+use Rattle.cf_law.proofs.Forms.{stocks_with_label, stocks_with_mark, ticket_with_word, ticket_with_done, CanFill, CanHead}
+use Rattle.cf_law.specs.Words.{spot, Layout, Ticket, NodeStock, stock_of, marked_books, has, fresh_ticket}
+use Rattle.cf_law.specs.Law.{LayoutLaw, IsWhole}
 use Rattle.cf_law.specs.Passes.{Own, Flight, Book, Pass}
 use Rattle.cf_law.specs.Steps.{Holds, HoldsInFlight, ticket_of, book_with_flight, book_with_ticket, book_with_word, book_with_record, book_with_head, own_word, pass_with_book, IsNext, Knows}
 use Rattle.cf_law.specs.Lawful.{Base, BaseLaw, mine_in, flight_in, book_at, PassLaw, Stands}
 use Rattle.cf_law.specs.Events.{word_at}
-use Rattle.cf_words.proofs.Nodes.{book_same, book_other, over_node_at}
-use Rattle.cf_words.proofs.Heads.{none_after}
+use Rattle.cf_law.proofs.Nodes.{book_same, book_other, over_node_at}
+use Rattle.cf_law.proofs.Heads.{none_after}
 use Rattle.cf_law.proofs.Passes.{Becomes, Evolves}
 use Rattle.cf_law.proofs.Bases.{new_ticket, new_mark, touched, evolves_self, evolves_set, evolves_push, grows_self, ticket_base, over_base, fill_base, finish_base, head_base}
 use Rattle.cf_law.proofs.Books.{flight_of, own_of, flight_found, none_flying, set_other, push_other, set_open, set_done, push_own}
@@ -254,7 +254,7 @@ take_at sh m passes kk p r b S at held fits fresh none = elim (cases_lt m.tails.
       (sym (lt_false m.tails.0 sh.sizes.tickets (λ h. omega arith))) (take_mark sh m passes kk p b S at held fresh ge)
 ]
 
-pub tail_word_is : (sh : Layout) (m : Base) (k : ℕ) → BaseLaw sh m → k < 2 → word_at sh m.words (tail k) ≡ Rattle.cf_words.specs.Words.tail_word m.tails k
+pub tail_word_is : (sh : Layout) (m : Base) (k : ℕ) → BaseLaw sh m → k < 2 → word_at sh m.words (tail k) ≡ Rattle.cf_law.specs.Words.tail_word m.tails k
 tail_word_is sh m k law lt = law.spells (tail k) lt
 
 pub take_keeps : (sh : Layout) (m : Base) (passes : List Pass) (kk : ℕ) (p : Pass) (r : RowValue) (b : Book) → Stands sh m passes

@@ -1,3 +1,10 @@
+pub mod Forms
+pub mod Stores
+pub mod Nodes
+pub mod Chains
+pub mod Links
+pub mod Heads
+pub mod Cells
 pub mod Passes
 pub mod Bases
 pub mod Books

@@ -3,15 +3,15 @@ use Rattle.std.proofs.Common.{◌≡◌, ℕ, ◌+◌, ◌*◌, ◌<◌, zero, s
 use Rattle.std.proofs.lemmas.List.{set-get_or}
 use Rattle.cf_shape.specs.Places.{Slot, place}
 use Rattle.cf_shape.specs.Places.Slot.{body}
-use Rattle.cf_words.proofs.Forms.{stocks_with_node, CanLink}
-use Rattle.cf_words.specs.Words.{Spot, Layout, stock_of, node_at, free_of}
+use Rattle.cf_law.proofs.Forms.{stocks_with_node, CanLink}
+use Rattle.cf_law.specs.Words.{Spot, Layout, stock_of, node_at, free_of}
 use Rattle.cf_law.specs.Passes.{Book, Pass}
 use Rattle.cf_law.specs.Steps.{Holds, book_with_label, book_with_node, pass_with_book, pass_with_node, IsChild, label_of, free_node, pass_with_link, child_word}
 use Rattle.cf_law.specs.Lawful.{Base, BaseLaw, mine_in, flight_in, book_at, PassLaw, Stands}
 use Rattle.cf_law.specs.Events.{word_at}
-use Rattle.cf_words.proofs.Nodes.{label_node_at, use_book_same, use_book_other, use_node_at_here}
-use Rattle.cf_words.proofs.Links.{link_grows, node_from_word}
-use Rattle.cf_words.proofs.Heads.{get_set_same}
+use Rattle.cf_law.proofs.Nodes.{label_node_at, use_book_same, use_book_other, use_node_at_here}
+use Rattle.cf_law.proofs.Links.{link_grows, node_from_word}
+use Rattle.cf_law.proofs.Heads.{get_set_same}
 use Rattle.cf_law.proofs.Bases.{new_label, new_link, evolves_self, label_base, link_base}
 use Rattle.cf_law.proofs.Acting.{booked, knows_more, set_set}
 use Rattle.cf_law.proofs.Keeps.{Next, made_book, stock_label_same, stock_label_other}

@@ -8,9 +8,9 @@ use Rattle.std.proofs.lemmas.Bool.{cases_lt, cases_Bool}
 use Rattle.std.proofs.lemmas.Option.{slice_get_within}
 use Rattle.cf_shape.specs.Places.{Slot, place, IsReal, Sizes}
 use Rattle.cf_shape.specs.Places.Slot.{tail, cell}
-use Rattle.cf_words.specs.Words.{Spot, spot, Layout, Ticket, NodeStock, node_at, IsNamedBy, is_inner, ticket_word, done_word, full_word, tail_word}
+use Rattle.cf_law.specs.Words.{Spot, spot, Layout, Ticket, NodeStock, node_at, IsNamedBy, is_inner, ticket_word, done_word, full_word, tail_word}
 use Rattle.cf_shape.specs.Uses.Use.{version}
-use Rattle.cf_words.specs.Law.{LayoutLaw}
+use Rattle.cf_law.specs.Law.{LayoutLaw}
 use Rattle.cf_law.specs.Passes.{Cursor, Pass}
 use Rattle.cf_law.specs.Steps.{pass_with_look, pass_that_sees, pass_with_node, met_of, cursor_after_cell, Reaches}
 use Rattle.cf_law.specs.Lawful.{Base, BaseLaw, front, Known, CursorLaw, CursorIs, Leads, DoneAt, PassLaw}

@@ -3,12 +3,12 @@ use Rattle.std.proofs.Common.{◌≡◌, ◌≢◌, ℕ, ◌+◌, ◌<◌, ◌�
 use Rattle.cf_lemmas.proofs.Truths.{lt_false, lt_true}
 use Rattle.cf_row.specs.declared.row.Entry.{Entry}
 use Rattle.std.proofs.lemmas.Bool.{cases_eq, cases_lt}
-use Rattle.cf_words.specs.Words.{Layout}
+use Rattle.cf_law.specs.Words.{Layout}
 use Rattle.cf_law.specs.Passes.{Book, Pass}
 use Rattle.cf_law.specs.Steps.{Holds, without, new_pass, joined_pass, spent_pass, Splits}
 use Rattle.cf_law.specs.Steps.Splits.{bare, hands}
 use Rattle.cf_law.specs.Lawful.{Base, front, book_at, PassLaw, HoldsAt, Stands, Lawful}
-use Rattle.cf_words.proofs.Heads.{get_set_same, get_set_other}
+use Rattle.cf_law.proofs.Heads.{get_set_same, get_set_other}
 use Rattle.cf_law.proofs.Bases.{get_from_set, get_from_push}
 use Rattle.cf_law.proofs.Fronts.{front_take}
 use Rattle.cf_lemmas.proofs.Lists.{has_left}

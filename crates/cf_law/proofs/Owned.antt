@@ -6,13 +6,13 @@ use Rattle.cf_shape.specs.Uses.{Use}
 use Rattle.std.proofs.lemmas.List.{append-nil}
 use Rattle.std.specs.Bool.{nat_lt}
 use Rattle.std.proofs.lemmas.Bool.{cases_Bool, cases_eq, cases_lt}
-use Rattle.cf_words.specs.Words.{Spot, spot, Layout, Ticket, has, same_path, links, entry_at, chain, used_word, lane_word, version_word}
+use Rattle.cf_law.specs.Words.{Spot, spot, Layout, Ticket, has, same_path, links, entry_at, chain, used_word, lane_word, version_word}
 use Rattle.cf_shape.specs.Uses.Use.{plain, version}
 use Rattle.cf_law.specs.Passes.{Own, Flight, Book}
 use Rattle.cf_law.specs.Steps.{ticket_of, mine_chain, own_word, own_lane_word}
 use Rattle.cf_law.specs.Lawful.{Base, BaseLaw, mine_in, book_at}
-use Rattle.cf_words.proofs.Chains.{links_true, links_intro, entry_linked, entry_unlinked, entry_none, same_bool, same_path_true, same_path_intro}
-use Rattle.cf_words.proofs.Heads.{none_after}
+use Rattle.cf_law.proofs.Chains.{links_true, links_intro, entry_linked, entry_unlinked, entry_none, same_bool, same_path_true, same_path_intro}
+use Rattle.cf_law.proofs.Heads.{none_after}
 use Rattle.cf_law.proofs.Books.{own_of, other_cons, done_cons, open_cons}
 
 -- over all tickets, from offset k on

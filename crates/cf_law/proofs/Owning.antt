@@ -9,14 +9,14 @@ use Rattle.std.proofs.lemmas.Option.{slice_get_within}
 use Rattle.cf_shape.specs.Places.{head_slot, IsReal}
 use Rattle.cf_shape.specs.Places.Slot.{cell}
 use Rattle.cf_shape.specs.Uses.Use.{version}
-use Rattle.cf_words.specs.Words.{Spot, spot, Layout, Ticket, entry, has, same_path, links, entry_at, chain, link_to_newest, version_word, used_word, lane_word}
+use Rattle.cf_law.specs.Words.{Spot, spot, Layout, Ticket, entry, has, same_path, links, entry_at, chain, link_to_newest, version_word, used_word, lane_word}
 use Rattle.cf_law.specs.Passes.{Own, Flight, Book, Pass}
 use Rattle.cf_law.specs.Steps.{Holds, Knows, mine_chain, ticket_of}
 use Rattle.cf_law.specs.Lawful.{Base, BaseLaw, PassLaw, front, mine_in, flight_in, book_at}
 use Rattle.cf_law.specs.Events.{word_at}
 use Rattle.cf_law.specs.Readers.{mine_from, own_top, own_top_by}
-use Rattle.cf_words.proofs.Chains.{links_true, entry_linked, entry_unlinked, entry_none, chain_same, chain_from, chain_top}
-use Rattle.cf_words.proofs.Heads.{none_after}
+use Rattle.cf_law.proofs.Chains.{links_true, entry_linked, entry_unlinked, entry_none, chain_same, chain_from, chain_top}
+use Rattle.cf_law.proofs.Heads.{none_after}
 use Rattle.cf_law.proofs.Passes.{head_word}
 use Rattle.cf_law.proofs.Books.{own_of, other_cons, done_cons, open_cons, none_flying}
 use Rattle.cf_law.proofs.Owned.{walk, mine_walk, chain_walk, chain_mine, Settled}

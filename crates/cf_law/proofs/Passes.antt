@@ -7,15 +7,15 @@ use Rattle.std.proofs.lemmas.Bool.{cases_eq}
 use Rattle.std.specs.Bool.{nat_lt}
 use Rattle.cf_shape.specs.Places.{Slot, place, IsReal}
 use Rattle.cf_shape.specs.Places.Slot.{cell}
-use Rattle.cf_words.specs.Words.{Spot, spot, Layout, Ticket, NodeStock, node_at, IsNamedBy, NodeWord, BodyWord, is_inner, Spells, chain, link_to_newest, has, ticket_word, full_word, used_word, lane_word, version_word}
+use Rattle.cf_law.specs.Words.{Spot, spot, Layout, Ticket, NodeStock, node_at, IsNamedBy, NodeWord, BodyWord, is_inner, Spells, chain, link_to_newest, has, ticket_word, full_word, used_word, lane_word, version_word}
 use Rattle.cf_shape.specs.Uses.Use.{version}
-use Rattle.cf_words.specs.Law.{NodesLaw}
+use Rattle.cf_law.specs.Law.{NodesLaw}
 use Rattle.cf_law.specs.Passes.{Cursor}
 use Rattle.cf_law.specs.Steps.{met_of}
 use Rattle.cf_law.specs.Lawful.{Known, IsFilledIn, Leads, HasWriter, CursorLaw, CursorIs, DoneAt}
-use Rattle.cf_words.proofs.Nodes.{row_of, col_of}
-use Rattle.cf_words.proofs.Chains.{has_first, has_rest, links_true, links_intro, chain_has, chain_is, IsEntry}
-use Rattle.cf_words.proofs.Links.{Grows, known_word}
+use Rattle.cf_law.proofs.Nodes.{row_of, col_of}
+use Rattle.cf_law.proofs.Chains.{has_first, has_rest, links_true, links_intro, chain_has, chain_is, IsEntry}
+use Rattle.cf_law.proofs.Links.{Grows, known_word}
 
 pub no_gap : {A : Type 0} (xs : List A) (i : ℕ) → i < length xs → slice_get xs i ≡ None → ⊥
 no_gap [] i lt e = omega arith
@@ -160,7 +160,7 @@ previous_word sh ts log bs words c o k leads is within room small spells =
     let v = get_or words (place sh.sizes (cell o k)) 0 in
     let r0 : v ≡ ticket_word sh log o k (slice_get log o) = spells (cell o k) (room, omega arith) in
     let r1 : ticket_word sh log o k (Some t) ≡ full_word sh log o t k =
-    ap (λ (b : Bool). cond b (Rattle.cf_words.specs.Words.done_word t.is_done) (cond (nat_lt k t.filled) (full_word sh log o t k) 0))
+    ap (λ (b : Bool). cond b (Rattle.cf_law.specs.Words.done_word t.is_done) (cond (nat_lt k t.filled) (full_word sh log o t k) 0))
     (eq_false (suc k) sh.sizes.ticket_words (λ e. omega arith))
     ∙ ap (λ (b : Bool). cond b (full_word sh log o t k) 0) (lt_true k t.filled (leads.4 k 0 is within)) in
     let r2 : full_word sh log o t k ≡ version_word sh c.spot.lane 0 (chain sh log t.writer c.spot o) t.row =

@@ -6,8 +6,8 @@ use Rattle.cf_shape.specs.Lanes.{ShapeValue, selected_by, key_of}
 use Rattle.cf_shape.specs.Nodes.{levels_of}
 use Rattle.cf_shape.specs.Uses.{Use}
 use Rattle.cf_shape.specs.Uses.Use.{plain, version}
-use Rattle.cf_words.specs.Words.{Layout, Ticket}
-use Rattle.cf_words.specs.Law.{Skips}
+use Rattle.cf_law.specs.Words.{Layout, Ticket}
+use Rattle.cf_law.specs.Law.{Skips}
 use Rattle.cf_law.specs.Nibbles.{nibbles}
 use Rattle.cf_law.specs.Shapes.{path_in}
 

@@ -12,18 +12,18 @@ use Rattle.std.proofs.lemmas.Option.{slice_get_within}
 use Rattle.cf_shape.specs.Places.{Slot, place, IsReal}
 use Rattle.cf_shape.specs.Places.Slot.{tail, cell}
 use Rattle.cf_shape.specs.Uses.Use.{version}
-use Rattle.cf_words.specs.Words.{marked_books, Spot, spot, Layout, entry, Ticket, NodeStock, stock_of, node_at, IsNamedBy, has, same_path, ticket_word, done_word, full_word, links, entry_at, chain, version_word, used_word, lane_word}
-use Rattle.cf_words.specs.Law.{LayoutLaw, NodesLaw}
+use Rattle.cf_law.specs.Words.{marked_books, Spot, spot, Layout, entry, Ticket, NodeStock, stock_of, node_at, IsNamedBy, has, same_path, ticket_word, done_word, full_word, links, entry_at, chain, version_word, used_word, lane_word}
+use Rattle.cf_law.specs.Law.{LayoutLaw, NodesLaw}
 use Rattle.cf_law.specs.Passes.{Book, Flight, Cursor, Pass}
 use Rattle.cf_law.specs.Steps.{HoldsInFlight, IsChild, Knows, Step, met_of, ticket_of, own_word}
 use Rattle.cf_law.specs.Lawful.{Base, BaseLaw, front, CursorLaw, CursorIs, Leads, PassLaw, Stands, Lawful}
 use Rattle.cf_law.specs.Events.{word_at, entries_spelled}
 use Rattle.cf_law.specs.Readers.{NoneThrough, NoneOwn, pick_at, picks, WalkTells, EntryTells, IsFit, HasNode, IsBounded, AtHome, Tells, GoesOn, StepTells}
-use Rattle.cf_words.proofs.Nodes.{node_of, node_within}
+use Rattle.cf_law.proofs.Nodes.{node_of, node_within}
 use Rattle.cf_shape.proofs.Slots.{place_within}
-use Rattle.cf_words.proofs.Chains.{both, both_intro, same_bool, links_true, links_intro, same_path_true, same_path_intro, entry_linked, entry_unlinked}
-use Rattle.cf_words.proofs.Links.{none_from_zero}
-use Rattle.cf_words.proofs.Heads.{get_set_same}
+use Rattle.cf_law.proofs.Chains.{both, both_intro, same_bool, links_true, links_intro, same_path_true, same_path_intro, entry_linked, entry_unlinked}
+use Rattle.cf_law.proofs.Links.{none_from_zero}
+use Rattle.cf_law.proofs.Heads.{get_set_same}
 use Rattle.cf_law.proofs.Passes.{no_gap, previous_word, top_within}
 use Rattle.cf_law.proofs.Fronts.{front_at, front_get, front_take, front_length, front_evolves, word_filled, word_spells}
 use Rattle.cf_law.proofs.Owned.{own_word_is}

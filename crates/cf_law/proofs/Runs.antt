@@ -6,8 +6,8 @@ use Rattle.std.proofs.lemmas.Bool.{cases_lt}
 use Rattle.std.proofs.lemmas.Option.{slice_get_within}
 use Rattle.cf_shape.specs.Places.{Slot, place, word_total}
 use Rattle.cf_shape.specs.Places.Slot.{tail, cell, root, body}
-use Rattle.cf_words.specs.Words.{Spot, Layout, NodeStock, stock_of, node_at, spare_label, IsWordOf, BodyWord, marked_books}
-use Rattle.cf_words.specs.Law.{LayoutLaw}
+use Rattle.cf_law.specs.Words.{Spot, Layout, NodeStock, stock_of, node_at, spare_label, IsWordOf, BodyWord, marked_books}
+use Rattle.cf_law.specs.Law.{LayoutLaw}
 use Rattle.cf_law.specs.Passes.{Book, Pass}
 use Rattle.cf_law.specs.Steps.{new_pass}
 use Rattle.cf_law.specs.Lawful.{Base, BaseLaw, mine_in, flight_in, book_at, PassLaw, HoldsAt, Stands, World, Lawful}

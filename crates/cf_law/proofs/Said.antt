@@ -7,8 +7,8 @@ use Rattle.cf_row.specs.declared.row.Entry.{Entry}
 use Rattle.cf_shape.specs.Lanes.{ShapeValue}
 use Rattle.cf_shape.specs.Places.{place}
 use Rattle.cf_shape.specs.Places.Slot.{tail, cell}
-use Rattle.cf_words.specs.Words.{Layout, Ticket, ticket_word, done_word, full_word}
-use Rattle.cf_words.specs.Law.{LayoutLaw}
+use Rattle.cf_law.specs.Words.{Layout, Ticket, ticket_word, done_word, full_word}
+use Rattle.cf_law.specs.Law.{LayoutLaw}
 use Rattle.cf_law.specs.Passes.{Cursor, Pass}
 use Rattle.cf_law.specs.Lawful.{Base, BaseLaw, PassLaw, CursorLaw, CursorIs, Leads, Stands, Lawful, World, book_at}
 use Rattle.cf_law.specs.Events.{WorldEvent, IsEvent, opening, no_book, tabulated, word_at, entries_spelled}
@@ -18,7 +18,7 @@ use Rattle.cf_law.specs.Readers.{Tells}
 use Rattle.cf_law.specs.Plainly.{SaysPlainly}
 use Rattle.cf_law.specs.PlainPasses.{SaysOfPasses, LawfulSaysAllPlainly}
 use Rattle.cf_law.specs.Laws.{Plays, EveryListKeepsTheLaw, OpeningIsEmpty, ReadTailCoversFinished, WriteTailIsBounded, SeenNeverChanges, WordsTell, StepsTell}
-use Rattle.cf_words.proofs.Nodes.{node_within}
+use Rattle.cf_law.proofs.Nodes.{node_within}
 use Rattle.std.proofs.lemmas.Nat.{mul-add-lt}
 use Rattle.cf_law.proofs.Bases.{evolves_self}
 use Rattle.cf_law.proofs.Shapes.{layout_law}
@@ -239,8 +239,8 @@ seen_never_changes s x y es j k o p q is law run at there lp lq =
         let b = u.2 in
         let a = at_seen sh m p o t P lp e in
         let c = at_seen sh n q o u.0 Q lq u.1 in
-        let same : Rattle.cf_words.specs.Words.entry t.writer t.row ≡ Rattle.cf_words.specs.Words.entry (u.0).writer (u.0).row =
-        Rattle.std.proofs.Common.ap₂ Rattle.cf_words.specs.Words.entry (sym b.writer) (sym b.row) in
+        let same : Rattle.cf_law.specs.Words.entry t.writer t.row ≡ Rattle.cf_law.specs.Words.entry (u.0).writer (u.0).row =
+        Rattle.std.proofs.Common.ap₂ Rattle.cf_law.specs.Words.entry (sym b.writer) (sym b.row) in
         a ∙ (ap (λ (z : Entry). Some z) same ∙ sym c)
 
 pub words_tell : WordsTell

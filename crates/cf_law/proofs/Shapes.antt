@@ -10,8 +10,8 @@ use Rattle.cf_shape.specs.Lanes.{ShapeValue, IsShape, selected_by, key_of, lane_
 use Rattle.cf_shape.specs.Nodes.{levels_of}
 use Rattle.cf_shape.specs.Uses.{cells_before, cell_words, has_measure, is_measured}
 use Rattle.cf_shape.proofs.Used.{plain_at, version_at, version_is, before_fits}
-use Rattle.cf_words.specs.Words.{entry}
-use Rattle.cf_words.specs.Law.{LayoutLaw}
+use Rattle.cf_law.specs.Words.{entry}
+use Rattle.cf_law.specs.Law.{LayoutLaw}
 use Rattle.cf_law.specs.Nibbles.{nibbles}
 use Rattle.cf_law.specs.Shapes.{path_in, row_fits, layout}
 use Rattle.cf_law.proofs.Nibbles.{length-nibbles, nibble_small}

@@ -8,14 +8,14 @@ use Rattle.std.proofs.lemmas.Nat.{mul-add-lt}
 use Rattle.std.proofs.lemmas.List.{set-get_or}
 use Rattle.cf_shape.specs.Places.{Slot, place, IsReal}
 use Rattle.cf_shape.specs.Places.Slot.{tail, cell}
-use Rattle.cf_words.specs.Words.{Spot, spot, Layout}
-use Rattle.cf_words.specs.Law.{LayoutLaw}
+use Rattle.cf_law.specs.Words.{Spot, spot, Layout}
+use Rattle.cf_law.specs.Law.{LayoutLaw}
 use Rattle.cf_law.specs.Passes.{Book, Pass}
 use Rattle.cf_law.specs.Steps.{Act, Step, pass_with_look, pass_that_sees, pass_with_tail, pass_with_child, pass_with_head, pass_with_cell, pass_with_node, met_of, cursor_after_cell, IsChild, Knows}
 use Rattle.cf_law.specs.Steps.Step.{takes, stores, finishes, advances, loads_tail, looks_done, loads_word, labels, links, heads, loads_child, loads_head, loads_cell}
 use Rattle.cf_law.specs.Lawful.{Base, BaseLaw, PassLaw, Stands}
 use Rattle.cf_law.specs.Events.{word_at, entries_spelled}
-use Rattle.cf_words.proofs.Nodes.{node_within}
+use Rattle.cf_law.proofs.Nodes.{node_within}
 use Rattle.cf_law.proofs.Bases.{moved, advance_base, evolves_self, grows_self}
 use Rattle.cf_law.proofs.Acting.{acted, knows_more}
 use Rattle.cf_law.proofs.Keeps.{Next, take_keeps, store_keeps, finish_keeps, head_keeps}

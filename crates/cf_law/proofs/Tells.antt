@@ -2,12 +2,12 @@
 use Rattle.std.proofs.Common.{◌≡◌, ℕ, ◌+◌, ◌*◌, ◌<◌, suc, List, [], ◌∷◌, length, Option, Some, None, arith, ap, sym, ◌∙◌, subst}
 use Rattle.cf_shape.specs.Places.{Slot, place, IsReal}
 use Rattle.cf_shape.specs.Places.Slot.{body}
-use Rattle.cf_words.specs.Words.{Spot, Layout, stock_of, node_at, IsNamedBy, BodyWord, free_of}
+use Rattle.cf_law.specs.Words.{Spot, Layout, stock_of, node_at, IsNamedBy, BodyWord, free_of}
 use Rattle.cf_law.specs.Lawful.{Base, BaseLaw}
 use Rattle.cf_law.specs.Events.{word_at}
 use Rattle.cf_law.specs.Plainly.{IsChildWord}
-use Rattle.cf_words.proofs.Nodes.{node_within, free_is_free, spare_free}
-use Rattle.cf_words.proofs.Links.{node_from_word, known_word}
+use Rattle.cf_law.proofs.Nodes.{node_within, free_is_free, spare_free}
+use Rattle.cf_law.proofs.Links.{node_from_word, known_word}
 
 -- A used node's label is the place of the word that names it, and its level.
 pub label_tells : (sh : Layout) (x : Base) (n : ℕ) (s : Spot) → BaseLaw sh x → node_at sh.sizes.nodes x.stocks n ≡ Some s

@@ -1,7 +1,7 @@
 -- Tests for the conditions that speak of all words or lanes.
 use Rattle.std.specs.Prelude.{ℕ, zero, suc, List, Bool, true, false, cond, Option, Some, None}
 use Rattle.cf_shape.specs.Uses.{Use}
-use Rattle.cf_words.specs.Words.{Layout, Ticket, has}
+use Rattle.cf_law.specs.Words.{Layout, Ticket, has}
 use Rattle.cf_shape.specs.Uses.Use.{plain, version}
 
 -- whether there is no value

@@ -3,9 +3,9 @@ use Rattle.std.specs.Prelude.{ℕ, ◌+◌, ◌<◌, ◌≤◌, ◌≡◌, ◌==
 use Rattle.cf_row.specs.declared.row.Entry.{Entry}
 use Rattle.cf_shape.specs.Places.{place, word_total}
 use Rattle.cf_shape.specs.Places.Slot.{cell}
-use Rattle.cf_words.specs.Words.{Spot, Layout, entry, Ticket, NodeStock, stock_of, marked_books, node_at, has, Spells}
+use Rattle.cf_law.specs.Words.{Spot, Layout, entry, Ticket, NodeStock, stock_of, marked_books, node_at, has, Spells}
 use Rattle.cf_shape.specs.Uses.Use.{version}
-use Rattle.cf_words.specs.Law.{NodesLaw, LeavesLaw, FlightLaw, IsWhole}
+use Rattle.cf_law.specs.Law.{NodesLaw, LeavesLaw, FlightLaw, IsWhole}
 use Rattle.cf_law.specs.Passes.{Own, Flight, Book, Cursor, Pass}
 use Rattle.cf_law.specs.Steps.{Holds}
 

@@ -4,7 +4,7 @@ use Rattle.cf_row.specs.declared.row.Entry.{Entry}
 use Rattle.cf_shape.specs.Lanes.{ShapeValue, IsShape}
 use Rattle.cf_shape.specs.Places.{Slot, place, word_total}
 use Rattle.cf_shape.specs.Places.Slot.{tail, cell}
-use Rattle.cf_words.specs.Words.{Layout}
+use Rattle.cf_law.specs.Words.{Layout}
 use Rattle.cf_law.specs.Passes.{Pass}
 use Rattle.cf_law.specs.Steps.{Act, Step}
 use Rattle.cf_law.specs.Lawful.{World, Lawful}

@@ -1,3 +1,5 @@
+pub mod Words
+pub mod Law
 pub mod Passes
 pub mod Steps
 pub mod Lawful

@@ -4,8 +4,8 @@ use Rattle.cf_row.specs.declared.row.Entry.{Entry}
 use Rattle.cf_shape.specs.Lanes.{ShapeValue, IsShape}
 use Rattle.cf_shape.specs.Places.{place}
 use Rattle.cf_shape.specs.Places.Slot.{tail, cell}
-use Rattle.cf_words.specs.Words.{Layout, Ticket, entry, has}
-use Rattle.cf_words.specs.Law.{IsWhole}
+use Rattle.cf_law.specs.Words.{Layout, Ticket, entry, has}
+use Rattle.cf_law.specs.Law.{IsWhole}
 use Rattle.cf_law.specs.Passes.{Cursor, Pass}
 use Rattle.cf_law.specs.Lawful.{Base, HoldsAt, IsFilledIn, Lawful, book_at}
 use Rattle.cf_law.specs.Events.{word_at}

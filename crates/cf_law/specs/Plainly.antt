@@ -2,7 +2,7 @@
 use Rattle.std.specs.Prelude.{ℕ, ◌+◌, ◌*◌, ◌<◌, ◌≤◌, ◌≡◌, suc, List, ◌∷◌, ◌++◌, length, get_or, true, Some, None, slice_get}
 use Rattle.cf_shape.specs.Places.{Slot, place, IsReal, head_slot}
 use Rattle.cf_shape.specs.Places.Slot.{tail, cell, body}
-use Rattle.cf_words.specs.Words.{Spot, spot, Layout, Ticket, NodeStock, stock_of, marked_books, node_at, IsNamedBy, free_of, has, done_word, full_word, chain, link_to_newest}
+use Rattle.cf_law.specs.Words.{Spot, spot, Layout, Ticket, NodeStock, stock_of, marked_books, node_at, IsNamedBy, free_of, has, done_word, full_word, chain, link_to_newest}
 use Rattle.cf_law.specs.Passes.{Cursor, Pass}
 use Rattle.cf_law.specs.Lawful.{Base}
 use Rattle.cf_law.specs.Events.{word_at}

@@ -5,7 +5,7 @@ use Rattle.cf_row.specs.declared.row.Entry.{Entry}
 use Rattle.cf_shape.specs.Places.{head_slot}
 use Rattle.cf_shape.specs.Places.{Slot}
 use Rattle.cf_shape.specs.Places.Slot.{tail, cell}
-use Rattle.cf_words.specs.Words.{Spot, spot, Layout, has, same_path, version_word, link_to_newest}
+use Rattle.cf_law.specs.Words.{Spot, spot, Layout, has, same_path, version_word, link_to_newest}
 use Rattle.cf_shape.specs.Uses.Use.{version}
 use Rattle.cf_law.specs.Passes.{Own, Flight, Book, Cursor, Pass}
 use Rattle.cf_law.specs.Steps.{Holds, IsChild, Knows, HoldsInFlight, met_of, mine_chain, own_word}

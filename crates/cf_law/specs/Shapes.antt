@@ -7,7 +7,7 @@ use Rattle.cf_shape.specs.Lanes.{ShapeValue, selected_by, key_of, measure_of}
 use Rattle.cf_shape.specs.Nodes.{levels_of}
 use Rattle.cf_shape.specs.Uses.{use_at, is_measured}
 use Rattle.cf_shape.specs.Places.{sizes_of}
-use Rattle.cf_words.specs.Words.{entry, Layout}
+use Rattle.cf_law.specs.Words.{entry, Layout}
 use Rattle.cf_law.specs.Nibbles.{nibbles}
 
 -- the row's path in a lane, the last nibble first, or None where the lane does not select the row

@@ -6,9 +6,9 @@ use Rattle.cf_shape.specs.Places.{head_slot}
 use Rattle.cf_shape.specs.Uses.{Use}
 use Rattle.cf_shape.specs.Places.{Slot, place, IsReal}
 use Rattle.cf_shape.specs.Places.Slot.{tail, cell, root, body}
-use Rattle.cf_words.specs.Words.{Spot, spot, Layout, Ticket, has, same_path, version_word}
+use Rattle.cf_law.specs.Words.{Spot, spot, Layout, Ticket, has, same_path, version_word}
 use Rattle.cf_shape.specs.Uses.Use.{plain, version}
-use Rattle.cf_words.specs.Law.{Skips, IsWhole}
+use Rattle.cf_law.specs.Law.{Skips, IsWhole}
 use Rattle.cf_law.specs.Passes.{Own, Flight, Book, Look, Cursor, Pass}
 
 -- what a pass does in one step. Tickets are named by their offsets, lanes, nodes, words and writers by their numbers, all from 0:

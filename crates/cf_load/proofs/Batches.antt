@@ -12,7 +12,7 @@ use Rattle.cf_row.specs.declared.row.Entry.{Entry}
 use Rattle.cf_history.specs.Order.{rows_of, written_by}
 use Rattle.cf_shape.specs.Lanes.{ShapeValue, IsShape}
 use Rattle.cf_shape.specs.Nodes.{Node, nodes_for, nodes_of, same_node, add_node, distinct}
-use Rattle.cf_words.specs.Words.{Spot}
+use Rattle.cf_law.specs.Words.{Spot}
 use Rattle.cf_law.specs.Passes.{Own, Book, Pass}
 use Rattle.cf_law.specs.Steps.{Holds, IsAtRest}
 use Rattle.cf_table.specs.Values.{PassValue, LogValue, IsOf, book_of}

@@ -15,7 +15,7 @@ use Rattle.cf_law.specs.Events.{no_book}
 use Rattle.cf_table.specs.Values.{PassValue, LogValue, IsOf, book_of}
 use Rattle.cf_table.specs.Moves.{Begins}
 use Rattle.cf_table.proofs.Settling.{begins_then}
-use Rattle.cf_words.specs.Words.{Spot}
+use Rattle.cf_law.specs.Words.{Spot}
 use Rattle.cf_append.specs.Paths.{IsOnPath, with_nodes}
 use Rattle.cf_append.specs.Appends.{PassGoesOn, Rests, IsAppended, IsNodesFull, HasAppendAnswer, with_own, with_mark, IsReady}
 use Rattle.cf_append.specs.declared.appends.AppendFault.{AppendFault}

@@ -1,7 +1,7 @@
 -- What the writers of a batch append.
 use Rattle.std.specs.Prelude.{ℕ, ◌≡◌, ◌⊎◌, Bool, List, [], ◌∷◌, ◌++◌, true, map, Some, slice_get}
 use Rattle.cf_row.specs.Row.{RowValue}
-use Rattle.cf_words.specs.Words.{Spot}
+use Rattle.cf_law.specs.Words.{Spot}
 use Rattle.cf_law.specs.Passes.{Book}
 use Rattle.cf_table.specs.Values.{PassValue, LogValue, book_of}
 use Rattle.cf_table.specs.Moves.{Begins}

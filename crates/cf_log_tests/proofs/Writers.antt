@@ -6,7 +6,7 @@ use Rattle.cf_shape.specs.Lanes.{ShapeValue}
 use Rattle.cf_law.specs.Passes.{Book, Pass}
 use Rattle.cf_law.specs.Steps.{Holds, IsAtRest}
 use Rattle.cf_law.specs.Events.{tabulated, no_book}
-use Rattle.cf_words.specs.Words.{Layout}
+use Rattle.cf_law.specs.Words.{Layout}
 use Rattle.cf_law.specs.Readers.{AtHome}
 use Rattle.cf_law.proofs.Fronts.{table_length, table_at}
 use Rattle.cf_table.specs.Values.{PassValue, LogValue, IsOf, book_of}

@@ -1,7 +1,7 @@
 -- Captures are read one after another into a log of any length: which records came, and how they end.
 use Rattle.std.specs.Prelude.{◌≡◌, ℕ, suc, ◌*◌, ◌-◌, ◌^◌, ◌<◌, ◌≤◌, Bool, true, false, List, [], take, length, Option, Some, None, Result, Ok, Err}
 use Rattle.cf_outside.specs.Files.{File}
-use Rattle.cf_packet6.specs.Schema6.{attrs_by}
+use Rattle.cf_row.specs.Schema6.{attrs_by}
 use Rattle.cf_row.specs.Row.{RowValue}
 use Rattle.cf_shape.specs.Lanes.{ShapeValue}
 use Rattle.cf_setup.specs.Setups.{SetupValue}

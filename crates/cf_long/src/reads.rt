@@ -1,6 +1,6 @@
 // Captures are read one after another into a log of any length.
 ghost use Rattle.std.specs.Prelude.{◌≡◌, ◌++◌, ℕ, List, [], All, Err, MatchResult, length};
-ghost use Rattle.cf_packet6.specs.Schema6.{attrs_by};
+ghost use Rattle.cf_row.specs.Schema6.{attrs_by};
 ghost use Rattle.cf_row.specs.Row.{Fits, RowValue};
 ghost use Rattle.cf_setup.specs.Setups.{shaped};
 ghost use Rattle.cf_intake.specs.Causes.{HasHaltCause};

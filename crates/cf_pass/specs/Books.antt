@@ -1,7 +1,7 @@
 -- What is asked of passes and their books, and what becomes of them.
 use Rattle.std.specs.Prelude.{ℕ, ◌+◌, ◌*◌, ◌%◌, ◌^◌, ◌<◌, ◌≡◌, ◌⊎◌, suc, [], ◌∷◌, cond, nat_lt, length, Some, None, slice_get, true, false}
 use Rattle.cf_row.specs.Row.{RowValue}
-use Rattle.cf_words.specs.Words.{Spot}
+use Rattle.cf_law.specs.Words.{Spot}
 use Rattle.cf_law.specs.Passes.{Own, Flight, Book, Cursor, Pass}
 use Rattle.cf_law.specs.Steps.{book_with_flight, fresh_flight, HoldsInFlight, Holds, Knows, IsOwn, IsNamed}
 

@@ -1,6 +1,6 @@
 // What a pass knows of nodes: lanes and prefixes, the nodes that stand for them, and a walk down a chain.
 ghost use Rattle.std.specs.Prelude.{◌≡◌, ◌<◌, ◌^◌, ◌∷◌, [], IfOk, IsTrue, ◌↔◌, length};
-ghost use Rattle.cf_words.specs.Words.{spot as spot_of};
+ghost use Rattle.cf_law.specs.Words.{spot as spot_of};
 ghost use Rattle.cf_law.specs.Steps.{met_of, cursor_after_cell as walk_on_of};
 ghost use Rattle.cf_pass.specs.Books.{gone_on_of, NamesTicket};
 
@@ -16,7 +16,7 @@ pub struct NodeSpot {
 }
 
 impl Model for NodeSpot {
-    ghost use Rattle.cf_words.specs.Words.{Spot};
+    ghost use Rattle.cf_law.specs.Words.{Spot};
 
     ghost Value = { Spot };
 
@@ -32,7 +32,7 @@ pub struct KnownNode {
 
 impl Model for KnownNode {
     ghost use Rattle.std.specs.Prelude.{ℕ};
-    ghost use Rattle.cf_words.specs.Words.{Spot};
+    ghost use Rattle.cf_law.specs.Words.{Spot};
 
     ghost Value = { Spot × ℕ };
 

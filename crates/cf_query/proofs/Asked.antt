@@ -2,7 +2,7 @@
 use Rattle.std.proofs.Common.{◌≡◌, ◌∙◌, ℕ, List, [], ◌∷◌, ◌++◌, true, length, take, slice_get, ap, sym}
 use Rattle.cf_row.specs.declared.row.Entry.{Entry}
 use Rattle.cf_shape.specs.Lanes.{ShapeValue}
-use Rattle.cf_words.specs.Words.{Spot}
+use Rattle.cf_law.specs.Words.{Spot}
 use Rattle.cf_law.specs.Passes.{Pass}
 use Rattle.cf_table.specs.Values.{PassValue}
 use Rattle.cf_table.specs.Effects.{HasStepped, tail_effect}

@@ -6,7 +6,7 @@ use Rattle.cf_row.specs.declared.row.Entry.{Entry}
 use Rattle.cf_row.proofs.Bytes.{both}
 use Rattle.cf_shape.specs.Lanes.{ShapeValue, lane_at}
 use Rattle.cf_shape.specs.Uses.{has_measure, is_measured}
-use Rattle.cf_words.specs.Words.{Spot}
+use Rattle.cf_law.specs.Words.{Spot}
 use Rattle.cf_law.specs.Passes.{Cursor, Pass}
 use Rattle.cf_plain.specs.Asks.{is_attr, exists, is_indexed, is_bucketed, is_aggregate, is_tally, is_measuring}
 use Rattle.cf_table.specs.Values.{PassValue}

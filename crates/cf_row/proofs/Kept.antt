@@ -304,11 +304,11 @@ above n m lt = elim (cases_Bool (nat_le n m)) [
 ]
 
 pub too_many_words : (vs : List Value) (i at n : ℕ) → i < length vs → at ≡ length (values_words (take i vs))
-    → is_of_kind (kind_of n) (get_or vs i (Num 0)) ≡ true → 20 < at + words_of_kind (kind_of n) → lie_within vs ≡ false
+    → is_of_kind (kind_of n) (get_or vs i (Num 0)) ≡ true → 32 < at + words_of_kind (kind_of n) → lie_within vs ≡ false
 too_many_words vs i at n lt end fits gt =
     let v : Value = get_or vs i (Num 0) in
     let m = ap (length {A = ℕ}) (words_more vs i (Num 0) lt) in
     let long = value_long (kind_of n) v fits in
     let all = words_front vs (i + 1) in
-    let more : 20 < length (values_words vs) = omega (arith, m, long, all, end, gt, length-append (values_words (take i vs)) (value_words v)) in
-    no_and (nat_le (length vs) 20 && list_all can_be_kept vs) (nat_le (length (values_words vs)) 20) (above (length (values_words vs)) 20 more)
+    let more : 32 < length (values_words vs) = omega (arith, m, long, all, end, gt, length-append (values_words (take i vs)) (value_words v)) in
+    no_and (nat_le (length vs) 32 && list_all can_be_kept vs) (nat_le (length (values_words vs)) 32) (above (length (values_words vs)) 32 more)

@@ -5,3 +5,4 @@ pub mod Spelling
 pub mod Readable
 pub mod Written
 pub mod Kept
+pub mod Lawful

@@ -62,6 +62,6 @@ len_of_value (Raw len bytes) = len
 abbrev pub can_be_kept : Value → Bool
 can_be_kept value = is_of_kind (kind_of (len_of_value value)) value
 
--- the values have room within a row: there are at most 20 of them, each can be kept, and all take at most 20 words
+-- the values have room within a row: there are at most 32 of them, each can be kept, and all take at most 32 words
 abbrev pub lie_within : List Value → Bool
-lie_within values = nat_le (length values) 20 && list_all can_be_kept values && nat_le (length (values_words values)) 20
+lie_within values = nat_le (length values) MOST_ATTRS && list_all can_be_kept values && nat_le (length (values_words values)) MOST_ATTRS

@@ -65,21 +65,21 @@ impl Values {
     }
 }
 
-/// How many words a row keeps within itself: those of a packet.
-const FEW: usize = 20;
+/// How many words a row keeps within itself: those of a packet, by either schema.
+const FEW: usize = MOST_ATTRS;
 
 /// The words of a row: a few lie within it, more have a block of their own.
 #[derive(Debug, Drop)]
 pub(crate) enum Words {
     // the words, and how many of them count
-    Few([u64; 20], u8),
+    Few([u64; MOST_ATTRS], u8),
     Many(Vec<u64>),
 }
 
 impl Words {
     fn new(alloc: Global, words: &[u64]) -> Result<Words, Memory>
         ensures words { IfOk result (λ kept. words_in kept ≡ words.now) }
-        ensures free { length words.now ≤ 20 → IsOk result }
+        ensures free { length words.now ≤ MOST_ATTRS → IsOk result }
     {
         if words.len() > FEW {
             return Ok(Words::Many(words.to_vec(alloc)?));
@@ -100,7 +100,7 @@ impl Words {
 
     fn copy(&self, alloc: Global) -> Result<Words, Memory>
         ensures words { IfOk result (λ kept. words_in kept ≡ words_in self.now) }
-        ensures free { length (words_in self.now) ≤ 20 → IsOk result }
+        ensures free { length (words_in self.now) ≤ MOST_ATTRS → IsOk result }
     {
         match self {
             Words::Few(words, count) => Ok(Words::Few(*words, *count)),
@@ -110,7 +110,7 @@ impl Words {
 }
 
 // The first words, all of them where there are fewer.
-fn front(words: &[u64; 20], count: u8) -> &[u64]
+fn front(words: &[u64; MOST_ATTRS], count: u8) -> &[u64]
     ensures { result.now ≡ take count words.now }
 {
     &words[..usize::from(count).min(FEW)]
@@ -147,7 +147,7 @@ impl Spelling {
         requires long { length words.now ≡ word_count attrs.now }
         requires fits { words_fit attrs.now words.now ≡ true }
         ensures read { IfOk result (λ spelling. spelling ≡ values_read attrs.now words.now) }
-        ensures free { length words.now ≤ 20 → IsOk result }
+        ensures free { length words.now ≤ MOST_ATTRS → IsOk result }
     {
         Ok(Spelling {
             lens: lens_of(attrs),
@@ -210,7 +210,7 @@ impl Spelling {
 
     fn copy(&self, alloc: Global) -> Result<Spelling, Memory>
         ensures same { IfOk result (λ spelling. spelling ≡ self.now) }
-        ensures free { length (values_words self.now) ≤ 20 → IsOk result }
+        ensures free { length (values_words self.now) ≤ MOST_ATTRS → IsOk result }
     {
         let words = self.words.copy(alloc)?;
         Ok(Spelling {

@@ -180,13 +180,13 @@ pub(crate) fn read_value(kind: Kind, words: &[u64], at: usize) -> Value
     }
 }
 
-/// The entry that these words spell, without a block of memory where its values have at most 20 words.
+/// The entry that these words spell, without a block of memory where its values have at most 32 words.
 pub fn row_of(alloc: Global, schema: &Schema, words: &[u64]) -> Result<Entry, Memory>
     requires { AreSpelled schema.now words.now }
     ensures entry { IfOk result (λ entry. IsEntry schema.now entry × (words.now ≡ spelled entry)) }
     ensures inverse { IfOk result (λ read. (entry : Entry) → IsEntry schema.now entry → words.now ≡ spelled entry → read ≡ entry) }
     ensures read { IfOk result (λ entry. entry ≡ entry_read schema.now words.now) }
-    ensures free { word_count_of schema.now ≤ 20 → IsOk result }
+    ensures free { word_count_of schema.now ≤ MOST_ATTRS → IsOk result }
 {
     let count = word_count(schema);
     let values = Spelling::new(alloc, schema.attrs(), &words[..count])?;

@@ -4,7 +4,7 @@ use Rattle.std.specs.Io.KnownBytes.{Keeps}
 use Rattle.std.specs.Option.{option_map}
 use Rattle.cf_outside.specs.Files.{File}
 use Rattle.cf_row.specs.Row.{RowValue}
-use Rattle.cf_packet6.specs.Schema6.{attrs_by}
+use Rattle.cf_row.specs.Schema6.{attrs_by}
 use Rattle.cf_setup.specs.declared.source.Source.{Source}
 use Rattle.cf_setup.specs.declared.source.Source.TheVariants.{Packets, Records}
 use Rattle.cf_command.specs.declared.words.LogSizes.{LogSizes}
@@ -25,7 +25,7 @@ use Rattle.cf_run.specs.Due.GivesAll.{nodes_lack, one_too_many, one_breaks, tell
 use Rattle.cf_run.specs.Due.Exceeds.{full, short}
 use Rattle.cf_intake.specs.Series.{AreEndToEnd, SeriesEnd, behind}
 use Rattle.cf_intake.specs.Series.SeriesEnd.{whole as all_read, refused as one_refused}
-use Rattle.cf_packet6.specs.declared.PacketSchema.{PacketSchema}
+use Rattle.cf_row.specs.declared.packet6.PacketSchema.{PacketSchema}
 use Rattle.cf_run.specs.Due.GivesLog.{refuses, tells}
 use Rattle.cf_intake.specs.Files.{Grammar, setups, captures, IsFileRefused}
 use Rattle.cf_intake.specs.Files.IsFileRefused.{missing, broken}

@@ -8,8 +8,8 @@ use Rattle.cf_follow.specs.Followed.{IsReady}
 use Rattle.cf_follow.specs.declared.watch.Watch.{Watch}
 use Rattle.cf_intake.specs.Files.{HasFile, HasLeft, IsFileAs, setups}
 use Rattle.cf_intake.specs.Devices.{WritesFront}
-use Rattle.cf_packet6.specs.Schema6.{attrs_by}
-use Rattle.cf_packet6.specs.declared.PacketSchema.{PacketSchema}
+use Rattle.cf_row.specs.Schema6.{attrs_by}
+use Rattle.cf_row.specs.declared.packet6.PacketSchema.{PacketSchema}
 use Rattle.cf_setup.specs.Setups.{SetupValue}
 use Rattle.cf_setup.specs.declared.source.Source.{Source}
 use Rattle.cf_setup.specs.declared.source.Source.TheVariants.{Packets, Records}

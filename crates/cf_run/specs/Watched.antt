@@ -7,7 +7,7 @@ use Rattle.cf_follow.specs.declared.ending.Ending.{Ending}
 use Rattle.cf_intake.specs.Files.{HasFile, HasLeft, IsFileAs, setups}
 use Rattle.cf_intake.specs.Reads.{view_by}
 use Rattle.cf_outside.specs.Files.{File}
-use Rattle.cf_packet6.specs.declared.PacketSchema.{PacketSchema}
+use Rattle.cf_row.specs.declared.packet6.PacketSchema.{PacketSchema}
 use Rattle.cf_rounds.specs.Held.{RoundsValue}
 use Rattle.cf_setup.specs.Setups.{SetupValue}
 use Rattle.cf_setup.specs.declared.source.Source.TheVariants.{Packets}

@@ -2,15 +2,14 @@
 ghost use Rattle.std.specs.Prelude.{◌≡◌, []};
 ghost use Rattle.cf_intake.specs.Causes.{HasHaltCause};
 ghost use Rattle.cf_intake.specs.Reading.{ReadsRows, TakesPackets};
-ghost use Rattle.cf_packet6.specs.Schema6.{attrs_by};
+ghost use Rattle.cf_row.specs.Schema6.{attrs_by};
 ghost use Rattle.cf_report.specs.Dump.{IsListing};
 ghost use Rattle.cf_setup.specs.declared.source.Source.TheVariants.{Packets};
 
 use cf_intake::{Halt, Pieces, open_packets};
 use cf_outside::Shelf;
-use cf_packet6::PacketSchema;
 use cf_report::Listing;
-use cf_row::Schema;
+use cf_row::{PacketSchema, Schema};
 use std::alloc::Global;
 
 // Lists the rows of the opened capture by the schema of that name as they come, and keeps none. It is read to its end, or until 2^32

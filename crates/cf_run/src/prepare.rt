@@ -16,8 +16,8 @@ use cf_command::{Command, DumpCommand, RunCommand, SnapshotCommand, SynthCommand
 use cf_fill::{Context, Product, fill_drawn, fill_rows, final_of, opened, report_of};
 use cf_intake::{Halt, Manner, Refusal, Stop, format_of, read_hosts, read_setup};
 use cf_outside::{Gate, Shelf};
-use cf_packet6::PacketSchema;
 use cf_report::Listing;
+use cf_row::PacketSchema;
 use cf_setup::Source;
 use cf_snapshot::Untaken;
 use std::alloc::Global;

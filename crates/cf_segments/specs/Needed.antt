@@ -3,7 +3,7 @@ use Rattle.std.specs.Prelude.{ℕ, ◌≡◌, ◌≤◌, List, ◌∷◌, ◌++�
 use Rattle.cf_row.specs.Row.{RowValue}
 use Rattle.cf_history.specs.Order.{rows_of, written_by}
 use Rattle.cf_shape.specs.Lanes.{ShapeValue}
-use Rattle.cf_words.specs.Words.{Spot}
+use Rattle.cf_law.specs.Words.{Spot}
 use Rattle.cf_law.specs.Passes.{Book, Pass}
 use Rattle.cf_law.specs.Steps.{Holds}
 use Rattle.cf_table.specs.Moves.{HasPaths}

@@ -12,10 +12,10 @@ use Rattle.cf_row.specs.declared.schema.Attr.{Attr}
 use Rattle.cf_row.specs.declared.schema.Kind.{Kind}
 use Rattle.cf_row.specs.declared.expr.Atom.{Atom}
 use Rattle.cf_row.specs.Schema.{IsSchema, packet_attrs}
-use Rattle.cf_packet6.specs.declared.PacketSchema.{PacketSchema}
-use Rattle.cf_packet6.specs.declared.PacketSchema.TheVariants.{Packet, Packet6}
-use Rattle.cf_packet6.specs.Schema6.{attrs_by}
-use Rattle.cf_packet6.proofs.Lawful.{packet6_is}
+use Rattle.cf_row.specs.declared.packet6.PacketSchema.{PacketSchema}
+use Rattle.cf_row.specs.declared.packet6.PacketSchema.TheVariants.{Packet, Packet6}
+use Rattle.cf_row.specs.Schema6.{attrs_by}
+use Rattle.cf_row.proofs.Lawful.{packet6_is}
 use Rattle.cf_setup.specs.declared.source.Source.{Source}
 use Rattle.cf_setup.specs.declared.source.Source.TheVariants.{Packets, Records}
 use Rattle.cf_row.specs.Expr.{is_of_schema, is_range}

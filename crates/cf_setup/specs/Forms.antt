@@ -4,8 +4,8 @@ use Rattle.std.specs.Option.{option_map}
 use Rattle.std.specs.Str.{bytes_eq}
 use Rattle.cf_row.specs.declared.expr.Op.{Op}
 use Rattle.cf_row.specs.Expr.{is_range}
-use Rattle.cf_packet6.specs.declared.PacketSchema.{PacketSchema}
-use Rattle.cf_packet6.specs.declared.PacketSchema.TheVariants.{Packet, Packet6}
+use Rattle.cf_row.specs.declared.packet6.PacketSchema.{PacketSchema}
+use Rattle.cf_row.specs.declared.packet6.PacketSchema.TheVariants.{Packet, Packet6}
 use Rattle.cf_fold.specs.declared.trigger.Part.{Part}
 use Rattle.cf_fold.specs.declared.trigger.Part.TheVariants.{Count, Sum, Least, Greatest}
 use Rattle.cf_filter.specs.Values.{◌>>=◌}

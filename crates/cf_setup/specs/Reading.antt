@@ -8,7 +8,7 @@ use Rattle.cf_row.specs.declared.schema.Kind.TheVariants.{U64}
 use Rattle.cf_row.specs.declared.row.Value.{Value}
 use Rattle.cf_row.specs.declared.row.Value.TheVariants.{Num, Raw}
 use Rattle.cf_row.specs.declared.expr.Atom.{Atom}
-use Rattle.cf_packet6.specs.Schema6.{attrs_by}
+use Rattle.cf_row.specs.Schema6.{attrs_by}
 use Rattle.cf_shape.specs.Lanes.{is_number, is_narrow}
 use Rattle.cf_plain.specs.declared.ask.Ask.TheVariants as asks
 use Rattle.cf_filter.specs.declared.bytes.Class.TheVariants as classes

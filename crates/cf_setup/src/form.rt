@@ -14,7 +14,7 @@ use crate::statement::Statement;
 use crate::tally::{Grouping, tally_form};
 use crate::trigger::{Condition, trigger_form};
 use crate::width::width_form;
-use cf_packet6::PacketSchema;
+use cf_row::PacketSchema;
 
 /// A statement in its form, with its words. What its rules are and what it adds stands in the file of each statement.
 #[derive(Clone, Copy, Debug)]

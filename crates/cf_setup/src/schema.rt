@@ -12,7 +12,7 @@ use crate::fault::{Code, LineFault};
 use crate::form::StatementForm;
 use crate::source::Source;
 use cf_lines::{is_blank, last_word, next_word, schema_of};
-use cf_packet6::PacketSchema;
+use cf_row::PacketSchema;
 use std::alloc::Global;
 
 // A schema of packets, which no word follows.

@@ -1,5 +1,5 @@
 // What the rows of a setup are read from.
-use cf_packet6::PacketSchema;
+use cf_row::PacketSchema;
 
 /// What a setup's rows are read from, as its schema says.
 #[derive(Clone, Copy, Debug, PartialEq, Eq)]

@@ -18,7 +18,7 @@ use Rattle.cf_segments.proofs.Pigeons.{in_either}
 use Rattle.cf_segments.specs.Needed.{IsNeeded}
 use Rattle.cf_shape.specs.Lanes.{ShapeValue}
 use Rattle.cf_shape.specs.Nodes.{distinct}
-use Rattle.cf_words.specs.Words.{Spot}
+use Rattle.cf_law.specs.Words.{Spot}
 use Rattle.cf_snapshot.specs.Courses.{IsCourse, answers_on}
 use Rattle.cf_alone.specs.Alone.{HasCovered, HasUsedFor}
 use Rattle.cf_snapshot.specs.Hosts.{HostValue, AreEnough, AreNeeded, HasEnough}

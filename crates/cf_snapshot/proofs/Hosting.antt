@@ -2,7 +2,7 @@
 use Rattle.std.proofs.Common.{◌≡◌, ◌∙◌, Bool, false, List, [], get_or, ap, ap₂}
 use Rattle.cf_row.specs.declared.row.Entry.{Entry}
 use Rattle.cf_shape.specs.Lanes.{ShapeValue}
-use Rattle.cf_words.specs.Words.{Spot}
+use Rattle.cf_law.specs.Words.{Spot}
 use Rattle.cf_law.specs.Passes.{Book}
 use Rattle.cf_law.specs.Events.{no_book}
 use Rattle.cf_snapshot.specs.Hosts.{HostValue, empty_host}

@@ -18,7 +18,7 @@ use Rattle.cf_segments.specs.Needed.{HasNodes, IsNeeded, IsOut}
 use Rattle.cf_shape.specs.Lanes.{IsShape}
 use Rattle.cf_table.specs.Moves.{HasPaths}
 use Rattle.cf_table.specs.Values.{LogValue, PassValue, book_of}
-use Rattle.cf_words.specs.Words.{Spot}
+use Rattle.cf_law.specs.Words.{Spot}
 use Rattle.cf_alone.specs.Alone.{IsAlone}
 use Rattle.cf_snapshot.specs.Hosts.{AreEnough, LacksNodes}
 

@@ -4,7 +4,7 @@ use Rattle.std.specs.List.{AllZip}
 use Rattle.std.specs.Option.{is_some}
 use Rattle.std.proofs.lemmas.Option.{get_or_from_slice_get}
 use Rattle.std.proofs.lemmas.List.{take_at}
-use Rattle.cf_words.proofs.Heads.{get_set_other, get_set_same}
+use Rattle.cf_law.proofs.Heads.{get_set_other, get_set_same}
 use Rattle.cf_table.specs.Values.{PassValue}
 use Rattle.cf_home.specs.Homes.{Comes, HasLooked, HaveLooked, IsHomeAt, Keeps, MayCome, PlaceValue, taken_home}
 use Rattle.std.specs.Arc.{arc_value}

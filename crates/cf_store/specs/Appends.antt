@@ -7,8 +7,8 @@ use Rattle.cf_row.specs.Row.{Fits, RowValue}
 use Rattle.cf_pcap.specs.Capture.{FrameValue}
 use Rattle.cf_pcap.specs.Links.{is_link}
 use Rattle.cf_pcap.specs.declared.links.LinkSet.TheVariants.{Basic, All}
-use Rattle.cf_packet6.specs.declared.PacketSchema.{PacketSchema}
-use Rattle.cf_packet6.specs.declared.PacketSchema.TheVariants.{Packet, Packet6}
+use Rattle.cf_row.specs.declared.packet6.PacketSchema.{PacketSchema}
+use Rattle.cf_row.specs.declared.packet6.PacketSchema.TheVariants.{Packet, Packet6}
 use Rattle.cf_headers.specs.Packet.{packet_row_of}
 use Rattle.cf_headers.specs.Packet6.{packet6_row_of}
 use Rattle.cf_setup.specs.declared.source.Source.{Source}

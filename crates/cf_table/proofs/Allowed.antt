@@ -35,7 +35,7 @@ sees_live n es p = elim (cases_Bool (Rattle.std.specs.Bool.nat_lt (Rattle.std.pr
   | inr e ↦ ap (λ (b : Bool). (cond b (record p { seen = Rattle.std.proofs.Common.take n es; cursor = Rattle.std.proofs.Common.None }) p).spent) e
 ]
 
-lives : (sh : Rattle.cf_words.specs.Words.Layout) (p : Pass) (a : Rattle.cf_law.specs.Steps.Act) (t : Slot) (f : ℕ → ℕ) (g : ℕ → List Entry → Pass)
+lives : (sh : Rattle.cf_law.specs.Words.Layout) (p : Pass) (a : Rattle.cf_law.specs.Steps.Act) (t : Slot) (f : ℕ → ℕ) (g : ℕ → List Entry → Pass)
     → Step sh p a t f g → (n : ℕ) (es : List Entry) → (g n es).spent ≡ p.spent
 lives sh p a t f g (takes r b fits one over rests) n es = refl
 lives sh p a t f g (stores k i b fl flies next) n es = refl

@@ -9,7 +9,7 @@ use Rattle.cf_shape.specs.Places.{Slot, place, place_of, sizes_of, IsReal, head_
 use Rattle.cf_shape.specs.Places.Slot.{cell}
 use Rattle.cf_shape.specs.Places.WordName.{done, version, label as label_word}
 use Rattle.cf_shape.proofs.Used.{before_fits}
-use Rattle.cf_words.specs.Words.{Spot, Layout}
+use Rattle.cf_law.specs.Words.{Spot, Layout}
 use Rattle.cf_law.specs.Passes.{Book, Pass}
 use Rattle.cf_law.specs.Steps.{Step, pass_with_book, pass_with_link, pass_with_child, book_with_node, pass_with_node}
 use Rattle.cf_law.specs.Steps.Act.{take_ticket, store_cell, finish_record, look_done, load_word, label, link, store_head, load_child, load_head, load_cell}

@@ -7,8 +7,8 @@ use Rattle.cf_shape.specs.Uses.{cell_count, cells_before, cell_words}
 use Rattle.cf_shape.specs.Places.{Slot, place, sizes_of, head_slot}
 use Rattle.cf_shape.specs.Places.Slot.{tail, cell, body}
 use Rattle.cf_shape.proofs.Used.{before_fits, version_at}
-use Rattle.cf_words.specs.Words.{Spot, spot, has}
-use Rattle.cf_words.specs.Law.{IsWhole}
+use Rattle.cf_law.specs.Words.{Spot, spot, has}
+use Rattle.cf_law.specs.Law.{IsWhole}
 use Rattle.cf_law.specs.Passes.{Book, Flight, Pass}
 use Rattle.cf_law.specs.Steps.{Step, IsChild, IsNext, IsOwn, IsNamed, Knows, ticket_of, own_word, book_with_ticket, book_with_word, book_with_record, book_with_label, book_with_head, pass_with_book, pass_with_link, free_node, label_of, child_word}
 use Rattle.cf_law.specs.Steps.Act.{take_ticket, store_cell, finish_record, label, link, store_head, load_child, load_head, load_cell}

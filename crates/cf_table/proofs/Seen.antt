@@ -47,7 +47,7 @@ advance_seen shape p q t found le told =
     ap (λ (r : Pass). length r.seen) told.is ∙ (sees_length (suc t) told.entries p (omega (arith, long, far)) ∙ omega arith)
 
 -- what a lawful advance asks
-pub advance_asks : (sh : Rattle.cf_words.specs.Words.Layout) (p : Pass) (t : ℕ) (s : Rattle.cf_shape.specs.Places.Slot) (f : ℕ → ℕ)
+pub advance_asks : (sh : Rattle.cf_law.specs.Words.Layout) (p : Pass) (t : ℕ) (s : Rattle.cf_shape.specs.Places.Slot) (f : ℕ → ℕ)
     (g : ℕ → List Entry → Pass) → Rattle.cf_law.specs.Steps.Step sh p (Rattle.cf_law.specs.Steps.Act.advance t) s f g → (t ≤ length p.seen)
     × (t < sh.sizes.tickets)
 advance_asks sh p t s f g (Rattle.cf_law.specs.Steps.Step.advances u i le lt last word value) = (le, lt)

@@ -6,7 +6,7 @@ use Rattle.cf_shape.specs.Lanes.{ShapeValue}
 use Rattle.cf_shape.specs.Places.{Slot, place, place_of, slot_of, sizes_of, head_slot}
 use Rattle.cf_shape.specs.Places.Slot.{tail, cell, body}
 use Rattle.cf_shape.specs.Places.WordName.{version, done}
-use Rattle.cf_words.specs.Words.{Spot, spot}
+use Rattle.cf_law.specs.Words.{Spot, spot}
 use Rattle.cf_law.specs.Passes.{Pass}
 use Rattle.cf_law.specs.Steps.{Act, Step, book_with_ticket, book_with_word, book_with_record, book_with_head, book_with_label, pass_with_book, pass_with_look, pass_that_sees, pass_with_tail, pass_with_link, pass_with_child, pass_with_head, pass_with_cell, child_word}
 use Rattle.cf_law.specs.Shapes.{layout}

@@ -5,7 +5,7 @@ use Rattle.cf_row.specs.Words.{IsEntry, spelled}
 use Rattle.cf_shape.specs.Lanes.{ShapeValue}
 use Rattle.cf_shape.specs.Places.{place_of}
 use Rattle.cf_shape.specs.Places.WordName.{done}
-use Rattle.cf_words.specs.Words.{spot}
+use Rattle.cf_law.specs.Words.{spot}
 use Rattle.cf_law.specs.Passes.{Own, Book, Pass}
 use Rattle.cf_law.specs.Steps.{Holds, IsAtRest, joined_pass, new_pass}
 use Rattle.cf_law.specs.Shapes.{layout}

@@ -4,7 +4,7 @@ ghost use Rattle.cf_law.specs.Steps.Act.{advance as advances, load_child as load
 ghost use Rattle.cf_shape.specs.Lanes.{lane_at};
 ghost use Rattle.cf_shape.specs.Places.{Slot};
 ghost use Rattle.cf_shape.specs.Uses.{ticket_words, cell_words};
-ghost use Rattle.cf_words.specs.Words.{Spot};
+ghost use Rattle.cf_law.specs.Words.{Spot};
 ghost use Rattle.cf_table.specs.Values.{IsOf};
 ghost use Rattle.cf_table.specs.Effects.{IsLawfulStep, HasStepped, HasSteppedUnseen, advance_effect, tail_effect, done_effect, word_effect, child_effect, walk_effect, cell_effect};
 ghost use Rattle.cf_table.specs.Rule.{AsksOnWord, KeepsBooks};

@@ -3,7 +3,7 @@ ghost use Rattle.std.specs.Prelude.{ℕ, suc, ◌≡◌, ◌+◌, ◌*◌, ◌<�
 ghost use Rattle.cf_law.specs.Steps.Act.{take_ticket as takes_ticket, store_cell as stores_cell, finish_record as finishes_record, label as labels, link as links, store_head as stores_head};
 ghost use Rattle.cf_shape.specs.Places.{Slot};
 ghost use Rattle.cf_shape.specs.Uses.{ticket_words};
-ghost use Rattle.cf_words.specs.Words.{Spot};
+ghost use Rattle.cf_law.specs.Words.{Spot};
 ghost use Rattle.cf_table.specs.Values.{IsOf, book_of};
 ghost use Rattle.cf_table.specs.Effects.{IsLawfulStep, HasStepped, HasSteppedUnseen, take_effect, store_effect, finish_effect, label_effect, link_effect, head_effect};
 ghost use Rattle.cf_table.specs.Rule.{AsksOnWord, value_after_exchange, given_take};

@@ -3,8 +3,8 @@ use Rattle.std.proofs.Common.{◌≡◌, ◌∙◌, ℕ, zero, suc, ◌+◌, ◌
 use Rattle.std.proofs.lemmas.Bool.{cases_Bool, cases_eq}
 use Rattle.cf_lemmas.proofs.Truths.{eq_false}
 use Rattle.cf_shape.specs.Lanes.{ShapeValue}
-use Rattle.cf_words.specs.Words.{has}
-use Rattle.cf_words.proofs.Chains.{has_more, has_first, has_rest, has_nothing}
+use Rattle.cf_law.specs.Words.{has}
+use Rattle.cf_law.proofs.Chains.{has_more, has_first, has_rest, has_nothing}
 use Rattle.cf_law.specs.Passes.{Pass}
 use Rattle.cf_law.specs.Steps.{met_of}
 use Rattle.cf_table.specs.Values.{PassValue}

@@ -12,7 +12,7 @@ use Rattle.cf_fold.specs.Sort.{put_into, sort}
 use Rattle.cf_fold.proofs.Sorted.{AsOften, count, sort_is_one, quad_is_one}
 use Rattle.cf_shape.specs.Lanes.{ShapeValue, IsShape, measure_of}
 use Rattle.cf_shape.specs.Nodes.{levels_of}
-use Rattle.cf_words.specs.Words.{Spot, Layout}
+use Rattle.cf_law.specs.Words.{Spot, Layout}
 use Rattle.cf_law.specs.Readers.{IsFit, pick_at, picks}
 use Rattle.cf_law.specs.Shapes.{layout}
 use Rattle.cf_plain.specs.Asks.{rows_in, row_at, no_row, places, is_keyed_between, total_over}

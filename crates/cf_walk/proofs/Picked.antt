@@ -5,8 +5,8 @@ use Rattle.std.proofs.lemmas.Option.{slice_get_within}
 use Rattle.cf_lemmas.proofs.Truths.{eq_from, eq_true}
 use Rattle.cf_row.specs.Row.{RowValue}
 use Rattle.cf_row.specs.declared.row.Entry.{Entry}
-use Rattle.cf_words.specs.Words.{Spot, Layout, same_path}
-use Rattle.cf_words.proofs.Chains.{same_path_true, same_path_intro}
+use Rattle.cf_law.specs.Words.{Spot, Layout, same_path}
+use Rattle.cf_law.proofs.Chains.{same_path_true, same_path_intro}
 use Rattle.cf_law.specs.Readers.{IsIn, pick_at, picks}
 
 pub pick_none : (sh : Layout) (w : ℕ) (s : Spot) (o : ℕ) (e : Entry) → (IsIn sh w s e → ⊥) → pick_at sh w s o (Some e) ≡ []

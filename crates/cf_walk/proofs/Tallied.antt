@@ -15,7 +15,7 @@ use Rattle.cf_fold.specs.Sort.{sort}
 use Rattle.cf_fold.proofs.Sorted.{AsOften, Climbs, count, count_same, count_other, climbs_sort, count_sort, climbing_is_one, sort_is_one, sort_leaves}
 use Rattle.cf_shape.specs.Lanes.{ShapeValue, IsShape, selected_by, key_of}
 use Rattle.cf_shape.specs.Nodes.{levels_of}
-use Rattle.cf_words.specs.Words.{Spot, Layout}
+use Rattle.cf_law.specs.Words.{Spot, Layout}
 use Rattle.cf_law.specs.Nibbles.{nibbles}
 use Rattle.cf_law.proofs.Nibbles.{same_from_nibbles}
 use Rattle.cf_law.specs.Readers.{IsIn, IsFit, pick_at, picks}

@@ -7,7 +7,7 @@ use Rattle.cf_shape.specs.Lanes.{ShapeValue, IsShape}
 use Rattle.cf_shape.specs.Nodes.{levels_of}
 use Rattle.cf_shape.specs.Places.{sizes_of, IsReal}
 use Rattle.cf_shape.specs.Places.Slot.{root, body}
-use Rattle.cf_words.specs.Words.{Spot, spot}
+use Rattle.cf_law.specs.Words.{Spot, spot}
 use Rattle.cf_law.specs.Nibbles.{nibbles}
 use Rattle.cf_law.proofs.Nibbles.{nibbles_more, length-nibbles}
 use Rattle.cf_law.specs.Passes.{Pass}

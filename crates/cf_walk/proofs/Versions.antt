@@ -16,8 +16,8 @@ use Rattle.cf_shape.specs.Uses.{cells_before, cell_words, is_measured}
 use Rattle.cf_shape.proofs.Used.{before_fits, version_at}
 use Rattle.cf_shape.proofs.Measured.{measure_low}
 use Rattle.cf_shape.specs.Nodes.{levels_of}
-use Rattle.cf_words.specs.Words.{Spot, spot, Layout, version_word, link_to_newest}
-use Rattle.cf_words.proofs.Cells.{version_to_cell}
+use Rattle.cf_law.specs.Words.{Spot, spot, Layout, version_word, link_to_newest}
+use Rattle.cf_law.proofs.Cells.{version_to_cell}
 use Rattle.cf_law.specs.Nibbles.{nibbles}
 use Rattle.cf_law.specs.Passes.{Cursor, Pass}
 use Rattle.cf_law.specs.Steps.{cursor_after_cell, met_of}

@@ -12,8 +12,8 @@ use Rattle.cf_shape.specs.Nodes.{levels_of}
 use Rattle.cf_shape.specs.Uses.{cells_before, cell_words}
 use Rattle.cf_shape.specs.Uses.Use.{version}
 use Rattle.cf_shape.proofs.Used.{before_fits, version_at}
-use Rattle.cf_words.specs.Words.{Spot, spot, Layout, has}
-use Rattle.cf_words.proofs.Chains.{has_more, has_nothing}
+use Rattle.cf_law.specs.Words.{Spot, spot, Layout, has}
+use Rattle.cf_law.proofs.Chains.{has_more, has_nothing}
 use Rattle.cf_law.specs.Nibbles.{nibbles}
 use Rattle.cf_law.proofs.Nibbles.{nibbles_more, length-nibbles}
 use Rattle.cf_law.specs.Passes.{Look, Cursor, Pass}

@@ -5,7 +5,7 @@ use Rattle.cf_shape.specs.Lanes.{ShapeValue, measure_of}
 use Rattle.cf_shape.specs.Places.{Slot}
 use Rattle.cf_shape.specs.Places.Slot.{root, body}
 use Rattle.cf_shape.specs.Nodes.{levels_of}
-use Rattle.cf_words.specs.Words.{Spot, spot, has}
+use Rattle.cf_law.specs.Words.{Spot, spot, has}
 use Rattle.cf_law.specs.Nibbles.{nibbles}
 use Rattle.cf_law.specs.Passes.{Pass}
 use Rattle.cf_law.specs.Readers.{IsIn, NoneThrough, picks}

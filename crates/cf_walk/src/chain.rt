@@ -1,6 +1,6 @@
 // The chains of one leaf.
 ghost use Rattle.std.specs.Prelude.{◌≡◌, ◌+◌, ◌-◌, ◌*◌, ◌%◌, ◌<◌, ◌≤◌, ◌++◌, length, OnOk};
-ghost use Rattle.cf_words.specs.Words.{Spot};
+ghost use Rattle.cf_law.specs.Words.{Spot};
 ghost use Rattle.cf_law.specs.Steps.Act.{load_head};
 ghost use Rattle.cf_table.specs.Values.{IsOf};
 ghost use Rattle.cf_table.specs.Effects.{IsLawfulStep, HasStepped, walk_effect};

@@ -1,6 +1,6 @@
 use Rattle.std.proofs.Common.{◌∙◌, take, arith}
 use Rattle.cf_fold.specs.Quads.{quad_of}
-use Rattle.cf_words.specs.Words.{spot, link_to_newest}
+use Rattle.cf_law.specs.Words.{spot, link_to_newest}
 use Rattle.cf_law.specs.Steps.{mine_chain}
 use Rattle.cf_law.specs.Shapes.{layout}
 use Rattle.cf_table.specs.Values.{book_of}

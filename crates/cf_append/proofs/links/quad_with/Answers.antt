@@ -1,7 +1,7 @@
 use Rattle.std.proofs.Common.{◌≡◌, ◌∙◌, ◌∷◌, ◌++◌, ◌-◌, ◌≤◌, [], ap, refl, arith}
 use Rattle.cf_fold.specs.Quads.{QuadValue, quad_of}
 use Rattle.cf_shape.specs.Lanes.{ShapeValue, key_of, measure_of}
-use Rattle.cf_words.specs.Words.{spot, link_to_newest}
+use Rattle.cf_law.specs.Words.{spot, link_to_newest}
 use Rattle.cf_law.specs.Shapes.{layout}
 use Rattle.cf_table.specs.Values.{book_of}
 use Rattle.cf_append.specs.Linking.{key_path, leaf_chain, amounts_in_chain}

@@ -8,7 +8,7 @@ use Rattle.cf_row.specs.Row.{RowValue}
 use Rattle.cf_fold.specs.Quads.{QuadValue, quad_of}
 use Rattle.cf_shape.specs.Lanes.{ShapeValue, lane_at, key_of, measure_of}
 use Rattle.cf_shape.specs.Uses.{cell_words, is_measured}
-use Rattle.cf_words.specs.Words.{spot, link_to_newest}
+use Rattle.cf_law.specs.Words.{spot, link_to_newest}
 use Rattle.cf_law.specs.Passes.{Book}
 use Rattle.cf_law.specs.Shapes.{path_in}
 use Rattle.cf_table.specs.Values.{book_of}

@@ -1,6 +1,6 @@
 use Rattle.std.proofs.Common.{◌-◌, ◌/◌}
 use Rattle.cf_shape.specs.Nodes.{levels_of}
-use Rattle.cf_words.specs.Words.{spot}
+use Rattle.cf_law.specs.Words.{spot}
 use Rattle.cf_law.specs.Nibbles.{nibbles}
 use Rattle.cf_append.proofs.links.store_version.Given as goal
 

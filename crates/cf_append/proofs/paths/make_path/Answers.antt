@@ -1,7 +1,7 @@
 use Rattle.std.proofs.Common.{◌-◌, ◌/◌, refl, slice_get, ap, sym, subst, ◌∙◌, ℕ, arith}
 use Rattle.cf_shape.specs.Lanes.{ShapeValue, key_of}
 use Rattle.cf_shape.specs.Nodes.{levels_of}
-use Rattle.cf_words.specs.Words.{spot}
+use Rattle.cf_law.specs.Words.{spot}
 use Rattle.cf_law.specs.Nibbles.{nibbles}
 use Rattle.cf_append.specs.declared.paths.Prefix.{Prefix}
 use Rattle.cf_append.specs.declared.leaves.Leaves.{Leaves}

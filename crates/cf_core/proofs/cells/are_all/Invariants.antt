@@ -1,6 +1,6 @@
 use Rattle.std.proofs.Common.{◌≡◌, ℕ, ◌<◌, true}
 use Rattle.cf_shape.specs.Lanes.{selected_by}
-use Rattle.cf_words.specs.Words.{has}
+use Rattle.cf_law.specs.Words.{has}
 use Rattle.cf_core.proofs.cells.are_all.Given as goal
 
 abbrev pub invariant-loop-lane : goal.invariant-loop-lane

@@ -3,7 +3,7 @@ use Rattle.std.proofs.lemmas.Option.{slice_get_read}
 use Rattle.cf_fold.specs.Quads.{QuadValue, quad_of}
 use Rattle.cf_row.specs.Row.{RowValue}
 use Rattle.cf_shape.specs.Lanes.{measure_of}
-use Rattle.cf_words.specs.Words.{spot, same_path, link_to_newest}
+use Rattle.cf_law.specs.Words.{spot, same_path, link_to_newest}
 use Rattle.cf_law.specs.Passes.{Own}
 use Rattle.cf_law.specs.Steps.{mine_chain}
 use Rattle.cf_law.specs.Shapes.{layout, path_in}

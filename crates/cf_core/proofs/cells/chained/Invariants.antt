@@ -1,6 +1,6 @@
 use Rattle.std.proofs.Common.{◌≡◌, drop}
 use Rattle.cf_fold.specs.Quads.{quad_of}
-use Rattle.cf_words.specs.Words.{spot, link_to_newest}
+use Rattle.cf_law.specs.Words.{spot, link_to_newest}
 use Rattle.cf_law.specs.Steps.{mine_chain}
 use Rattle.cf_law.specs.Shapes.{layout}
 use Rattle.cf_core.specs.Worlds.{amounts_with_row}

@@ -1,5 +1,5 @@
 use Rattle.std.proofs.Common.{◌≡◌, drop}
-use Rattle.cf_words.specs.Words.{has}
+use Rattle.cf_law.specs.Words.{has}
 use Rattle.cf_core.proofs.cells.is_in.Given as goal
 
 abbrev pub invariant-loop-linked : goal.invariant-loop-linked

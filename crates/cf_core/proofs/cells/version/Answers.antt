@@ -1,6 +1,6 @@
 use Rattle.std.proofs.Common.{◌≡◌, ℕ, List, Some, None, ap₂, arith, ◌∙◌, rules}
 use Rattle.cf_fold.specs.Quads.{quad_of}
-use Rattle.cf_words.specs.Words.{spot, link_to_newest}
+use Rattle.cf_law.specs.Words.{spot, link_to_newest}
 use Rattle.cf_law.specs.Passes.{Own}
 use Rattle.cf_law.specs.Steps.{mine_chain}
 use Rattle.cf_law.specs.Shapes.{layout, path_in}

@@ -2,8 +2,8 @@ use Rattle.std.proofs.Common.{rules, ◌≡◌, arith, ℕ, List, [], ◌++◌, 
 use Rattle.std.proofs.lemmas.Result.{err_from_is_err_and, IfOk-at_ok}
 use Rattle.cf_row.specs.Row.{RowValue, Fits}
 use Rattle.cf_row.specs.declared.schema.Attr.{Attr}
-use Rattle.cf_packet6.specs.declared.PacketSchema.{PacketSchema}
-use Rattle.cf_packet6.specs.Schema6.{attrs_by}
+use Rattle.cf_row.specs.declared.packet6.PacketSchema.{PacketSchema}
+use Rattle.cf_row.specs.Schema6.{attrs_by}
 use Rattle.cf_shape.specs.Lanes.{ShapeValue}
 use Rattle.cf_fill.specs.Filling.{IsFilled}
 use Rattle.cf_fill.specs.Taking.{GivesBoth}

@@ -1,6 +1,6 @@
 use Rattle.std.proofs.Common.{◌≡◌, ◌≤◌, ◌+◌, ◌++◌, List, All, length}
 use Rattle.cf_row.specs.Row.{RowValue, Fits}
-use Rattle.cf_packet6.specs.Schema6.{attrs_by}
+use Rattle.cf_row.specs.Schema6.{attrs_by}
 use Rattle.cf_fill.specs.Filling.{IsFilled, KeepsLog, most_waiting}
 use Rattle.cf_intake.specs.Reading.{IsReadOn, pieces_left}
 use Rattle.cf_fill.proofs.fill.fill_packets.Given as goal

@@ -1,5 +1,5 @@
 use Rattle.std.proofs.Common.{◌≡◌, ◌≤◌, length}
-use Rattle.cf_packet6.specs.Schema6.{attrs_by}
+use Rattle.cf_row.specs.Schema6.{attrs_by}
 use Rattle.cf_intake.specs.Reads.{view_by}
 use Rattle.cf_follow.specs.Followed.{IsGoingOn}
 use Rattle.cf_follow.proofs.watch.read_on.Given as goal

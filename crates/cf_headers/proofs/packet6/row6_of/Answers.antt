@@ -2,7 +2,7 @@ use Rattle.std.proofs.Common.{◌≡◌, ◌<◌, ◌^◌, List, ap, subst, sym,
 use Rattle.std.proofs.lemmas.Result.{IfOk-weaker}
 use Rattle.cf_row.specs.declared.row.Value.{Value}
 use Rattle.cf_row.specs.Row.{RowValue, Fits}
-use Rattle.cf_packet6.specs.Schema6.{packet6_attrs}
+use Rattle.cf_row.specs.Schema6.{packet6_attrs}
 use Rattle.cf_pcap.specs.Capture.{FrameValue}
 use Rattle.cf_headers.specs.Frames.{frame_of}
 use Rattle.cf_headers.specs.Packet6.{packet6_row_of}

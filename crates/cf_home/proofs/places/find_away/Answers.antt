@@ -1,6 +1,6 @@
 use Rattle.std.proofs.Common.{◌∙◌, ◌<◌, length, refl, sym, arith, length-set}
 use Rattle.std.proofs.lemmas.Option.{slice_get-get_or}
-use Rattle.cf_words.proofs.Heads.{get_set_same}
+use Rattle.cf_law.proofs.Heads.{get_set_same}
 use Rattle.cf_home.proofs.Looked.{home_is, home_more, looked_more, looked_none, none_of}
 use Rattle.cf_home.proofs.places.find_away.Goals as goal
 

@@ -1,6 +1,6 @@
 use Rattle.std.proofs.Common.{◌≡◌, ◌∙◌, ◌+◌, ◌-◌, ◌<◌, ◌≤◌, ℕ, List, Some, length, slice_get, set, refl, sym, arith, length-set}
 use Rattle.std.proofs.lemmas.Option.{slice_get-get_or, slice_get_past}
-use Rattle.cf_words.proofs.Heads.{get_set_other, get_set_same}
+use Rattle.cf_law.proofs.Heads.{get_set_other, get_set_same}
 use Rattle.cf_home.specs.Homes.{IsAway, PlaceValue}
 use Rattle.cf_home.proofs.Looked.{away_more, home_is, home_of, none_of, looked_more, looked_none}
 use Rattle.cf_home.proofs.places.find_home.Goals as goal

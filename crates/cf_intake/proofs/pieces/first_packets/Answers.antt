@@ -4,8 +4,8 @@ use Rattle.std.proofs.lemmas.List.Elements.{All-append, All-take}
 use Rattle.cf_row.specs.Row.{RowValue, Fits}
 use Rattle.cf_intake.specs.declared.rows.Captured.{Captured}
 use Rattle.cf_intake.specs.Parts.{captured, first_of}
-use Rattle.cf_packet6.specs.Schema6.{attrs_by}
-use Rattle.cf_packet6.specs.declared.PacketSchema.{PacketSchema}
+use Rattle.cf_row.specs.Schema6.{attrs_by}
+use Rattle.cf_row.specs.declared.packet6.PacketSchema.{PacketSchema}
 use Rattle.cf_intake.specs.Reading.{TakesPackets}
 use Rattle.cf_intake.specs.declared.refusal.Halt.TheVariants.{Stopped}
 use Rattle.cf_intake.specs.declared.refusal.Stop.TheVariants as stops

@@ -1,6 +1,6 @@
 use Rattle.std.proofs.Common.{◌≡◌, ◌≤◌, ◌-◌, List, All, take}
 use Rattle.cf_row.specs.Row.{Fits, RowValue}
-use Rattle.cf_packet6.specs.Schema6.{attrs_by}
+use Rattle.cf_row.specs.Schema6.{attrs_by}
 use Rattle.cf_intake.specs.Reading.{IsReadOn}
 use Rattle.cf_intake.proofs.pieces.first_packets.Given as goal
 

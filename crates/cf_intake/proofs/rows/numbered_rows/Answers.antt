@@ -1,6 +1,6 @@
 use Rattle.std.proofs.Common.{◌∙◌, ◌∷◌, [], ap, length-append, arith}
 use Rattle.cf_pcap.specs.Capture.{FrameValue}
-use Rattle.cf_packet6.specs.Schema6.{attrs_by}
+use Rattle.cf_row.specs.Schema6.{attrs_by}
 use Rattle.cf_records.proofs.Outcomes.{all_fit}
 use Rattle.cf_intake.specs.Rows.{row_by}
 use Rattle.cf_intake.proofs.Numbering.{more_numbered}

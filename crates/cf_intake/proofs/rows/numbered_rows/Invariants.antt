@@ -1,6 +1,6 @@
 use Rattle.std.proofs.Common.{◌≡◌, ◌+◌, length, All}
 use Rattle.cf_row.specs.Row.{Fits}
-use Rattle.cf_packet6.specs.Schema6.{attrs_by}
+use Rattle.cf_row.specs.Schema6.{attrs_by}
 use Rattle.cf_pcap.specs.Limits.{num_of}
 use Rattle.cf_pcap.specs.declared.limit.Length.TheVariants.{Any}
 use Rattle.cf_intake.specs.Reads.{numbered_on}

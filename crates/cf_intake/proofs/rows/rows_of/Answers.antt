@@ -1,4 +1,4 @@
-use Rattle.cf_packet6.specs.Schema6.{attrs_by}
+use Rattle.cf_row.specs.Schema6.{attrs_by}
 use Rattle.cf_records.proofs.Outcomes.{all_fit}
 use Rattle.cf_intake.proofs.MoreRows.{more_rows}
 use Rattle.cf_intake.proofs.rows.rows_of.Goals as goal

@@ -1,6 +1,6 @@
 use Rattle.std.proofs.Common.{◌≡◌, take, All}
 use Rattle.cf_row.specs.Row.{Fits}
-use Rattle.cf_packet6.specs.Schema6.{attrs_by}
+use Rattle.cf_row.specs.Schema6.{attrs_by}
 use Rattle.cf_intake.specs.Rows.{packet_rows}
 use Rattle.cf_intake.proofs.rows.rows_of.Given as goal
 

@@ -1,7 +1,7 @@
 use Rattle.std.proofs.Common.{◌∙◌, ◌++◌, Bool, Option, Ok, Err, Vec, Global, ap, subst, sym}
 use Rattle.cf_row.specs.Row.{RowValue}
-use Rattle.cf_packet6.specs.Schema6.{attrs_by}
-use Rattle.cf_packet6.specs.declared.PacketSchema.{PacketSchema}
+use Rattle.cf_row.specs.Schema6.{attrs_by}
+use Rattle.cf_row.specs.declared.packet6.PacketSchema.{PacketSchema}
 use Rattle.cf_shape.specs.Lanes.{ShapeValue}
 use Rattle.cf_intake.specs.Series.{SeriesComesTo, SeriesGoesOn, result_rows}
 use Rattle.cf_intake.specs.declared.refusal.Halt.{Halt}

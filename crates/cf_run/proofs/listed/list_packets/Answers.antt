@@ -1,8 +1,8 @@
 use Rattle.std.proofs.Common.{◌≡◌, ◌++◌, arith, ℕ, List, [], Option, All, subst, ◌∙◌}
 use Rattle.std.proofs.lemmas.Result.{err_from_is_err_and}
 use Rattle.cf_row.specs.Row.{RowValue, Fits}
-use Rattle.cf_packet6.specs.declared.PacketSchema.{PacketSchema}
-use Rattle.cf_packet6.specs.Schema6.{attrs_by}
+use Rattle.cf_row.specs.declared.packet6.PacketSchema.{PacketSchema}
+use Rattle.cf_row.specs.Schema6.{attrs_by}
 use Rattle.cf_intake.specs.Reading.{TakesPackets}
 use Rattle.cf_intake.proofs.Piecewise.{stopped_on, finished_so}
 use Rattle.cf_report.specs.Dump.{IsListing}

@@ -1,6 +1,6 @@
 use Rattle.std.proofs.Common.{◌≡◌, ◌≤◌, ◌+◌, ◌*◌, ◌^◌, List}
 use Rattle.cf_row.specs.Row.{RowValue}
-use Rattle.cf_packet6.specs.Schema6.{attrs_by}
+use Rattle.cf_row.specs.Schema6.{attrs_by}
 use Rattle.cf_intake.specs.Reading.{IsReadOn, pieces_left}
 use Rattle.cf_report.specs.Dump.{IsListing}
 use Rattle.cf_run.proofs.listed.list_packets.Given as goal

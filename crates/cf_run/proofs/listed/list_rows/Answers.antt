@@ -1,6 +1,6 @@
 use Rattle.std.proofs.lemmas.Result.{err_from_is_err_and}
 use Rattle.cf_intake.proofs.Loading.{packets_read}
-use Rattle.cf_packet6.specs.Schema6.{attrs_by}
+use Rattle.cf_row.specs.Schema6.{attrs_by}
 use Rattle.cf_report.specs.Dump.{IsListing}
 use Rattle.cf_run.proofs.listed.list_rows.Goals as goal
 

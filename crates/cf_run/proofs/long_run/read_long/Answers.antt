@@ -7,7 +7,7 @@ use Rattle.cf_fill.specs.Work.{shape_for}
 use Rattle.cf_intake.specs.Several.{names_in}
 use Rattle.cf_intake.specs.declared.refusal.Halt.{Halt}
 use Rattle.cf_long.specs.Ends.{IsUntold}
-use Rattle.cf_packet6.specs.declared.PacketSchema.{PacketSchema}
+use Rattle.cf_row.specs.declared.packet6.PacketSchema.{PacketSchema}
 use Rattle.cf_setup.specs.declared.source.Source.TheVariants.{Packets}
 use Rattle.cf_run.specs.Due.{IsDue}
 use Rattle.cf_run.specs.Lengths.{are_several, cut_lines, line_among}

@@ -1,7 +1,7 @@
 use Rattle.std.proofs.Common.{◌++◌, ◌∙◌, ℕ, List, ap}
 use Rattle.std.proofs.lemmas.Result.{err_from_is_err_and}
 use Rattle.cf_command.specs.Call.{dump_by}
-use Rattle.cf_packet6.specs.Schema6.{attrs_by}
+use Rattle.cf_row.specs.Schema6.{attrs_by}
 use Rattle.cf_follow.specs.Followed.{truncated_line}
 use Rattle.cf_run.proofs.Coming.{dump_unread, dump_gives, dump_stopped}
 use Rattle.cf_run.proofs.prepare.dump_listing.Goals as goal

@@ -2,7 +2,7 @@ use Rattle.std.proofs.Common.{◌≡◌, ◌∙◌, true, false, ap, arith, rule
 use Rattle.std.proofs.lemmas.Result.{err_from_is_err_and}
 use Rattle.cf_command.specs.Call.{synth_by}
 use Rattle.cf_shape.specs.Lanes.{ShapeValue}
-use Rattle.cf_packet6.specs.declared.PacketSchema.TheVariants.{Packet}
+use Rattle.cf_row.specs.declared.packet6.PacketSchema.TheVariants.{Packet}
 use Rattle.cf_fill.specs.Work.{draws, drawn_rows}
 use Rattle.cf_run.proofs.Coming.{synth_unset, synth_other, synth_full, synth_sealed, synth_stopped, synth_unmade, unmade_unfailed}
 use Rattle.cf_fill.proofs.Drawing.{drawn_many, draws_packets}

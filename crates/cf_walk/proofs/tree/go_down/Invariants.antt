@@ -1,4 +1,4 @@
-use Rattle.cf_words.specs.Words.{spot}
+use Rattle.cf_law.specs.Words.{spot}
 use Rattle.cf_law.specs.Nibbles.{nibbles}
 use Rattle.cf_walk.specs.Walks.{turn_slot}
 use Rattle.cf_walk.proofs.tree.go_down.Given as goal

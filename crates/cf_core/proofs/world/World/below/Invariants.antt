@@ -1,5 +1,5 @@
 use Rattle.std.proofs.Common.{◌≡◌, ◌<◌, ℕ, Some, slice_get}
-use Rattle.cf_words.specs.Words.{Spot}
+use Rattle.cf_law.specs.Words.{Spot}
 use Rattle.cf_core.specs.Worlds.{IsChildOf}
 use Rattle.cf_core.proofs.world.World.below.Given as goal
 

@@ -1,5 +1,5 @@
 use Rattle.std.proofs.Common.{◌≡◌, ◌∷◌, sym, subst, rules}
-use Rattle.cf_words.specs.Words.{spot}
+use Rattle.cf_law.specs.Words.{spot}
 use Rattle.cf_core.specs.Worlds.{IsChildAt}
 use Rattle.cf_core.proofs.Children.{below_found, none_found}
 use Rattle.cf_core.proofs.world.World.child_at.Goals as goal

@@ -3,7 +3,7 @@ use Rattle.cf_shape.specs.Places.{place_of}
 use Rattle.cf_shape.specs.Places.WordName.{child}
 use Rattle.cf_shape.specs.Lanes.{ShapeValue}
 use Rattle.cf_shape.specs.Nodes.{levels_of}
-use Rattle.cf_words.specs.Words.{Spot}
+use Rattle.cf_law.specs.Words.{Spot}
 use Rattle.cf_core.specs.Worlds.{IsChildOf}
 use Rattle.cf_core.proofs.Children.{place_body_at, option_says}
 use Rattle.cf_core.proofs.world.World.child_of.Goals as goal

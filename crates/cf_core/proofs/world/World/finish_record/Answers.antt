@@ -2,7 +2,7 @@ use Rattle.std.proofs.Common.{◌≡◌, ◌-◌, suc, true, arith, rules, refl}
 use Rattle.std.proofs.lemmas.Option.{slice_get_within}
 use Rattle.cf_law.specs.Events.WorldEvent.{acts}
 use Rattle.cf_law.specs.Shapes.{layout}
-use Rattle.cf_words.specs.Law.{IsWhole}
+use Rattle.cf_law.specs.Law.{IsWhole}
 use Rattle.cf_shape.specs.Uses.{ticket_words}
 use Rattle.cf_core.specs.Worlds.{draft, AllLinked}
 use Rattle.cf_law.specs.Steps.{pass_with_book, book_with_record}

@@ -1,5 +1,5 @@
 use Rattle.std.proofs.Common.{◌≡◌, ◌∷◌, Some, true, ap, sym, ◌∙◌, rules}
-use Rattle.cf_words.specs.Words.{spot}
+use Rattle.cf_law.specs.Words.{spot}
 use Rattle.cf_law.specs.Shapes.{path_in}
 use Rattle.cf_core.proofs.Heads.{leads_is, leads_only}
 use Rattle.cf_core.proofs.world.World.leads.Goals as goal

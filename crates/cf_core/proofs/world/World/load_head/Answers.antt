@@ -4,7 +4,7 @@ use Rattle.cf_law.specs.Steps.Act.{load_head}
 use Rattle.cf_law.specs.Steps.{pass_with_head}
 use Rattle.cf_shape.specs.Places.{place_of}
 use Rattle.cf_shape.specs.Places.WordName.{head}
-use Rattle.cf_words.specs.Words.{spot}
+use Rattle.cf_law.specs.Words.{spot}
 use Rattle.cf_core.proofs.Making.{made, made_lawful, pass_there}
 use Rattle.cf_core.proofs.Walks.{known_is, head_there, head_does, head_only, head_none}
 use Rattle.cf_core.proofs.world.World.load_head.Goals as goal

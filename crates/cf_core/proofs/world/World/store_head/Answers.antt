@@ -2,10 +2,10 @@ use Rattle.std.proofs.Common.{◌≡◌, ◌+◌, ℕ, List, true, false, ap, sy
 use Rattle.std.proofs.lemmas.Option.{slice_get_within}
 use Rattle.cf_law.specs.Events.WorldEvent.{acts}
 use Rattle.cf_law.specs.Shapes.{layout}
-use Rattle.cf_words.specs.Law.{IsWhole}
-use Rattle.cf_words.specs.Words.{has}
+use Rattle.cf_law.specs.Law.{IsWhole}
+use Rattle.cf_law.specs.Words.{has}
 use Rattle.cf_core.specs.Worlds.{draft, LeadsTo}
-use Rattle.cf_words.specs.Words.{spot}
+use Rattle.cf_law.specs.Words.{spot}
 use Rattle.cf_shape.specs.Places.{place_of}
 use Rattle.cf_shape.specs.Places.WordName.{head}
 use Rattle.cf_law.specs.Steps.{pass_with_book, book_with_head}

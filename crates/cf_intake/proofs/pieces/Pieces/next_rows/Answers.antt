@@ -3,8 +3,8 @@ use Rattle.std.proofs.lemmas.List.{append_assoc}
 use Rattle.std.proofs.lemmas.List.Elements.{All-append}
 use Rattle.std.proofs.lemmas.Result.{err_from_is_err_and}
 use Rattle.cf_row.specs.Row.{Fits, RowValue}
-use Rattle.cf_packet6.specs.Schema6.{attrs_by}
-use Rattle.cf_packet6.specs.declared.PacketSchema.{PacketSchema}
+use Rattle.cf_row.specs.Schema6.{attrs_by}
+use Rattle.cf_row.specs.declared.packet6.PacketSchema.{PacketSchema}
 use Rattle.cf_intake.specs.Reading.{IsReadOn}
 use Rattle.cf_intake.proofs.Piecewise.{few_more, stopped_on}
 use Rattle.cf_intake.proofs.pieces.Pieces.next_rows.Goals as goal

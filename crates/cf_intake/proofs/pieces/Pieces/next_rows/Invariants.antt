@@ -1,6 +1,6 @@
 use Rattle.std.proofs.Common.{◌≡◌, ◌≤◌, ◌<◌, ◌+◌, ◌-◌, ◌++◌, ℕ, List, Option, All, length}
 use Rattle.cf_row.specs.Row.{Fits, RowValue}
-use Rattle.cf_packet6.specs.Schema6.{attrs_by}
+use Rattle.cf_row.specs.Schema6.{attrs_by}
 use Rattle.cf_intake.specs.Reading.{IsReadOn}
 use Rattle.cf_intake.proofs.pieces.Pieces.next_rows.Given as goal
 

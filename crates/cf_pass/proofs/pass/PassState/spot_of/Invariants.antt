@@ -1,5 +1,5 @@
 use Rattle.std.proofs.Common.{◌≡◌, ◌<◌, ℕ, Some, slice_get}
-use Rattle.cf_words.specs.Words.{Spot}
+use Rattle.cf_law.specs.Words.{Spot}
 use Rattle.cf_pass.proofs.pass.PassState.spot_of.Given as goal
 
 abbrev pub invariant-loop-known : goal.invariant-loop-known

@@ -35,7 +35,7 @@ loop-place-preserved c =
     }
 
 -- all values came
-kept : (vs : List Value) (lens words : List ℕ) (i at : ℕ) → i ≤ length vs → length vs ≤ i → length vs ≤ 20 → length lens ≡ 32
+kept : (vs : List Value) (lens words : List ℕ) (i at : ℕ) → i ≤ length vs → length vs ≤ i → length vs ≤ 32 → length lens ≡ 32
     → values_fit (attrs_of (take i lens)) (take i vs) ≡ true → take at words ≡ values_words (take i vs)
     → AreKept (take (length vs) lens) (take at words) × (values_kept (take (length vs) lens) (take at words) ≡ vs)
 kept vs lens words i at le ge few long fit spells =

@@ -7,7 +7,7 @@ use Rattle.cf_row.proofs.values.Spelling.of.Given as goal
 abbrev pub invariant-loop-place : goal.invariant-loop-place
 invariant-loop-place l = record {
   long : length l.lens ≡ 32;
-  room : length l.words ≡ 20;
+  room : length l.words ≡ 32;
   fit : values_fit (attrs_of (take l.place l.lens)) (take l.place l.values) ≡ true;
   end : l.at ≡ length (values_words (take l.place l.values));
   spelled : take l.at l.words ≡ values_words (take l.place l.values);

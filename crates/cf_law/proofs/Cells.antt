@@ -5,7 +5,7 @@ use Rattle.cf_row.specs.Row.{RowValue}
 use Rattle.cf_fold.specs.Quads.{QuadValue, quad_of, IsQuad}
 use Rattle.cf_fold.specs.Cells.{AreWordsOf, halves}
 use Rattle.cf_fold.specs.declared.cell.CellWords.{CellWords}
-use Rattle.cf_words.specs.Words.{Layout, link_to_newest, version_word}
+use Rattle.cf_law.specs.Words.{Layout, link_to_newest, version_word}
 
 -- what the lane measures of the row and of a chain
 abbrev pub amounts_of : Layout → ℕ → List (ℕ × RowValue) → RowValue → List ℕ

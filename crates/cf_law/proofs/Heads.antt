@@ -11,13 +11,13 @@ use Rattle.std.proofs.lemmas.Option.{slice_get_within, slice_get_past}
 use Rattle.std.proofs.lemmas.Nat.{mul-add-lt, div-add-mod'}
 use Rattle.cf_shape.specs.Places.{Slot, place, IsReal, word_total}
 use Rattle.cf_shape.specs.Places.Slot.{tail, cell, root, body}
-use Rattle.cf_words.proofs.Forms.{ticket_with_word, ticket_with_head, ticket_with_done, CanFill, CanHead}
-use Rattle.cf_words.specs.Words.{Spot, spot, Layout, Ticket, NodeStock, node_at, NodeWord, BodyWord, is_inner, IsWordOf, Spells, links, entry_at, chain, link_to_newest, tail_word, ticket_word, full_word, used_word, lane_word, version_word, done_word, fresh_ticket}
+use Rattle.cf_law.proofs.Forms.{ticket_with_word, ticket_with_head, ticket_with_done, CanFill, CanHead}
+use Rattle.cf_law.specs.Words.{Spot, spot, Layout, Ticket, NodeStock, node_at, NodeWord, BodyWord, is_inner, IsWordOf, Spells, links, entry_at, chain, link_to_newest, tail_word, ticket_word, full_word, used_word, lane_word, version_word, done_word, fresh_ticket}
 use Rattle.cf_shape.specs.Uses.Use.{plain, version}
-use Rattle.cf_words.specs.Law.{LayoutLaw, NodesLaw, FlightLaw, Skips}
-use Rattle.cf_words.proofs.Nodes.{cond_zero, row_of, col_of, node_within}
-use Rattle.cf_words.proofs.Stores.{store_keeps}
-use Rattle.cf_words.proofs.Chains.{links_of, same_bool, has_more, has_first, has_rest, links_true, links_intro, entry_none, entry_linked, entry_unlinked, entry_same, chain_same, chain_from, chain_top, fresh_unlinked}
+use Rattle.cf_law.specs.Law.{LayoutLaw, NodesLaw, FlightLaw, Skips}
+use Rattle.cf_law.proofs.Nodes.{cond_zero, row_of, col_of, node_within}
+use Rattle.cf_law.proofs.Stores.{store_keeps}
+use Rattle.cf_law.proofs.Chains.{links_of, same_bool, has_more, has_first, has_rest, links_true, links_intro, entry_none, entry_linked, entry_unlinked, entry_same, chain_same, chain_from, chain_top, fresh_unlinked}
 
 pub get_set_same : {A : Type 0} (xs : List A) (i : ℕ) (x y : A) → slice_get xs i ≡ Some y → slice_get (set xs i x) i ≡ Some x
 get_set_same [] i x y h = absurd (cc)

@@ -2,7 +2,7 @@
 use Rattle.std.specs.Prelude.{ℕ, ◌+◌, ◌*◌, ◌^◌, ◌<◌, ◌≤◌, ◌≡◌, suc, List, ◌∷◌, true, length, Some, None, slice_get}
 use Rattle.cf_row.specs.Row.{RowValue}
 use Rattle.cf_shape.specs.Uses.{Use}
-use Rattle.cf_words.specs.Words.{entry, Spot, spot, Layout, Ticket, NodeStock, stock_of, node_at, has}
+use Rattle.cf_law.specs.Words.{entry, Spot, spot, Layout, Ticket, NodeStock, stock_of, node_at, has}
 use Rattle.cf_shape.specs.Uses.Use.{plain, version}
 
 -- what is so of the used nodes of all writers: each stands below another used node or a root, and for a spot of its own

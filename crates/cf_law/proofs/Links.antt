@@ -5,12 +5,12 @@ use Rattle.std.proofs.lemmas.Nat.{mul-add-lt}
 use Rattle.cf_lemmas.proofs.Truths.{lt_true}
 use Rattle.cf_shape.specs.Places.{Sizes, Slot, place, IsReal, word_total}
 use Rattle.cf_shape.specs.Places.Slot.{tail, cell, root, body}
-use Rattle.cf_words.proofs.Forms.{stocks_with_label, stocks_with_node, stocks_with_mark, CanLink}
-use Rattle.cf_words.specs.Words.{Spot, spot, Layout, Ticket, NodeStock, stock_of, node_at, spare_label, free_of, IsChildFor, IsNamedBy, NodeWord, BodyWord, is_inner, IsWordOf, Spells, links, entry_at, chain, link_to_newest}
-use Rattle.cf_words.specs.Law.{NodesLaw, LeavesLaw}
-use Rattle.cf_words.proofs.Nodes.{free_is_free, label_node_at, label_spare_here, label_spare_other, spare_free, relabel_length, relabel_used, over_used, over_length, over_node_at, over_spare, use_length, use_room, use_node_at_here, use_node_at_other, use_spare}
-use Rattle.cf_words.proofs.Stores.{store_keeps}
-use Rattle.cf_words.proofs.Chains.{links_true, entry_none, entry_unlinked, chain_none}
+use Rattle.cf_law.proofs.Forms.{stocks_with_label, stocks_with_node, stocks_with_mark, CanLink}
+use Rattle.cf_law.specs.Words.{Spot, spot, Layout, Ticket, NodeStock, stock_of, node_at, spare_label, free_of, IsChildFor, IsNamedBy, NodeWord, BodyWord, is_inner, IsWordOf, Spells, links, entry_at, chain, link_to_newest}
+use Rattle.cf_law.specs.Law.{NodesLaw, LeavesLaw}
+use Rattle.cf_law.proofs.Nodes.{free_is_free, label_node_at, label_spare_here, label_spare_other, spare_free, relabel_length, relabel_used, over_used, over_length, over_node_at, over_spare, use_length, use_room, use_node_at_here, use_node_at_other, use_spare}
+use Rattle.cf_law.proofs.Stores.{store_keeps}
+use Rattle.cf_law.proofs.Chains.{links_true, entry_none, entry_unlinked, chain_none}
 
 -- used nodes stay
 abbrev pub Grows : ℕ → List NodeStock → List NodeStock → Type 0

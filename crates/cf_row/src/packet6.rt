@@ -1,11 +1,9 @@
-//! The schemas of captured packets: `packet`, and `packet6` with IPv6 addresses and more.
-#![tactic(auto)]
-
+// The schemas of captured packets: `packet`, and `packet6` with IPv6 addresses and more.
 ghost use Rattle.std.specs.Prelude.{◌≡◌, IfOk, codes};
 ghost use Rattle.cf_row.specs.Schema.{IsSchema};
-ghost use Rattle.cf_packet6.specs.Schema6.{attrs_by, packet6_attrs};
+ghost use Rattle.cf_row.specs.Schema6.{attrs_by, packet6_attrs};
 
-use cf_row::{Attr, Kind, Memory, Name, Schema, packet_schema};
+use crate::{Attr, Kind, Memory, Name, Schema, packet_schema};
 use std::alloc::Global;
 
 /// Which schema captured packets have, by its name in a setup.

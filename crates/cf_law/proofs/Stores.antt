@@ -3,7 +3,7 @@ use Rattle.std.proofs.Common.{◌≡◌, ℕ, ◌<◌, List, length, get_or, set
 use Rattle.std.proofs.lemmas.List.{get_or-set_same, get_or-set_other}
 use Rattle.std.proofs.lemmas.Bool.{cases_eq}
 use Rattle.cf_shape.specs.Places.{Slot, place, IsReal, word_total}
-use Rattle.cf_words.specs.Words.{Layout, Ticket, NodeStock, IsWordOf, Spells}
+use Rattle.cf_law.specs.Words.{Layout, Ticket, NodeStock, IsWordOf, Spells}
 use Rattle.cf_shape.proofs.Slots.{same_slot, place_within}
 
 pub store_keeps : (sh : Layout) (ts ts' : ℕ × ℕ) (log log' : List Ticket) (bs bs' : List NodeStock) (words : List ℕ) (s : Slot) (v : ℕ)

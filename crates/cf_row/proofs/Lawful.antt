@@ -2,7 +2,7 @@
 use Rattle.std.proofs.Common.{length, refl}
 use Rattle.std.proofs.lemmas.Bool.{leb-true}
 use Rattle.cf_row.specs.Schema.{IsSchema}
-use Rattle.cf_packet6.specs.Schema6.{packet6_attrs}
+use Rattle.cf_row.specs.Schema6.{packet6_attrs}
 
 pub packet6_is : IsSchema packet6_attrs
 packet6_is = record { few = leb-true (length packet6_attrs) 32 refl; apart = refl; stamped = refl; sized = refl }

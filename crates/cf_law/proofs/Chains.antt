@@ -3,7 +3,7 @@ use Rattle.std.proofs.Common.{◌≡◌, ℕ, ◌<◌, ◌≤◌, ◌⊎◌, ◌
 use Rattle.cf_lemmas.proofs.Truths.{eq_from, eq_true}
 use Rattle.cf_row.specs.Row.{RowValue}
 use Rattle.std.proofs.lemmas.Bool.{cases_Bool, cases_eq, cases_lt}
-use Rattle.cf_words.specs.Words.{Spot, Layout, Ticket, has, same_path, links, entry_at, chain, link_to_newest, fresh_ticket}
+use Rattle.cf_law.specs.Words.{Spot, Layout, Ticket, has, same_path, links, entry_at, chain, link_to_newest, fresh_ticket}
 
 -- a conjunction of two tests
 pub both : (a b : Bool) → cond a b false ≡ true → (a ≡ true) × (b ≡ true)

@@ -1,8 +1,8 @@
 -- Working forms of the proofs: what a step leaves of a ticket and of a writer's nodes, and what it needs.
 use Rattle.std.specs.Prelude.{ℕ, ◌+◌, ◌*◌, ◌<◌, ◌≤◌, ◌≡◌, suc, List, [], ◌∷◌, ◌++◌, set, true, false, length, Some, slice_get}
 use Rattle.cf_shape.specs.Places.{Slot, place, IsReal}
-use Rattle.cf_words.specs.Words.{Spot, spot, Layout, Ticket, NodeStock, stock_of, node_at, IsNamedBy, has}
-use Rattle.cf_words.specs.Law.{Skips, IsWhole}
+use Rattle.cf_law.specs.Words.{Spot, spot, Layout, Ticket, NodeStock, stock_of, node_at, IsNamedBy, has}
+use Rattle.cf_law.specs.Law.{Skips, IsWhole}
 
 -- book w gets the label v
 unfoldable pub stocks_with_label : ℕ → ℕ → List NodeStock → List NodeStock

@@ -7,8 +7,8 @@ use Rattle.std.proofs.lemmas.Bool.{cases_eq, cases_lt}
 use Rattle.std.proofs.lemmas.Option.{slice_get_past, slice_get_within}
 use Rattle.cf_lemmas.proofs.Lists.{get_push_other, get_push_same}
 use Rattle.cf_lemmas.proofs.Truths.{eq_false, eq_true}
-use Rattle.cf_words.proofs.Forms.{stocks_with_label, stocks_with_node, stocks_with_mark}
-use Rattle.cf_words.specs.Words.{Spot, NodeStock, stock_of, node_at, spare_label, free_of, marked_books}
+use Rattle.cf_law.proofs.Forms.{stocks_with_label, stocks_with_node, stocks_with_mark}
+use Rattle.cf_law.specs.Words.{Spot, NodeStock, stock_of, node_at, spare_label, free_of, marked_books}
 
 pub cond_zero : (b : Bool) → ◌≡◌ {A = ℕ} (cond b 0 0) 0
 cond_zero true = refl
