@@ -3,6 +3,7 @@ use Rattle.std.proofs.Common.{◌≡◌, ℕ, zero, suc, ◌+◌, ◌-◌, ◌*�
 use Rattle.std.specs.List.{list_all}
 use Rattle.std.proofs.lemmas.Bool.{and_from, ltb-true, lt-ltb, le-leb, leb-true, cases_lt, cases_Bool}
 use Rattle.std.proofs.lemmas.List.{drop-drop, drop_more, drop_all, length-map, take_more, take_more_set, map-append, get_or_past, get_or-take, drop-take, length-take-le, take_all, take_at, append-nil}
+use Rattle.cf_row.specs.declared.schema.TheConstants.{MOST_ATTRS}
 use Rattle.cf_row.specs.declared.schema.Attr.{Attr}
 use Rattle.cf_row.specs.declared.schema.Kind.{Kind}
 use Rattle.cf_row.specs.declared.schema.Kind.TheVariants.{U8, U16, U32, U64, Bytes}
@@ -155,7 +156,7 @@ lens_more f attrs lens i r a lt room kept is same =
 
 -- the words of an entry of the attributes keep its values
 pub kept_new : (attrs : List Attr) (lens ws items : List ℕ) → lens ≡ map (λ attr. len_of attr.kind) attrs → items ≡ ws
-    → list_all (λ attr. has_good_size attr.kind) attrs ≡ true → length attrs ≤ 32 → length ws ≡ word_count attrs → words_fit attrs ws ≡ true
+    → list_all (λ attr. has_good_size attr.kind) attrs ≡ true → length attrs ≤ MOST_ATTRS → length ws ≡ word_count attrs → words_fit attrs ws ≡ true
     → AreKept lens items
 kept_new attrs lens ws items is same good few long fits =
     let alike = attrs_kept attrs good in
@@ -266,7 +267,7 @@ good_lens (x ∷ xs) (v ∷ vs) fits = let c = both (is_of_kind (kind_of x) v) (
     and_from _ _ (good_len x v c.0) (good_lens xs vs c.1)
 
 -- the words of values of these lengths keep them
-pub packed_kept : (lens ws : List ℕ) (vs : List Value) → length lens ≤ 32 → ws ≡ values_words vs → values_fit (attrs_of lens) vs ≡ true → AreKept lens ws
+pub packed_kept : (lens ws : List ℕ) (vs : List Value) → length lens ≤ MOST_ATTRS → ws ≡ values_words vs → values_fit (attrs_of lens) vs ≡ true → AreKept lens ws
     × (values_kept lens ws ≡ vs)
 packed_kept lens ws vs few is fits =
     let attrs : List Attr = attrs_of lens in
@@ -304,11 +305,11 @@ above n m lt = elim (cases_Bool (nat_le n m)) [
 ]
 
 pub too_many_words : (vs : List Value) (i at n : ℕ) → i < length vs → at ≡ length (values_words (take i vs))
-    → is_of_kind (kind_of n) (get_or vs i (Num 0)) ≡ true → 32 < at + words_of_kind (kind_of n) → lie_within vs ≡ false
+    → is_of_kind (kind_of n) (get_or vs i (Num 0)) ≡ true → MOST_ATTRS < at + words_of_kind (kind_of n) → lie_within vs ≡ false
 too_many_words vs i at n lt end fits gt =
     let v : Value = get_or vs i (Num 0) in
     let m = ap (length {A = ℕ}) (words_more vs i (Num 0) lt) in
     let long = value_long (kind_of n) v fits in
     let all = words_front vs (i + 1) in
-    let more : 32 < length (values_words vs) = omega (arith, m, long, all, end, gt, length-append (values_words (take i vs)) (value_words v)) in
-    no_and (nat_le (length vs) 32 && list_all can_be_kept vs) (nat_le (length (values_words vs)) 32) (above (length (values_words vs)) 32 more)
+    let more : MOST_ATTRS < length (values_words vs) = omega (arith, m, long, all, end, gt, length-append (values_words (take i vs)) (value_words v)) in
+    no_and (nat_le (length vs) MOST_ATTRS && list_all can_be_kept vs) (nat_le (length (values_words vs)) MOST_ATTRS) (above (length (values_words vs)) MOST_ATTRS more)

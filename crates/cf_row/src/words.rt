@@ -28,7 +28,7 @@ pub(crate) fn kind_words(kind: Kind) -> usize
 pub(crate) fn count_words(attrs: &[Attr]) -> usize
     requires { length attrs.now ≤ MOST_ATTRS }
     ensures count { result ≡ word_count_of attrs.now }
-    ensures few { result ≤ 64 }
+    ensures few { result ≤ 2 * MOST_ATTRS }
 {
     let mut count = 0;
     for attr in attrs {
@@ -40,7 +40,7 @@ pub(crate) fn count_words(attrs: &[Attr]) -> usize
 /// The number of attribute words of a row: one for a number or up to 8 bytes, two for more bytes.
 pub fn word_count(schema: &Schema) -> usize
     ensures count { result ≡ word_count_of schema.now }
-    ensures few { result ≤ 64 }
+    ensures few { result ≤ 2 * MOST_ATTRS }
 {
     usize::from(schema.words())
 }

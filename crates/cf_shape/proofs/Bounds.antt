@@ -2,6 +2,7 @@
 use Rattle.std.proofs.Common.{◌≡◌, ◌+◌, ◌*◌, ◌≤◌, true, ◌&&◌, List, [], ◌∷◌, refl, arith}
 use Rattle.std.specs.List.{list_all}
 use Rattle.std.proofs.lemmas.Bool.{and_from}
+use Rattle.cf_row.specs.declared.schema.TheConstants.{MOST_ATTRS}
 use Rattle.cf_lemmas.proofs.Truths.{both}
 use Rattle.cf_row.specs.declared.schema.Attr.{Attr}
 use Rattle.cf_row.specs.Expr.{is_of_schema}
@@ -14,19 +15,19 @@ use Rattle.cf_shape.specs.Uses.{ticket_words}
 use Rattle.cf_shape.specs.Places.{sizes_of, roots_at, nodes_at, word_total}
 use Rattle.cf_shape.proofs.Counts.{count_low}
 
-pub ticket_few : (s : ShapeValue) → IsShape s → ticket_words s ≤ 114
+pub ticket_few : (s : ShapeValue) → IsShape s → ticket_words s ≤ 2 * MOST_ATTRS + 50
 ticket_few s is = let a = is.schema.few in let b = is.few in omega (arith, a, b, rows.count_low s.schema, count_low s.lanes)
 
-pub roots_small : (s : ShapeValue) → IsShape s → roots_at (sizes_of s) ≤ 7471106
-roots_small s is = omega (arith, mul-le s.capacity (ticket_words s) 65536 114 is.capacity.1 (ticket_few s is))
+pub roots_small : (s : ShapeValue) → IsShape s → roots_at (sizes_of s) ≤ 65536 * (2 * MOST_ATTRS + 50) + 2
+roots_small s is = omega (arith, mul-le s.capacity (ticket_words s) 65536 (2 * MOST_ATTRS + 50) is.capacity.1 (ticket_few s is))
 
-pub nodes_small : (s : ShapeValue) → IsShape s → nodes_at (sizes_of s) ≤ 7471362
+pub nodes_small : (s : ShapeValue) → IsShape s → nodes_at (sizes_of s) ≤ 65536 * (2 * MOST_ATTRS + 50) + 258
 nodes_small s is = let b = is.few in omega (arith, b, roots_small s is)
 
 pub writers_nodes_small : (s : ShapeValue) → IsShape s → s.writers * s.nodes ≤ 983040
 writers_nodes_small s is = mul-le s.writers s.nodes 15 65536 is.writers.1 is.nodes
 
-pub total_small : (s : ShapeValue) → IsShape s → word_total (sizes_of s) ≤ 244384002
+pub total_small : (s : ShapeValue) → IsShape s → word_total (sizes_of s) ≤ 65536 * (2 * MOST_ATTRS + 50) + 236912898
 total_small s is =
     let b = is.writers.1 in
     let few : 1 + 16 * s.writers ≤ 241 = omega (arith, b) in

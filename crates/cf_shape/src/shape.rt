@@ -1,6 +1,7 @@
 // The shape of a log.
-ghost use Rattle.std.specs.Prelude.{◌≡◌, ℕ, ◌+◌, ◌<◌, ◌≤◌, ◌^◌, [], List, length, IfOk, MatchResult};
+ghost use Rattle.std.specs.Prelude.{◌≡◌, ℕ, ◌+◌, ◌*◌, ◌<◌, ◌≤◌, ◌^◌, [], List, length, IfOk, MatchResult};
 ghost use Rattle.std.specs.List.{list_all};
+ghost use Rattle.cf_row.specs.declared.schema.TheConstants.{MOST_ATTRS};
 ghost use Rattle.cf_row.specs.Schema.{IsSchema};
 ghost use Rattle.cf_row.specs.Words.{word_count as word_count_of};
 ghost use Rattle.cf_shape.specs.Lanes.{ShapeValue, IsShape, lane_at};
@@ -251,7 +252,7 @@ impl Shape {
     /// How many words a ticket has.
     pub fn ticket_words(&self) -> u64
         ensures words { result ≡ ticket_words_of self.now }
-        ensures few { result ≤ 114 }
+        ensures few { result ≤ 2 * MOST_ATTRS + 50 }
         ensures lawful { IsShape self.now }
     {
         self.ticket_words

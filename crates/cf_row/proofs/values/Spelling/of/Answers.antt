@@ -1,5 +1,6 @@
 use Rattle.std.proofs.Common.{◌≡◌, ◌<◌, ◌≤◌, ◌++◌, ℕ, List, length, take, get_or, true, arith, rules, refl, ap, ap₂, sym, ◌∙◌, length-append}
 use Rattle.std.proofs.lemmas.List.{length-set, length-take-le, take_all}
+use Rattle.cf_row.specs.declared.schema.TheConstants.{MOST_ATTRS}
 use Rattle.cf_row.specs.declared.row.Value.{Value}
 use Rattle.cf_row.specs.declared.row.Value.TheVariants.{Num}
 use Rattle.cf_row.specs.Row.{is_of_kind, values_fit}
@@ -35,13 +36,13 @@ loop-place-preserved c =
     }
 
 -- all values came
-kept : (vs : List Value) (lens words : List ℕ) (i at : ℕ) → i ≤ length vs → length vs ≤ i → length vs ≤ 32 → length lens ≡ 32
+kept : (vs : List Value) (lens words : List ℕ) (i at : ℕ) → i ≤ length vs → length vs ≤ i → length vs ≤ MOST_ATTRS → length lens ≡ MOST_ATTRS
     → values_fit (attrs_of (take i lens)) (take i vs) ≡ true → take at words ≡ values_words (take i vs)
     → AreKept (take (length vs) lens) (take at words) × (values_kept (take (length vs) lens) (take at words) ≡ vs)
 kept vs lens words i at le ge few long fit spells =
     let end : i ≡ length vs = omega (arith, le, ge) in
     let all : take i vs ≡ vs = take_all i vs ge in
-    let short : length (take (length vs) lens) ≤ 32 = omega (arith, few, length-take-le (length vs) lens (omega (arith, few, long))) in
+    let short : length (take (length vs) lens) ≤ MOST_ATTRS = omega (arith, few, length-take-le (length vs) lens (omega (arith, few, long))) in
     packed_kept (take (length vs) lens) (take at words) vs short (spells ∙ ap values_words all)
     (ap₂ (λ (n : ℕ) (ys : List Value). values_fit (attrs_of (take n lens)) ys) (sym end) (sym all) ∙ fit)
 
