@@ -70,6 +70,10 @@ class TenQuestions(unittest.TestCase):
     def same(self, question: str, wanted: Counter[str]) -> None:
         self.assertEqual(dict(self.table(question)), dict(wanted), question)
 
+    def ends(self, packet: Packet, first: str, second: str) -> tuple[str, ...]:
+        """The endpoints of a TCP packet, in that order."""
+        return tuple(packet[it] for end in (first, second) for it in (end, f"tcp.{end}port"))
+
     def test_1_who_sends_most(self) -> None:
         self.same("top 100 src by bytes", self.counted("src", weight="frame.len"))
         rows = [it for _, it in self.table("top 100 src by bytes")]
@@ -86,6 +90,10 @@ class TenQuestions(unittest.TestCase):
         )
         words = "top 100 src by packets where flags==18 or flags==82"
         self.same(words, self.counted("src", lambda it: it["flags"] in SYN_ACK))
+        begun = {self.ends(it, "src", "dst") for it in self.packets if it["flags"] in SYN}
+        answered = {self.ends(it, "dst", "src") for it in self.packets if it["flags"] in SYN_ACK}
+        title = f"unanswered: {len(begun - answered):,} of {len(begun):,} connections"
+        self.assertIn(title, self.asked("unanswered"))
 
     def test_3_segments_sent_again(self) -> None:
         wanted = self.counted("tcp.seq_raw", lambda it: int(it["tcp.len"] or "0") > 0).most_common(3)
