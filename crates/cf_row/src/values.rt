@@ -156,6 +156,20 @@ impl Spelling {
         })
     }
 
+    // So many values of these lengths, each of which one word spells.
+    #[inline(always)]
+    pub(crate) fn of_words(count: u8, lens: [u8; MOST_ATTRS], words: [u64; MOST_ATTRS]) -> Spelling
+        requires few { count ≤ MOST_ATTRS }
+        requires kept { AreKept (take count lens) (take count words) }
+        ensures { result ≡ values_kept (take count lens) (take count words) }
+    {
+        Spelling {
+            lens,
+            count,
+            words: Words::Few(words, count),
+        }
+    }
+
     // These values, where they are few enough and each is a number or has 1 to 16 bytes.
     #[inline(always)]
     pub(crate) fn of(values: &[Value]) -> Option<Spelling>
