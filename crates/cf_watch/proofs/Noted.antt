@@ -1,4 +1,4 @@
--- What is noted of keys stays so when records come and when a trigger tells its marks.
+-- What is noted of keys stays true when records come and when a trigger reports its marks.
 use Rattle.std.proofs.Common.{◌≡◌, ℕ, zero, suc, ◌+◌, ◌<◌, ◌≤◌, Bool, true, false, not, ◌||◌, ◌&&◌, ◌==◌, List, [], ◌∷◌, ◌++◌, length, take, get_or, set, map, replicate, refl, sym, ap, ◌∙◌, inl, inr, arith, Option, Some, None}
 use Rattle.std.proofs.lemmas.Bool.{and_cases, and_parts, cases_Bool, cases_eq, cases_lt, eq-eqb, false≢true, not-true, or_from, or_left, or_parts, or_right, true≢false}
 use Rattle.std.proofs.Math.ListN.{get_or-eq_default}
@@ -11,7 +11,7 @@ use Rattle.cf_watch.specs.Kept.{BucketValue, begun, most_triggers}
 use Rattle.cf_watch.specs.Marks.{is_told, is_untold, meets, with_told}
 use Rattle.cf_watch.specs.Notes.{AreAllUntoldAt, AreNotes, AreUntoldAt, ChangedAt, NotesValue, is_among, pair_at}
 
--- at no place: no key has a mark of the trigger that was not told
+-- at no place: no key has an unreported mark
 pub none_untold : (trigger : Trigger) (place : ℕ) (pairs : List BucketValue) → list_any (is_untold trigger place) pairs ≡ false → AreUntoldAt trigger place [] pairs
 none_untold trigger place pairs none = λ at lt is. absurd (false≢true (sym none ∙ list_any_at (is_untold trigger place) pairs at (begun 0 0) lt is))
 
@@ -72,7 +72,7 @@ not_more : (a b : Bool) → (a ≡ true → b ≡ true) → not b ≡ true → n
 not_more true b more is = absurd (true≢false (sym (more refl) ∙ not-true b is))
 not_more false b more is = refl
 
--- what is untold then was untold before
+-- an unreported mark was so before too
 pub told_less : (trigger later : Trigger) (place other : ℕ) (pair : BucketValue)
     → is_untold later other (with_told trigger place pair) ≡ true → is_untold later other pair ≡ true
 told_less trigger later place other pair is = elim (cases_Bool (meets trigger pair)) [
@@ -137,7 +137,7 @@ changed_push pairs place new is =
           (within, get_or_append_left pairs (new ∷ []) (begun 0 0) at within);
     }
 
--- it is the first record since a trigger told its marks
+-- the first record since a trigger reported its marks
 pub notes_begin : (notes : NotesValue) (pairs : List BucketValue) → notes.changed ≡ false → AreNotes notes pairs
     → AreNotes (record notes { changed = true; noting = true; before = notes.told; places = [] }) pairs
 notes_begin notes pairs same are = record {
@@ -171,7 +171,7 @@ module _ (notes : NotesValue) (place : ℕ) (pairs later : List BucketValue) (ch
     within = All-push (λ at. at < length later) notes.places place (within_more (length pairs) (length later) notes.places changed.longer are.within) changed.exists;
   }
 
--- The trigger of a place told its marks.
+-- The trigger of a place reports its marks.
 some_same : (a b : Trigger) → ◌≡◌ {A = Option Trigger} (Some a) (Some b) → a ≡ b
 some_same a b same = cc
 
@@ -207,7 +207,7 @@ within_told trigger place pairs places are =
     let long = length-map pairs (with_told trigger place) in
     within_more (length pairs) (length (map (with_told trigger place) pairs)) places (omega (arith, long)) are
 
--- it is the first since the last record
+-- the first trigger since the last record
 pub notes_first : (notes : NotesValue) (pairs : List BucketValue) (trigger : Trigger) (place : ℕ) → AreNotes notes pairs
     → list_any (is_untold trigger place) (map (with_told trigger place) pairs) ≡ false
     → AreNotes (record notes { changed = false; told = set (replicate most_triggers None) place (Some trigger) }) (map (with_told trigger place) pairs)
@@ -218,7 +218,7 @@ notes_first notes pairs trigger place are quiet = record {
   within = within_told trigger place pairs notes.places are.within;
 }
 
--- others did
+-- a further one
 pub notes_next : (notes : NotesValue) (pairs : List BucketValue) (trigger : Trigger) (place : ℕ) → notes.changed ≡ false → AreNotes notes pairs
     → list_any (is_untold trigger place) (map (with_told trigger place) pairs) ≡ false
     → AreNotes (record notes { told = set notes.told place (Some trigger) }) (map (with_told trigger place) pairs)

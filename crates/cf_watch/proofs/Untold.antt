@@ -1,4 +1,4 @@
--- If all keys that may be untold are at some places, then what is told there is all, and so are the marks that are put from there.
+-- If all keys with an unreported mark are at some places, then it is enough to look there.
 use Rattle.std.proofs.Common.{◌≡◌, ℕ, zero, suc, ◌+◌, ◌<◌, ◌≤◌, Bool, true, false, ◌||◌, ◌==◌, List, [], ◌∷◌, length, drop, get_or, set, map, filter, fold, refl, sym, ap, ◌∙◌, inl, inr, arith}
 use Rattle.std.proofs.lemmas.Bool.{cases_Bool, cases_eq, cases_order, eq-eqb, false≢true, le-ltb, lt-ltb, ne_eqb, or_from}
 use Rattle.std.proofs.lemmas.List.{drop_all, drop_more, get_or-set_other, get_or-set_same, length-set, map-set, set-get_or}
@@ -19,7 +19,7 @@ among_rest places i k lt ne =
     let differ : (get_or places i 0 == k) ≡ false = ne_eqb (get_or places i 0) k (λ e. ne (sym e)) in
     rw (drop_more places i 0 lt, differ) refl
 
--- the key at one place more is told
+-- the key at one more place is marked as reported
 pub told_at : (trigger : Trigger) (place : ℕ) (old pairs : List BucketValue) (places : List ℕ) (i at : ℕ) (new : BucketValue) → i < length places
     → at ≡ get_or places i 0 → at < length pairs → new ≡ with_told trigger place (pair_at pairs at) → is_untold trigger place new ≡ false
     → map (with_told trigger place) pairs ≡ map (with_told trigger place) old
@@ -42,7 +42,7 @@ untold_left trigger place pairs places i at new lt here within none are = λ k l
       sym (among_rest places i k lt (λ e. ne (e ∙ sym here))) ∙ are k fewer (ap (is_untold trigger place) (sym read) ∙ is)
 ]
 
--- all are told
+-- all are
 pub told_all_there : (trigger : Trigger) (place : ℕ) (old pairs : List BucketValue) (places : List ℕ) (n : ℕ) → length places ≤ n
     → map (with_told trigger place) pairs ≡ map (with_told trigger place) old → AreUntoldAt trigger place (drop n places) pairs
     → (pairs ≡ map (with_told trigger place) old) × (list_any (is_untold trigger place) pairs ≡ false)

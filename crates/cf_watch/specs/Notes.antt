@@ -5,9 +5,9 @@ use Rattle.cf_fold.specs.declared.trigger.Trigger.{Trigger}
 use Rattle.cf_watch.specs.Kept.{BucketValue, begun}
 use Rattle.cf_watch.specs.Marks.{is_untold}
 
--- Whether a record came since a trigger told its marks; for each place of the setup the trigger that told its marks since the last record;
--- whether it is noted to which keys records came; for each place of the setup the trigger that had told its marks before they came; and
--- the places of those keys.
+-- Whether a record came since a trigger reported its marks; for each place of the setup the trigger that did so since the last record;
+-- whether the keys to which records came are noted; for each place of the setup the trigger that had reported its marks before the first
+-- of those records; and the places of those keys.
 pub record NotesValue : Type 0 where
   pub changed : Bool
   pub told : List (Option Trigger)
@@ -23,17 +23,17 @@ pair_at pairs at = slice_index_or pairs at (begun 0 0)
 abbrev pub is_among : List ℕ → ℕ → Bool
 is_among places at = list_any (λ p. p == at) places
 
--- each key in which the trigger fires, and that was not told for it, is at one of these places
+-- each key with an unreported mark of the trigger is at one of these places
 abbrev pub AreUntoldAt : Trigger → ℕ → List ℕ → List BucketValue → Type 0
 AreUntoldAt trigger place places pairs =
     (at : ℕ) → at < length pairs → is_untold trigger place (pair_at pairs at) ≡ true → is_among places at ≡ true
 
--- that is so of each of these triggers, which are listed by their places in the setup
+-- that is so of each of these triggers, listed by their places in the setup
 abbrev pub AreAllUntoldAt : List (Option Trigger) → List ℕ → List BucketValue → Type 0
 AreAllUntoldAt triggers places pairs =
     (place : ℕ) (trigger : Trigger) → slice_index_or triggers place None ≡ Some trigger → AreUntoldAt trigger place places pairs
 
--- what is noted is so of the keys
+-- what is noted is true of the keys
 pub record AreNotes (notes : NotesValue) (pairs : List BucketValue) : Type 0 where
   pub told : notes.changed ≡ false → AreAllUntoldAt notes.told [] pairs
   pub before : notes.noting ≡ true → AreAllUntoldAt notes.before notes.places pairs

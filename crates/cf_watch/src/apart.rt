@@ -85,9 +85,8 @@ impl Apart {
         Ok(())
     }
 
-    // The places of all keys that may not be told for a trigger, which has that place in the setup. None: it may be any of them.
+    // The places of all keys that may have an unreported mark of the trigger at that place of the setup. None: any key may.
     pub(crate) fn untold_places(&self, trigger: &Trigger, place: u8) -> Option<&[usize]>
-        requires { place < MOST_TRIGGERS }
         ensures { MatchOption result (Unit {0}) (λ places. AreUntoldAt trigger.now place places.now self.now.pairs × All (λ at. at < length self.now.pairs) places.now) }
     {
         self.pairs.untold_places(trigger, place)

@@ -1,4 +1,4 @@
-// What is noted of the keys of a bucket: which triggers told their marks, and to which keys records came since.
+// What is noted of the keys of a bucket: which triggers reported their marks, and to which keys records came since.
 ghost use Rattle.std.specs.Prelude.{◌≡◌, ◌<◌, ◌++◌, ◌∷◌, ◌⊎◌, false, true, List, [], length, map, slice_index_or, All, MatchOption};
 ghost use Rattle.std.specs.List.{list_any};
 ghost use Rattle.cf_watch.specs.Kept.{BucketValue};
@@ -11,13 +11,14 @@ use cf_fold::Trigger;
 use std::alloc::Global;
 use std::marker::Model;
 
-// For each place of the setup the trigger that told its marks there, since the last record and before it.
+// For each place of the setup the trigger that reported its marks: since the last record (`told`), and before the records whose keys are
+// noted (`before`).
 #[derive(Drop)]
 pub(crate) struct Notes {
-    // a record came since, and none of `told` counts
+    // a record came since, so `told` does not count
     is_changed: bool,
     told: [Option<Trigger>; MOST_TRIGGERS],
-    // the places of the keys to which records came are noted, and `before` told its marks of all others
+    // `places` has all keys to which records came since `before`
     is_noting: bool,
     before: [Option<Trigger>; MOST_TRIGGERS],
     places: Vec<usize>,
@@ -45,9 +46,8 @@ impl Notes {
         }
     }
 
-    // The places of all keys that may not be told for a trigger, which has that place in the setup. None: it may be any of them.
+    // The places of all keys that may have an unreported mark of the trigger at that place of the setup. None: any key may.
     pub(crate) fn untold_places(&self, trigger: &Trigger, place: u8) -> Option<&[usize]>
-        requires { place < MOST_TRIGGERS }
         ensures { (pairs : List BucketValue) → AreNotes self.now pairs → MatchOption result (Unit {0}) (λ places. AreUntoldAt trigger.now place places.now pairs × All (λ at. at < length pairs) places.now) }
     {
         if !self.is_changed && is_told(&self.told, trigger, place) {
@@ -59,7 +59,7 @@ impl Notes {
         None
     }
 
-    // The first record came since a trigger told its marks.
+    // The first record came since a trigger reported its marks.
     fn begin(&mut self)
         requires { self.old.changed ≡ false }
         ensures { self.new ≡ record self.old { changed = true; noting = true; before = self.old.told; places = [] } }
@@ -71,7 +71,7 @@ impl Notes {
         self.is_noting = true;
     }
 
-    // The place is noted. If there are as many as may be, or memory runs out, none is from then on.
+    // Notes a place. If there are as many as may be, or memory runs out, no place is noted from then on.
     fn add(&mut self, place: usize, most: usize)
         ensures { (self.new ≡ record self.old { noting = false }) ⊎ (self.new ≡ record self.old { places = self.old.places ++ place ∷ [] }) }
     {
@@ -85,7 +85,7 @@ impl Notes {
         }
     }
 
-    // A record came to the key at a place. At most so many places are noted: of more it is quicker to look at all keys.
+    // A record came to the key at a place. At most so many places are noted; if there are more, it is quicker to look at all keys.
     pub(crate) fn note(&mut self, place: usize, most: usize)
         ensures { (pairs later : List BucketValue) → AreNotes self.old pairs → ChangedAt place pairs later → AreNotes self.new later }
     {
@@ -97,7 +97,7 @@ impl Notes {
         }
     }
 
-    // The trigger that has that place in the setup told its marks.
+    // The trigger at that place of the setup reported its marks.
     pub(crate) fn tell(&mut self, trigger: &Trigger, place: u8)
         requires { place < MOST_TRIGGERS }
         ensures { (pairs : List BucketValue) → AreNotes self.old pairs
@@ -112,13 +112,12 @@ impl Notes {
     }
 }
 
-// Whether it is the trigger that told its marks for a place.
+// Whether the trigger is the one that reported its marks at a place of the setup.
 fn is_told(told: &[Option<Trigger>; MOST_TRIGGERS], trigger: &Trigger, place: u8) -> bool
-    requires { place < MOST_TRIGGERS }
     ensures { result ≡ true → slice_index_or told.now place None ≡ Some trigger.now }
 {
-    match &told[usize::from(place)] {
-        Some(told) => is_same(told, trigger),
-        None => false,
+    match told.get(usize::from(place)) {
+        Some(Some(told)) => is_same(told, trigger),
+        _ => false,
     }
 }

@@ -62,7 +62,6 @@ fn put_untold_marks(
     trigger: &Trigger,
     place: u8,
 ) -> Result<(), Memory>
-    requires { place < MOST_TRIGGERS }
     ensures { OnOk result (map pair_fired values.new.entries ≡ fold put_mark (map pair_fired values.old.entries) (map (pair_mark trigger.now bucket) (filter (is_untold trigger.now place) pairs.now))) }
 {
     for pair in pairs {
@@ -73,7 +72,7 @@ fn put_untold_marks(
     Ok(())
 }
 
-// The same if all those are at these places.
+// The same if all those keys are at these places.
 fn put_untold_at(
     values: &mut BTreeMap<u128, u64>,
     bucket: u64,
@@ -82,7 +81,6 @@ fn put_untold_at(
     trigger: &Trigger,
     place: u8,
 ) -> Result<(), Memory>
-    requires exists { place < MOST_TRIGGERS }
     requires apart { AreApart pairs.now }
     requires within { All (λ at. at < length pairs.now) places.now }
     requires untold { AreUntoldAt trigger.now place places.now pairs.now }
@@ -97,14 +95,13 @@ fn put_untold_at(
     Ok(())
 }
 
-// The same of a bucket. It looks only at the keys that may be among them.
+// The same of a bucket. It looks only at keys that may have such a mark.
 fn put_untold_of(
     values: &mut BTreeMap<u128, u64>,
     apart: &Apart,
     trigger: &Trigger,
     place: u8,
 ) -> Result<(), Memory>
-    requires { place < MOST_TRIGGERS }
     ensures { OnOk result (map pair_fired values.new.entries ≡ fold put_mark (map pair_fired values.old.entries) (marks_at trigger.now (is_untold trigger.now place) apart.now)) }
 {
     let number = apart.number();
@@ -152,7 +149,6 @@ pub(crate) fn untold_marks_in(
     trigger: &Trigger,
     place: u8,
 ) -> Result<Vec<Fired>, Memory>
-    requires { place < MOST_TRIGGERS }
     ensures { IfOk result (λ marks. marks.items ≡ marks_in_of trigger.now (is_untold trigger.now place) buckets.now) }
 {
     let mut values = BTreeMap::new(alloc);
@@ -209,7 +205,6 @@ pub(crate) fn tell_crowds(buckets: &mut [Apart])
 
 // Whether some key was not told in which the trigger fires, which has that place in the setup.
 fn has_untold(pairs: &[Bucket], trigger: &Trigger, place: u8) -> bool
-    requires { place < MOST_TRIGGERS }
     ensures { result ≡ list_any (is_untold trigger.now place) pairs.now }
 {
     pairs.iter().any(|pair| pair.is_untold(trigger, place))

@@ -14,8 +14,8 @@ use std::alloc::Global;
 use std::collections::BTreeMap;
 use std::marker::Model;
 
-// What is kept of each key, in the order in which they came, the key standing for the number of a bucket; their places by key; and for each
-// place of the setup the trigger that told its marks there since the last record.
+// What is kept of each key, in the order in which they came, the key standing for the number of a bucket; their places by key; and which
+// of them may have news.
 #[derive(Drop)]
 pub(crate) struct Pairs {
     items: Vec<Bucket>,
@@ -108,9 +108,8 @@ impl Pairs {
         }
     }
 
-    // The places of all keys that may not be told for a trigger, which has that place in the setup. None: it may be any of them.
+    // The places of all keys that may have an unreported mark of the trigger at that place of the setup. None: any key may.
     pub(crate) fn untold_places(&self, trigger: &Trigger, place: u8) -> Option<&[usize]>
-        requires { place < MOST_TRIGGERS }
         ensures { MatchOption result (Unit {0}) (λ places. AreUntoldAt trigger.now place places.now self.now × All (λ at. at < length self.now) places.now) }
     {
         self.notes.untold_places(trigger, place)
@@ -140,7 +139,7 @@ fn tell_all(pairs: &mut [Bucket], trigger: &Trigger, place: u8)
     }
 }
 
-// The same if all keys in which it fires, and that were not told, are at these places.
+// The same if all keys with an unreported mark of the trigger are at these places.
 fn tell_at(pairs: &mut [Bucket], places: &[usize], trigger: &Trigger, place: u8)
     requires exists { place < MOST_TRIGGERS }
     requires within { All (λ at. at < length pairs.old) places.now }
