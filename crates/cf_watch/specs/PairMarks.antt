@@ -1,5 +1,5 @@
 -- The marks of triggers on buckets whose keys are kept apart, which of them were told, and which buckets are crowded.
-use Rattle.std.specs.Prelude.{◌≡◌, ℕ, ◌-◌, ◌/◌, ◌%◌, ◌^◌, Bool, false, not, ◌&&◌, ◌||◌, nat_lt, ◌==◌, List, ◌++◌, length, take, drop, map, filter, min, slice_index_or, Option, Some, None}
+use Rattle.std.specs.Prelude.{ℕ, ◌-◌, ◌/◌, ◌%◌, ◌^◌, Bool, false, not, ◌&&◌, ◌||◌, nat_lt, ◌==◌, List, ◌++◌, length, take, drop, map, filter, min, slice_index_or, Option, Some, None}
 use Rattle.std.specs.List.{flat_map, list_any, range_with_len}
 use Rattle.cf_fold.specs.Triggers.{part_of}
 use Rattle.cf_fold.specs.declared.trigger.Trigger.{Trigger}
@@ -41,11 +41,6 @@ with_pairs_told trigger place apart = record apart { pairs = map (with_told trig
 abbrev pub apart_telling : Trigger → ℕ → List ApartValue → List ApartValue
 apart_telling trigger place kept =
     let n = settled_count trigger false (length kept) in map (with_pairs_told trigger place) (take n kept) ++ drop n kept
-
--- if no record came since, no key has a mark of a trigger, not yet told, that told its marks for its place of the setup
-abbrev pub AreQuiet : Bool → List (Option Trigger) → List BucketValue → Type 0
-AreQuiet changed quiet pairs =
-    changed ≡ false → (place : ℕ) (trigger : Trigger) → slice_index_or quiet place None ≡ Some trigger → list_any (is_untold trigger place) pairs ≡ false
 
 -- it is crowded, and that was not told
 abbrev pub is_crowd_untold : ApartValue → Bool

@@ -1,8 +1,7 @@
 // A bucket whose keys are kept apart.
-ghost use Rattle.std.specs.Prelude.{◌≡◌, ◌<◌, ◌≤◌, ◌^◌, ◌&&◌, length, false, true, All, IfOk, OnErr, OnOk};
-ghost use Rattle.std.specs.List.{list_any};
+ghost use Rattle.std.specs.Prelude.{◌≡◌, ◌<◌, ◌≤◌, ◌^◌, ◌&&◌, length, All, IfOk, MatchOption, OnErr, OnOk};
 ghost use Rattle.cf_watch.specs.Kept.{AreApart, is_kept};
-ghost use Rattle.cf_watch.specs.Marks.{is_untold};
+ghost use Rattle.cf_watch.specs.Notes.{AreUntoldAt};
 
 use crate::bucket::Bucket;
 use crate::pairs::Pairs;
@@ -86,12 +85,11 @@ impl Apart {
         Ok(())
     }
 
-    // Whether it is known that no key has a mark of the trigger that was not told, which has that place in the setup.
-    pub(crate) fn is_quiet(&self, trigger: &Trigger, place: u8) -> bool
-        requires { place < MOST_TRIGGERS }
-        ensures { result ≡ true → list_any (is_untold trigger.now place) self.now.pairs ≡ false }
+    // The places of all keys that may have an unreported mark of the trigger at that place of the setup. None: any key may.
+    pub(crate) fn untold_places(&self, trigger: &Trigger, place: u8) -> Option<&[usize]>
+        ensures { MatchOption result (Unit {0}) (λ places. AreUntoldAt trigger.now place places.now self.now.pairs × All (λ at. at < length self.now.pairs) places.now) }
     {
-        self.pairs.is_quiet(trigger, place)
+        self.pairs.untold_places(trigger, place)
     }
 
     // Each key in which the trigger fires is told, for its place in the setup.

@@ -43,7 +43,7 @@ fn meets(op: Op, part: u128, number: u64) -> bool
 impl Bucket {
     ghost use Rattle.cf_fold.specs.Triggers.{part_of};
     ghost use Rattle.cf_watch.specs.Kept.{begun, with_record};
-    ghost use Rattle.cf_watch.specs.Marks.{is_untold as is_untold_of, mark_in, meets as meets_of, with_told};
+    ghost use Rattle.cf_watch.specs.Marks.{is_told as is_told_of, is_untold as is_untold_of, mark_in, meets as meets_of, with_told};
 
     // A bucket of one record alone.
     pub(crate) fn new(number: u64, value: u32) -> Bucket
@@ -108,12 +108,21 @@ impl Bucket {
         }
     }
 
+    // Whether it was told for the trigger at a place.
+    fn is_told(&self, place: u8) -> bool
+        ensures { result ≡ is_told_of place self.now }
+    {
+        match self.told.get(usize::from(place)) {
+            Some(is_told) => *is_told,
+            None => false,
+        }
+    }
+
     // Whether the trigger at a place fires in it and it was not told for that.
     pub(crate) fn is_untold(&self, trigger: &Trigger, place: u8) -> bool
-        requires { place < MOST_TRIGGERS }
         ensures { result ≡ is_untold_of trigger.now place self.now }
     {
-        self.meets(trigger) && !self.told[usize::from(place)]
+        self.meets(trigger) && !self.is_told(place)
     }
 
     // It is told for the trigger at a place, if that fires in it.

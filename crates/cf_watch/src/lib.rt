@@ -12,6 +12,7 @@ mod kept;
 mod kept_apart;
 mod laws;
 mod marks;
+mod notes;
 mod pair_marks;
 mod pairs;
 mod watched;

@@ -93,7 +93,6 @@ pub(crate) fn untold_marks_of(
     trigger: &Trigger,
     place: u8,
 ) -> Result<Vec<Fired>, Memory>
-    requires { place < MOST_TRIGGERS }
     ensures { IfOk result (λ marks. marks.items ≡ marks_on trigger.now (filter (is_untold trigger.now place) buckets.now)) }
 {
     let mut values = BTreeMap::new(alloc);

@@ -1,10 +1,12 @@
 // The marks of triggers on buckets whose keys are kept apart.
-ghost use Rattle.std.specs.Prelude.{◌≡◌, ◌<◌, ◌≤◌, ◌^◌, ◌*◌, ◌+◌, ◌++◌, ℕ, List, length, take, drop, filter, map, fold, IfOk, OnOk};
+ghost use Rattle.std.specs.Prelude.{◌≡◌, ◌<◌, ◌≤◌, ◌^◌, ◌*◌, ◌+◌, ◌++◌, ℕ, List, length, take, drop, filter, map, fold, All, IfOk, OnOk};
 ghost use Rattle.std.specs.BTreeMap.{insert_entry};
 ghost use Rattle.std.specs.List.{list_any, range_with_len};
 ghost use Rattle.std.specs.Ordering.{nat_cmp};
 ghost use Rattle.cf_plain.specs.declared.answer.Fired.{Fired};
+ghost use Rattle.cf_watch.specs.Kept.{AreApart};
 ghost use Rattle.cf_watch.specs.Marks.{is_untold, meets, put_mark};
+ghost use Rattle.cf_watch.specs.Notes.{AreUntoldAt};
 ghost use Rattle.cf_watch.specs.PairMarks.{crowds_on, crowds_told, is_key_untold as is_key_untold_of, marks_at, marks_in as marks_in_of, pair_fired, pair_mark, with_pairs_told};
 
 use crate::MOST_TRIGGERS;
@@ -60,7 +62,6 @@ fn put_untold_marks(
     trigger: &Trigger,
     place: u8,
 ) -> Result<(), Memory>
-    requires { place < MOST_TRIGGERS }
     ensures { OnOk result (map pair_fired values.new.entries ≡ fold put_mark (map pair_fired values.old.entries) (map (pair_mark trigger.now bucket) (filter (is_untold trigger.now place) pairs.now))) }
 {
     for pair in pairs {
@@ -71,20 +72,44 @@ fn put_untold_marks(
     Ok(())
 }
 
-// The same of a bucket. It looks at the keys only if there may be one.
+// The same if all those keys are at these places.
+fn put_untold_at(
+    values: &mut BTreeMap<u128, u64>,
+    bucket: u64,
+    pairs: &[Bucket],
+    places: &[usize],
+    trigger: &Trigger,
+    place: u8,
+) -> Result<(), Memory>
+    requires apart { AreApart pairs.now }
+    requires within { All (λ at. at < length pairs.now) places.now }
+    requires untold { AreUntoldAt trigger.now place places.now pairs.now }
+    ensures { OnOk result (map pair_fired values.new.entries ≡ fold put_mark (map pair_fired values.old.entries) (map (pair_mark trigger.now bucket) (filter (is_untold trigger.now place) pairs.now))) }
+{
+    for at in places {
+        let pair = &pairs[*at];
+        if pair.is_untold(trigger, place) {
+            put(values, bucket, pair, trigger)?;
+        }
+    }
+    Ok(())
+}
+
+// The same of a bucket. It looks only at keys that may have such a mark.
 fn put_untold_of(
     values: &mut BTreeMap<u128, u64>,
     apart: &Apart,
     trigger: &Trigger,
     place: u8,
 ) -> Result<(), Memory>
-    requires { place < MOST_TRIGGERS }
     ensures { OnOk result (map pair_fired values.new.entries ≡ fold put_mark (map pair_fired values.old.entries) (marks_at trigger.now (is_untold trigger.now place) apart.now)) }
 {
-    if apart.is_quiet(trigger, place) {
-        return Ok(());
+    let number = apart.number();
+    let pairs = apart.pairs();
+    match apart.untold_places(trigger, place) {
+        Some(places) => put_untold_at(values, number, pairs, places, trigger, place),
+        None => put_untold_marks(values, number, pairs, trigger, place),
     }
-    put_untold_marks(values, apart.number(), apart.pairs(), trigger, place)
 }
 
 // The marks of such a map, ascending.
@@ -124,7 +149,6 @@ pub(crate) fn untold_marks_in(
     trigger: &Trigger,
     place: u8,
 ) -> Result<Vec<Fired>, Memory>
-    requires { place < MOST_TRIGGERS }
     ensures { IfOk result (λ marks. marks.items ≡ marks_in_of trigger.now (is_untold trigger.now place) buckets.now) }
 {
     let mut values = BTreeMap::new(alloc);
@@ -181,7 +205,6 @@ pub(crate) fn tell_crowds(buckets: &mut [Apart])
 
 // Whether some key was not told in which the trigger fires, which has that place in the setup.
 fn has_untold(pairs: &[Bucket], trigger: &Trigger, place: u8) -> bool
-    requires { place < MOST_TRIGGERS }
     ensures { result ≡ list_any (is_untold trigger.now place) pairs.now }
 {
     pairs.iter().any(|pair| pair.is_untold(trigger, place))

@@ -1,40 +1,40 @@
 // The keys of a bucket that are kept apart.
-ghost use Rattle.std.specs.Prelude.{◌≡◌, ◌<◌, ◌^◌, [], ◌∷◌, ◌++◌, length, map, false, true, slice_index_or, slice_set, IfOk, MatchOption, OnErr, OnOk};
+ghost use Rattle.std.specs.Prelude.{◌≡◌, ◌<◌, ◌^◌, [], ◌∷◌, ◌++◌, length, map, false, true, slice_index_or, slice_set, All, IfOk, MatchOption, OnErr, OnOk};
 ghost use Rattle.cf_watch.specs.Kept.{AreApart, begun, is_kept, with_record};
 ghost use Rattle.std.specs.List.{list_any};
 ghost use Rattle.cf_watch.specs.Marks.{is_untold, with_told};
+ghost use Rattle.cf_watch.specs.Notes.{AreUntoldAt};
 
 use crate::MOST_TRIGGERS;
 use crate::bucket::Bucket;
-use crate::marks::is_same;
+use crate::notes::Notes;
 use cf_fold::Trigger;
 use cf_row::Memory;
 use std::alloc::Global;
 use std::collections::BTreeMap;
 use std::marker::Model;
 
-// What is kept of each key, in the order in which they came, the key standing for the number of a bucket; their places by key; and for each
-// place of the setup the trigger that told its marks there since the last record.
+// What is kept of each key, in the order in which they came, the key standing for the number of a bucket; their places by key; and which
+// of them may have news.
 #[derive(Drop)]
 pub(crate) struct Pairs {
     items: Vec<Bucket>,
     places: BTreeMap<u64, usize>,
-    quiet: [Option<Trigger>; MOST_TRIGGERS],
-    // a record came since, and none of them counts
-    is_changed: bool,
+    notes: Notes,
 }
 
 impl Model for Pairs {
     ghost use Rattle.std.specs.Prelude.{List};
     ghost use Rattle.cf_watch.specs.Kept.{BucketValue};
     ghost use Rattle.cf_watch.specs.Pairs.{IsIndexed};
-    ghost use Rattle.cf_watch.specs.PairMarks.{AreQuiet};
 
     ghost Value = { List BucketValue };
 
     ghost view = { λ p. p.items.items };
 
-    ghost invariant = { λ p. IsIndexed p.places p.items.items × AreQuiet p.is_changed p.quiet p.items.items };
+    ghost use Rattle.cf_watch.specs.Notes.{AreNotes};
+
+    ghost invariant = { λ p. IsIndexed p.places p.items.items × AreNotes p.notes p.items.items };
 }
 
 impl Pairs {
@@ -45,8 +45,7 @@ impl Pairs {
         let mut pairs = Pairs {
             items: Vec::new(alloc),
             places: BTreeMap::new(alloc),
-            quiet: [None; MOST_TRIGGERS],
-            is_changed: true,
+            notes: Notes::new(alloc),
         };
         pairs.push(key, value)?;
         Ok(pairs)
@@ -86,7 +85,7 @@ impl Pairs {
     {
         let pair = &mut self.items[place];
         pair.add(value);
-        self.is_changed = true;
+        self.notes.note(place, self.items.len());
     }
 
     // A key that is not there begins with a record. Without memory nothing has changed.
@@ -95,11 +94,13 @@ impl Pairs {
         ensures ok { OnOk result (self.new ≡ self.old ++ begun key value ∷ []) }
         ensures err { OnErr result (self.new ≡ self.old) }
     {
-        self.is_changed = true;
         let place = self.items.len();
         self.items.push(Bucket::new(key, value))?;
         match self.places.insert(key, place) {
-            Ok(_) => Ok(()),
+            Ok(_) => {
+                self.notes.note(place, place);
+                Ok(())
+            }
             Err(failed) => {
                 self.items.truncate(place);
                 Err(Memory::from(failed))
@@ -107,18 +108,11 @@ impl Pairs {
         }
     }
 
-    // Whether it is known that no key has a mark of the trigger that was not told, which has that place in the setup.
-    pub(crate) fn is_quiet(&self, trigger: &Trigger, place: u8) -> bool
-        requires { place < MOST_TRIGGERS }
-        ensures { result ≡ true → list_any (is_untold trigger.now place) self.now ≡ false }
+    // The places of all keys that may have an unreported mark of the trigger at that place of the setup. None: any key may.
+    pub(crate) fn untold_places(&self, trigger: &Trigger, place: u8) -> Option<&[usize]>
+        ensures { MatchOption result (Unit {0}) (λ places. AreUntoldAt trigger.now place places.now self.now × All (λ at. at < length self.now) places.now) }
     {
-        if self.is_changed {
-            return false;
-        }
-        match &self.quiet[usize::from(place)] {
-            Some(told) => is_same(told, trigger),
-            None => false,
-        }
+        self.notes.untold_places(trigger, place)
     }
 
     // Each key in which the trigger fires is told, for its place in the setup.
@@ -126,15 +120,11 @@ impl Pairs {
         requires { place < MOST_TRIGGERS }
         ensures { self.new ≡ map (with_told trigger.now place) self.old }
     {
-        if self.is_quiet(trigger, place) {
-            return;
+        match self.notes.untold_places(trigger, place) {
+            Some(places) => tell_at(&mut self.items, places, trigger, place),
+            None => tell_all(&mut self.items, trigger, place),
         }
-        tell_all(&mut self.items, trigger, place);
-        if self.is_changed {
-            self.quiet = [None; MOST_TRIGGERS];
-            self.is_changed = false;
-        }
-        self.quiet[usize::from(place)] = Some(*trigger);
+        self.notes.tell(trigger, place);
     }
 }
 
@@ -146,5 +136,18 @@ fn tell_all(pairs: &mut [Bucket], trigger: &Trigger, place: u8)
 {
     for at in 0..pairs.len() {
         pairs[at].tell(trigger, place);
+    }
+}
+
+// The same if all keys with an unreported mark of the trigger are at these places.
+fn tell_at(pairs: &mut [Bucket], places: &[usize], trigger: &Trigger, place: u8)
+    requires exists { place < MOST_TRIGGERS }
+    requires within { All (λ at. at < length pairs.old) places.now }
+    requires untold { AreUntoldAt trigger.now place places.now pairs.old }
+    ensures told { pairs.new ≡ map (with_told trigger.now place) pairs.old }
+    ensures quiet { list_any (is_untold trigger.now place) pairs.new ≡ false }
+{
+    for at in places {
+        pairs[*at].tell(trigger, place);
     }
 }

@@ -1,7 +1,7 @@
 use Rattle.std.proofs.Common.{arith}
 use Rattle.cf_watch.specs.Kept.{begun}
 use Rattle.cf_watch.specs.Marks.{with_told}
-use Rattle.cf_watch.proofs.Quiet.{quiet_more}
+use Rattle.cf_watch.proofs.Noted.{quiet_more}
 use Rattle.cf_watch.proofs.Told.{told_more}
 use Rattle.cf_watch.proofs.pairs.tell_all.Goals as goal
 
