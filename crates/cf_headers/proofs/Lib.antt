@@ -1,6 +1,5 @@
 pub mod Fitting
 pub mod Within
+pub mod Flowing
 pub mod Fitting6
 pub mod Agreeing
-pub mod Flowing
-pub mod MoreFitting

@@ -1,6 +1,6 @@
-// The value of a field that stands at a place of a frame; and where it is read, else 0 or zero bytes.
+// The value of a field that stands at a place of a frame.
 ghost use Rattle.std.specs.Prelude.{◌≡◌, ◌+◌, ◌≤◌, length, IsTrue};
-ghost use Rattle.cf_headers.specs.Packet.{byte_at as byte_value_at, number_at, byte_if as byte_value_if, number_if, address_if as address_value_if};
+ghost use Rattle.cf_headers.specs.Packet.{byte_at as byte_value_at, number_at, address_if as address_value_if};
 
 use byteorder::{BigEndian, ByteOrder};
 use cf_row::Value;
@@ -39,45 +39,6 @@ pub(crate) fn u64_at(frame: &[u8], at: usize) -> Value
     ensures { result ≡ number_at 8 frame.now at }
 {
     Value::Num(BigEndian::read_u64(&frame[at..]))
-}
-
-// A number of 1 byte, where it is read.
-#[tactic(auto, unfolding(crate::specs::Packet::byte_if))]
-pub(crate) fn byte_if(read: bool, frame: &[u8], at: usize) -> Value
-    requires { IsTrue read → at + 1 ≤ length frame.now }
-    ensures { result ≡ byte_value_if read frame.now at }
-{
-    if read {
-        byte_at(frame, at)
-    } else {
-        Value::Num(0)
-    }
-}
-
-// A number of 2 bytes, where it is read.
-#[tactic(auto, unfolding(crate::specs::Packet::number_if))]
-pub(crate) fn u16_if(read: bool, frame: &[u8], at: usize) -> Value
-    requires { IsTrue read → at + 2 ≤ length frame.now }
-    ensures { result ≡ number_if read 2 frame.now at }
-{
-    if read {
-        u16_at(frame, at)
-    } else {
-        Value::Num(0)
-    }
-}
-
-// A number of 4 bytes, where it is read.
-#[tactic(auto, unfolding(crate::specs::Packet::number_if))]
-pub(crate) fn u32_if(read: bool, frame: &[u8], at: usize) -> Value
-    requires { IsTrue read → at + 4 ≤ length frame.now }
-    ensures { result ≡ number_if read 4 frame.now at }
-{
-    if read {
-        u32_at(frame, at)
-    } else {
-        Value::Num(0)
-    }
 }
 
 // An address of 6 bytes, where it is read.

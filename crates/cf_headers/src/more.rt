@@ -1,6 +1,6 @@
 // What is asked of a packet beyond the fields of its headers.
 ghost use Rattle.std.specs.Prelude.{◌≡◌, ◌+◌, ◌-◌, ◌≤◌, length, ◌++◌, IfSome, IsTrue};
-ghost use Rattle.cf_headers.specs.Packet.{IsWithin};
+ghost use Rattle.cf_headers.specs.Carried.{IsWithin};
 ghost use Rattle.cf_headers.specs.More.{payload_in as payload_by, message_values as message_values_of, flag_in as flag_by};
 ghost use Rattle.cf_headers.specs.More.{address_of as address_by, port_of as port_by, flow_in as flow_by, source_at, target_at, more_values as more_values_of};
 
