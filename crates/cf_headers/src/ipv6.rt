@@ -1,5 +1,6 @@
 // The IPv6 header, which would stand at a place of a frame.
-ghost use Rattle.std.specs.Prelude.{◌≡◌, ◌+◌, ◌≤◌, ◌<◌, ◌^◌, length, IfSome, IsTrue};
+ghost use Rattle.std.specs.Prelude.{◌≡◌, ◌+◌, ◌≤◌, ◌<◌, ◌^◌, length, map, IfSome, IsTrue};
+ghost use Rattle.cf_row.specs.declared.row.Value.TheVariants.{Num};
 ghost use Rattle.cf_headers.specs.Ipv6.{has_ipv6 as has_ipv6_of, traffic_class as traffic_class_of, payload_length as payload_length_of};
 ghost use Rattle.cf_headers.specs.Ipv6.{packet6_end as packet6_end_of, brings as brings_of, transport6_in};
 ghost use Rattle.cf_headers.specs.Carried.{carried6 as carried6_of, IsWithin};
@@ -10,7 +11,6 @@ use crate::extension::{Upper, upper_after};
 use crate::fields::byte_at;
 use crate::transport::Transport;
 use byteorder::{BigEndian, ByteOrder};
-use cf_row::Value;
 
 // Its length.
 const LENGTH: usize = 40;
@@ -114,18 +114,18 @@ pub(crate) fn carried6(at: usize, wire: u32, frame: &[u8]) -> Carried
 }
 
 // tos, iplen, ttl and proto; src and dst are of IPv4 alone.
-pub(crate) fn network6_values(protocol: u8, at: usize, frame: &[u8]) -> [Value; 6]
+pub(crate) fn network6_words(protocol: u8, at: usize, frame: &[u8]) -> [u64; 6]
     requires near { at ≤ 28 }
     requires room { at + 40 ≤ length frame.now }
-    ensures { result ≡ network6_values_of protocol at frame.now }
+    ensures { map Num result ≡ network6_values_of protocol at frame.now }
 {
     let length = (payload_length(at, frame) + LENGTH).min(65_535);
     [
-        Value::Num(traffic_class(at, frame) as u64),
-        Value::Num(length as u64),
+        u64::from(traffic_class(at, frame)),
+        length as u64,
         byte_at(frame, at + 7),
-        Value::Num(protocol as u64),
-        Value::Num(0),
-        Value::Num(0),
+        u64::from(protocol),
+        0,
+        0,
     ]
 }

@@ -1,5 +1,6 @@
 // The IPv4 header, which would stand at a place of a frame.
-ghost use Rattle.std.specs.Prelude.{◌≡◌, ◌+◌, ◌≤◌, length, IfSome, IsTrue};
+ghost use Rattle.std.specs.Prelude.{◌≡◌, ◌+◌, ◌≤◌, length, map, IfSome, IsTrue};
+ghost use Rattle.cf_row.specs.declared.row.Value.TheVariants.{Num};
 ghost use Rattle.cf_headers.specs.Ipv4.{has_ipv4 as has_ipv4_of, transport_at as transport_at_of, total_length as total_length_of, packet_end as packet_end_of};
 ghost use Rattle.cf_headers.specs.Ipv4.{carries as carries_of, transport4_in};
 ghost use Rattle.cf_headers.specs.Carried.{carried4 as carried4_of, IsWithin};
@@ -9,7 +10,6 @@ use crate::carried::Carried;
 use crate::fields::{byte_at, u16_at, u32_at};
 use crate::transport::Transport;
 use byteorder::{BigEndian, ByteOrder};
-use cf_row::Value;
 
 // Its type.
 const IPV4: u16 = 0x0800;
@@ -129,10 +129,10 @@ pub(crate) fn carried4(at: usize, wire: u32, frame: &[u8]) -> Carried
 
 // tos, iplen, ttl, proto, src and dst.
 #[inline(always)]
-pub(crate) fn network4_values(at: usize, frame: &[u8]) -> [Value; 6]
+pub(crate) fn network4_words(at: usize, frame: &[u8]) -> [u64; 6]
     requires near { at ≤ 28 }
     requires room { at + 20 ≤ length frame.now }
-    ensures { result ≡ network4_values_of at frame.now }
+    ensures { map Num result ≡ network4_values_of at frame.now }
 {
     [
         byte_at(frame, at + 1),
