@@ -8,7 +8,9 @@ use Rattle.cf_row.specs.declared.schema.Kind.TheVariants.{U8, U16, U32, U64, Byt
 use Rattle.cf_row.specs.declared.row.Value.{Value}
 use Rattle.cf_row.specs.declared.row.Value.TheVariants.{Num, Raw}
 use Rattle.cf_row.specs.Row.{RowValue, Fits, values_fit, is_of_kind, is_byte_string}
+use Rattle.cf_row.specs.declared.schema.TheConstants.{MOST_ATTRS}
 use Rattle.cf_row.specs.Schema.{has_good_size, packet_attrs}
+use Rattle.cf_row.specs.Schema6.{packet6_attrs}
 use Rattle.cf_row.specs.Words.{word_count, values_words}
 use Rattle.cf_row.specs.Kept.{can_be_kept, lie_within}
 use Rattle.cf_row.proofs.Spelling.{values_long}
@@ -49,15 +51,26 @@ as_long [] (v ∷ vs) fits = absurd (cc fits)
 as_long (a ∷ attrs) [] fits = absurd (cc fits)
 as_long (a ∷ attrs) (v ∷ vs) fits = ap suc (as_long attrs vs (and_parts (is_of_kind a.kind v) (values_fit attrs vs) fits).1)
 
+-- a row of so many attributes, each of which one word spells, takes no block of memory
+lies_within : (attrs : List Attr) (n : ℕ) (row : RowValue) → list_all (λ attr. has_good_size attr.kind) attrs ≡ true → length attrs ≡ n
+    → word_count attrs ≡ n → n ≤ MOST_ATTRS → Fits attrs row → lie_within row.values ≡ true
+lies_within attrs n row good many words few fits =
+    let long : length row.values ≡ n = as_long attrs row.values fits ∙ many in
+    let spelled : length (values_words row.values) ≡ n = values_long attrs row.values fits ∙ words in
+    and_from _ _
+    (and_from _ _ (le-leb (length row.values) MOST_ATTRS (omega (arith, long, few))) (all_kept attrs row.values good fits))
+    (le-leb (length (values_words row.values)) MOST_ATTRS (omega (arith, spelled, few)))
+
 packet_words : word_count packet_attrs ≡ 20
 unfolding word_count
 packet_words = refl
 
--- a row of a packet takes no block of memory
-pub lies_within : (row : RowValue) → Fits packet_attrs row → lie_within row.values ≡ true
-lies_within row fits =
-    let long : length row.values ≡ 20 = as_long packet_attrs row.values fits in
-    let words : length (values_words row.values) ≡ 20 = values_long packet_attrs row.values fits ∙ packet_words in
-    and_from _ _
-    (and_from _ _ (le-leb (length row.values) 32 (omega (arith, long))) (all_kept packet_attrs row.values refl fits))
-    (le-leb (length (values_words row.values)) 32 (omega (arith, words)))
+packet6_words : word_count packet6_attrs ≡ 32
+unfolding word_count
+packet6_words = refl
+
+pub packet_within : (row : RowValue) → Fits packet_attrs row → lie_within row.values ≡ true
+packet_within row fits = lies_within packet_attrs 20 row refl refl packet_words (omega arith) fits
+
+pub packet6_within : (row : RowValue) → Fits packet6_attrs row → lie_within row.values ≡ true
+packet6_within row fits = lies_within packet6_attrs 32 row refl refl packet6_words (omega arith) fits

@@ -1,5 +1,5 @@
 // The row of a captured packet with its IPv6 addresses and what more is asked of it.
-ghost use Rattle.std.specs.Prelude.{◌≡◌, ◌+◌, ◌≤◌, length, IfOk, IsTrue};
+ghost use Rattle.std.specs.Prelude.{◌≡◌, ◌+◌, ◌≤◌, length, IfOk, IsOk, IsTrue};
 ghost use Rattle.cf_row.specs.Row.{Fits};
 ghost use Rattle.cf_row.specs.Schema6.{packet6_attrs};
 ghost use Rattle.cf_pcap.specs.Capture.{FrameValue};
@@ -52,16 +52,18 @@ fn packet6_values(info: FrameInfo, bytes: &[u8]) -> [Value; 32]
 pub fn packet6_row_of_bytes(alloc: Global, info: FrameInfo, bytes: &[u8]) -> Result<Row, Memory>
     ensures row { IfOk result (λ row. row ≡ packet6_row_of (frame_of info bytes.now)) }
     ensures fits { IfOk result (Fits packet6_attrs) }
+    ensures free { IsOk result }
 {
     Row::packed(alloc, info.num, &packet6_values(info, bytes))
 }
 
 /// The row of a captured packet, of the schema `packet6`, with the packet's number. What isn't read is 0, or zero bytes. Of a [`cf_pcap::Link`] the header is read, and two tags of 802.1Q or 802.1ad where they are whole; of another link
 /// nothing. Behind an IPv6 header at most eight extension headers are passed over. A length of 0 in an IP header is taken for
-/// the captured length, and for `payload` for the original one.
+/// the captured length, and for `payload` for the original one. The row takes no block of memory, so it is never refused for want of one.
 pub fn packet6_row(alloc: Global, frame: &Frame) -> Result<Row, Memory>
     ensures row { IfOk result (λ row. row ≡ packet6_row_of frame.now) }
     ensures fits { IfOk result (Fits packet6_attrs) }
+    ensures free { IsOk result }
 {
     packet6_row_of_bytes(alloc, FrameInfo::of(frame), &frame.bytes)
 }

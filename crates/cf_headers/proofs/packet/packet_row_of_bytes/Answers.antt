@@ -7,7 +7,7 @@ use Rattle.cf_pcap.specs.Capture.{FrameValue}
 use Rattle.cf_headers.specs.Frames.{frame_of}
 use Rattle.cf_headers.specs.Packet.{packet_row_of}
 use Rattle.cf_headers.proofs.Fitting.{IsHeld, packet_fits}
-use Rattle.cf_headers.proofs.Within.{lies_within}
+use Rattle.cf_headers.proofs.Within.{packet_within}
 use Rattle.cf_headers.proofs.packet.packet_row_of_bytes.Goals as goal
 
 pub returns-clause-fits : goal.returns-clause-fits
@@ -25,4 +25,4 @@ returns-clause-free c =
     let held : IsHeld packet = record { ts = search rules; caplen = search rules; len = search rules; bytes = λ i. omega (arith, c.type_inv.bytes i) } in
     let row : RowValue = record { num = packet.num; values = c.packet_values.result } in
     let same : row ≡ packet_row_of packet = ap (λ (values : List Value). record { num = packet.num; values = values }) c.packet_values.ensures in
-    c.packed.ensures.free (lies_within row (subst (λ (r : RowValue). Fits packet_attrs r) (sym same) (packet_fits packet held)))
+    c.packed.ensures.free (packet_within row (subst (λ (r : RowValue). Fits packet_attrs r) (sym same) (packet_fits packet held)))
