@@ -71,9 +71,10 @@ pub fn packet6_row_of_bytes(info: FrameInfo, bytes: &[u8]) -> Row
     Row::of_words(info.num, 32, LENS, packet6_words(info, bytes))
 }
 
-/// The row of a captured packet, of the schema `packet6`, with the packet's number. What isn't read is 0, or zero bytes. Of a [`cf_pcap::Link`] the header is read, and two tags of 802.1Q or 802.1ad where they are whole; of another link
-/// nothing. Behind an IPv6 header at most eight extension headers are passed over. A length of 0 in an IP header is taken for
-/// the captured length, and for `payload` for the original one.
+/// The row of a captured packet, of the schema `packet6`, with the packet's number. What isn't read is 0, or zero bytes. Of a
+/// [`cf_pcap::Link`] the header is read, and two tags of 802.1Q or 802.1ad where they are whole; of another link nothing. Behind an IPv6
+/// header at most eight extension headers are passed over. A length of 0 in an IP header is taken for the captured length, and for
+/// `payload` for the original one. The row takes no block of memory, so it is never refused for want of one.
 pub fn packet6_row(_alloc: Global, frame: &Frame) -> Result<Row, Memory>
     ensures row { IfOk result (λ row. row ≡ packet6_row_of frame.now) }
     ensures fits { IfOk result (Fits packet6_attrs) }
