@@ -1,8 +1,8 @@
 -- Captured frames.
 use Rattle.std.specs.Prelude.{ℕ, List}
 use Rattle.cf_pcap.specs.Capture.{FrameValue}
-use Rattle.cf_headers.specs.declared.packet.FrameFields.{FrameFields}
+use Rattle.cf_headers.specs.declared.frame.FrameInfo.{FrameInfo}
 
 -- the frame of these bytes
-abbrev pub frame_of : FrameFields → List ℕ → FrameValue
-frame_of head frame = record { num = head.num; ts = head.ts; caplen = head.caplen; len = head.len; link = head.link; bytes = frame }
+abbrev pub frame_of : FrameInfo → List ℕ → FrameValue
+frame_of info bytes = record { num = info.num; ts = info.ts; caplen = info.caplen; len = info.len; link = info.link; bytes = bytes }

@@ -1,10 +1,12 @@
 -- What comes after the link header and the tags of a frame, by the registry of link-layer header types (tcpdump.org/linktypes.html),
--- IEEE 802.1Q and IEEE 802.1ad.
+-- IEEE 802.3, IEEE 802.1Q and IEEE 802.1ad.
 use Rattle.std.specs.Prelude.{ℕ, ◌+◌, ◌/◌, ◌%◌, ◌^◌, Bool, ◌&&◌, ◌||◌, ◌==◌, nat_le, List, length, drop, slice_index, if◌then◌else◌, Option, Some, None}
 use Rattle.byteorder.specs.Endian.{big_number, little_number}
+use Rattle.cf_row.specs.declared.packet6.PacketSchema.{PacketSchema}
+use Rattle.cf_row.specs.declared.packet6.PacketSchema.TheVariants.{Packet, Packet6}
 use Rattle.cf_pcap.specs.declared.links.Link.{Link}
 use Rattle.cf_pcap.specs.declared.links.Link.TheVariants.{Ethernet, LinuxCooked, LinuxCookedV2, RawIp, Ipv4, Ipv6, Null, Loop}
-use Rattle.cf_pcap.specs.Links.{link_of}
+use Rattle.cf_pcap.specs.Links.{number_of, link_of}
 use Rattle.cf_headers.specs.declared.layer.Layer.{Layer}
 
 -- the type of 2 bytes at a place, or 0 where the frame ends before
@@ -31,36 +33,61 @@ type_of_family little big = if (little == 2) || (big == 2) then 0x0800 else if i
 unfoldable pub family_type : List ℕ → ℕ
 family_type frame = if nat_le 4 (length frame) then type_of_family (little_number 4 frame) (big_number 4 frame) else 0
 
--- the type of what comes after the header of a link, and where that begins
+-- The link whose header is read, by the link's number. `packet` reads a header of Linux SLL or of Ethernet: of a link that is neither 1
+-- nor 113 the type is read where it stands in an Ethernet header. `packet6` reads the header of every link that has a name.
+abbrev pub link_by : PacketSchema → ℕ → Option Link
+link_by Packet n = if n == number_of LinuxCooked then Some LinuxCooked else Some Ethernet
+link_by Packet6 n = link_of n
+
+-- before any tag: the type of what comes next, and where that begins
+abbrev pub untagged : ℕ → ℕ → Layer
+untagged etype place = record { etype = etype; place = place; vlan = 0 }
+
+-- what comes after the header of a link
 abbrev pub layer_of : Option Link → List ℕ → Layer
-layer_of None frame = record { etype = 0; place = 0 }
-layer_of (Some Ethernet) frame = record { etype = type_or_0 frame 12; place = 14 }
-layer_of (Some LinuxCooked) frame = record { etype = type_or_0 frame 14; place = 16 }
-layer_of (Some LinuxCookedV2) frame = record { etype = type_or_0 frame 0; place = 20 }
-layer_of (Some RawIp) frame = record { etype = version_type frame; place = 0 }
-layer_of (Some Ipv4) frame = record { etype = version_type frame; place = 0 }
-layer_of (Some Ipv6) frame = record { etype = version_type frame; place = 0 }
-layer_of (Some Null) frame = record { etype = family_type frame; place = 4 }
-layer_of (Some Loop) frame = record { etype = family_type frame; place = 4 }
+layer_of None frame = untagged 0 0
+layer_of (Some Ethernet) frame = untagged (type_or_0 frame 12) 14
+layer_of (Some LinuxCooked) frame = untagged (type_or_0 frame 14) 16
+layer_of (Some LinuxCookedV2) frame = untagged (type_or_0 frame 0) 20
+layer_of (Some RawIp) frame = untagged (version_type frame) 0
+layer_of (Some Ipv4) frame = untagged (version_type frame) 0
+layer_of (Some Ipv6) frame = untagged (version_type frame) 0
+layer_of (Some Null) frame = untagged (family_type frame) 4
+layer_of (Some Loop) frame = untagged (family_type frame) 4
 
 -- the same by the link's number
-unfoldable pub link_layer : ℕ → List ℕ → Layer
-link_layer link frame = layer_of (link_of link) frame
+unfoldable pub link_layer : PacketSchema → ℕ → List ℕ → Layer
+link_layer schema link frame = layer_of (link_by schema link) frame
 
--- a whole tag comes next: 2 bytes whose low 12 bits are the number of a VLAN, and the type of what follows. Its own type is that
--- of a customer's (8100) or a service's (88a8) tag.
-unfoldable pub has_tag : Layer → List ℕ → Bool
-has_tag layer frame = ((layer.etype == 0x8100) || (layer.etype == 0x88a8)) && nat_le (layer.place + 4) (length frame)
+-- the types of tags: `packet` reads that of a customer (8100), and `packet6` that of a service (88a8) too
+abbrev pub is_tag : PacketSchema → ℕ → Bool
+is_tag Packet etype = etype == 0x8100
+is_tag Packet6 etype = (etype == 0x8100) || (etype == 0x88a8)
 
--- what comes after it
-unfoldable pub past_tag : Layer → List ℕ → Layer
-past_tag layer frame =
-    if has_tag layer frame then record { etype = big_number 2 (drop (layer.place + 2) frame); place = layer.place + 4 } else layer
+-- a whole tag comes next: 2 bytes whose low 12 bits are the number of a VLAN, and the type of what follows
+unfoldable pub has_tag : PacketSchema → Layer → List ℕ → Bool
+has_tag schema layer frame = is_tag schema layer.etype && nat_le (layer.place + 4) (length frame)
 
--- the number of its VLAN
-unfoldable pub vlan_in : Layer → List ℕ → ℕ
-vlan_in layer frame = if has_tag layer frame then big_number 2 (drop layer.place frame) % 2 ^ 12 else 0
+-- what comes after the tag
+abbrev pub behind_tag : Layer → List ℕ → Layer
+behind_tag layer frame = record {
+  etype = big_number 2 (drop (layer.place + 2) frame);
+  place = layer.place + 4;
+  vlan = big_number 2 (drop layer.place frame) % 2 ^ 12;
+}
 
--- what comes after two tags at most
-abbrev pub network_layer : ℕ → List ℕ → Layer
-network_layer link frame = past_tag (past_tag (link_layer link frame) frame) frame
+-- what comes after a tag, if one comes next
+unfoldable pub past_tag : PacketSchema → Layer → List ℕ → Layer
+past_tag schema layer frame = if has_tag schema layer frame then behind_tag layer frame else layer
+
+-- what comes after the tags: `packet` reads one, and `packet6` two, of which the first has the VLAN
+abbrev pub past_tags : PacketSchema → Layer → List ℕ → Layer
+past_tags Packet layer frame = past_tag Packet layer frame
+past_tags Packet6 layer frame =
+    let first = past_tag Packet6 layer frame in
+    let second = past_tag Packet6 first frame in
+    record { etype = second.etype; place = second.place; vlan = first.vlan }
+
+-- what comes after the link header and the tags of a frame
+abbrev pub network_layer : PacketSchema → ℕ → List ℕ → Layer
+network_layer schema link frame = past_tags schema (link_layer schema link frame) frame

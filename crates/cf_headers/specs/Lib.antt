@@ -1,6 +1,8 @@
-pub mod Packet
 pub mod Layers
+pub mod Ipv4
 pub mod Ipv6
+pub mod Carried
+pub mod Packet
 pub mod Flow
 pub mod More
 pub mod Packet6

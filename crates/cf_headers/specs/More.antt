@@ -1,47 +1,14 @@
 -- What is asked of a packet beyond the fields of its headers: how much TCP or UDP carries, ICMP (RFC 792, RFC 4443), single flags of
 -- TCP, and the number of its conversation.
-use Rattle.std.specs.Prelude.{ℕ, ◌+◌, ◌-◌, ◌*◌, ◌/◌, ◌%◌, ◌^◌, Bool, true, false, ◌==◌, List, [], ◌∷◌, ◌++◌, drop, replicate, slice_index, slice_range, if◌then◌else◌, Option, Some, None}
+use Rattle.std.specs.Prelude.{ℕ, ◌+◌, ◌-◌, ◌*◌, ◌/◌, ◌%◌, ◌^◌, Bool, true, false, List, [], ◌∷◌, ◌++◌, drop, replicate, slice_index, slice_range, if◌then◌else◌, Option, Some, None}
 use Rattle.byteorder.specs.Endian.{big_number}
 use Rattle.cf_row.specs.declared.row.Value.{Value}
 use Rattle.cf_row.specs.declared.row.Value.TheVariants.{Num}
 use Rattle.cf_headers.specs.declared.carried.Carried.{Carried}
 use Rattle.cf_headers.specs.declared.transport.Transport.{Transport}
 use Rattle.cf_headers.specs.declared.transport.Transport.TheVariants.{Unread, Tcp, Udp}
-use Rattle.cf_headers.specs.Packet.{has_ipv4, transport_at, carries, transport_in, byte_at}
-use Rattle.cf_headers.specs.Ipv6.{payload_length, packet6_end, upper_of, brings, transport6_in}
+use Rattle.cf_headers.specs.Packet.{byte_at}
 use Rattle.cf_headers.specs.Flow.{flow_of}
-
--- Of the network header, which stands at a place of a frame. `wire` is how many bytes the frame had before it was captured.
-
--- the total length of IPv4 (RFC 791, section 3.1)
-abbrev pub total_length : ℕ → List ℕ → ℕ
-total_length place frame = big_number 2 (drop (place + 2) frame)
-
--- what an IPv4 header says of what it carries: the protocol, the transport header that is read, the place of an ICMP message (protocol
--- 1) of which the type and the code are there, and where the packet ends by its own length, captured or not
-unfoldable pub carried4 : ℕ → ℕ → List ℕ → Carried
-carried4 place wire frame = record {
-  protocol = slice_index frame (place + 9);
-  transport = transport_in true place frame;
-  message = if carries 1 2 place frame then Some (transport_at place frame) else None;
-  stop = if total_length place frame == 0 then wire else place + total_length place frame;
-}
-
--- what an IPv6 header and the headers behind it say; ICMP is 58 there
-unfoldable pub carried6 : ℕ → ℕ → List ℕ → Carried
-carried6 place wire frame = record {
-  protocol = (upper_of place frame).protocol;
-  transport = transport6_in (upper_of place frame) (packet6_end place frame);
-  message = if brings 58 2 (upper_of place frame) (packet6_end place frame) then Some (upper_of place frame).place else None;
-  stop = if payload_length place frame == 0 then wire else place + 40 + payload_length place frame;
-}
-
--- that of the IPv6 header, or of the IPv4 header if there is one
-abbrev pub carried_in : Bool → ℕ → ℕ → ℕ → List ℕ → Option Carried
-carried_in true etype place wire frame = Some (carried6 place wire frame)
-carried_in false etype place wire frame = if has_ipv4 etype place frame then Some (carried4 place wire frame) else None
-
--- Of what it carries.
 
 -- how many bytes there are behind the transport header: of TCP up to the packet's end, the header's length in words of 4 bytes being
 -- the high half of its byte 12 (RFC 9293, section 3.1); of UDP by its own length, in which its 8 bytes are counted (RFC 768)

@@ -1,8 +1,6 @@
 // What a network header says of what it carries.
 ghost use Rattle.std.specs.Prelude.{◌≡◌, ◌+◌, ◌≤◌, length, IfSome, IsTrue};
-ghost use Rattle.cf_headers.specs.Packet.{IsWithin};
-ghost use Rattle.cf_headers.specs.Packet6.{transport_behind as transport_behind_of};
-ghost use Rattle.cf_headers.specs.More.{carried_in as carried_by};
+ghost use Rattle.cf_headers.specs.Carried.{carried_in as carried_by, transport_behind as transport_behind_of, kind_of as kind_in, IsWithin};
 
 use crate::ipv6::carried6;
 use crate::network::{carried4, has_ipv4};
@@ -22,6 +20,7 @@ pub(crate) struct Carried {
 }
 
 // What the IPv6 header at a place carries, or the IPv4 header if there is one. `wire` is the frame's length before it was captured.
+#[inline(always)]
 pub(crate) fn carried_in(
     ipv6: bool,
     etype: u16,
@@ -42,5 +41,29 @@ pub(crate) fn carried_in(
         Some(carried4(at, wire, frame))
     } else {
         None
+    }
+}
+
+// The transport header that is read.
+pub(crate) fn transport_behind(carried: Option<Carried>) -> Transport
+    ensures { result ≡ transport_behind_of carried }
+{
+    match carried {
+        Some(carried) => carried.transport,
+        None => Transport::Unread,
+    }
+}
+
+// The kind of a packet: 2 for TCP, 3 for UDP, 1 for another one whose network header is read, 0 for the rest.
+pub(crate) fn kind_of(carried: Option<Carried>) -> u8
+    ensures { result ≡ kind_in carried }
+{
+    let Some(carried) = carried else {
+        return 0;
+    };
+    match carried.transport {
+        Transport::Unread => 1,
+        Transport::Tcp(_) => 2,
+        Transport::Udp(_) => 3,
     }
 }

@@ -1,17 +1,16 @@
 // The IPv6 header, which would stand at a place of a frame.
-ghost use Rattle.std.specs.Prelude.{◌≡◌, ◌+◌, ◌≤◌, ◌<◌, ◌^◌, length, IfSome, IsTrue};
-ghost use Rattle.cf_headers.specs.Packet.{IsWithin};
+ghost use Rattle.std.specs.Prelude.{◌≡◌, ◌+◌, ◌≤◌, ◌<◌, ◌^◌, length, map, IfSome, IsTrue};
+ghost use Rattle.cf_row.specs.declared.row.Value.TheVariants.{Num};
 ghost use Rattle.cf_headers.specs.Ipv6.{has_ipv6 as has_ipv6_of, traffic_class as traffic_class_of, payload_length as payload_length_of};
 ghost use Rattle.cf_headers.specs.Ipv6.{packet6_end as packet6_end_of, brings as brings_of, transport6_in};
-ghost use Rattle.cf_headers.specs.More.{carried6 as carried6_of};
-ghost use Rattle.cf_headers.specs.Packet6.{network6_values as network6_values_of, address6_values as address6_values_of};
+ghost use Rattle.cf_headers.specs.Carried.{carried6 as carried6_of, IsWithin};
+ghost use Rattle.cf_headers.specs.Packet.{network6_values as network6_values_of};
 
 use crate::carried::Carried;
 use crate::extension::{Upper, upper_after};
-use crate::fields::{byte_at, u64_at};
+use crate::fields::byte_at;
 use crate::transport::Transport;
 use byteorder::{BigEndian, ByteOrder};
-use cf_row::Value;
 
 // Its length.
 const LENGTH: usize = 40;
@@ -87,7 +86,7 @@ fn transport6_of(upper: Upper, end: usize, frame: &[u8]) -> Transport
 }
 
 // What it says, with the headers behind it, of what it carries. `wire` is the frame's length before it was captured.
-#[tactic(auto, unfolding(crate::specs::More::carried6, crate::specs::Ipv6::upper_of))]
+#[tactic(auto, unfolding(crate::specs::Carried::carried6, crate::specs::Ipv6::upper_of))]
 pub(crate) fn carried6(at: usize, wire: u32, frame: &[u8]) -> Carried
     requires near { at ≤ 28 }
     requires room { at + 40 ≤ length frame.now }
@@ -115,32 +114,18 @@ pub(crate) fn carried6(at: usize, wire: u32, frame: &[u8]) -> Carried
 }
 
 // tos, iplen, ttl and proto; src and dst are of IPv4 alone.
-pub(crate) fn network6_values(protocol: u8, at: usize, frame: &[u8]) -> [Value; 6]
+pub(crate) fn network6_words(protocol: u8, at: usize, frame: &[u8]) -> [u64; 6]
     requires near { at ≤ 28 }
     requires room { at + 40 ≤ length frame.now }
-    ensures { result ≡ network6_values_of protocol at frame.now }
+    ensures { map Num result ≡ network6_values_of protocol at frame.now }
 {
     let length = (payload_length(at, frame) + LENGTH).min(65_535);
     [
-        Value::Num(traffic_class(at, frame) as u64),
-        Value::Num(length as u64),
+        u64::from(traffic_class(at, frame)),
+        length as u64,
         byte_at(frame, at + 7),
-        Value::Num(protocol as u64),
-        Value::Num(0),
-        Value::Num(0),
-    ]
-}
-
-// src6, src6_low, dst6 and dst6_low.
-pub(crate) fn address6_values(at: usize, frame: &[u8]) -> [Value; 4]
-    requires near { at ≤ 28 }
-    requires room { at + 40 ≤ length frame.now }
-    ensures { result ≡ address6_values_of at frame.now }
-{
-    [
-        u64_at(frame, at + 8),
-        u64_at(frame, at + 16),
-        u64_at(frame, at + 24),
-        u64_at(frame, at + 32),
+        u64::from(protocol),
+        0,
+        0,
     ]
 }

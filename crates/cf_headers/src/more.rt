@@ -1,6 +1,7 @@
 // What is asked of a packet beyond the fields of its headers.
-ghost use Rattle.std.specs.Prelude.{◌≡◌, ◌+◌, ◌-◌, ◌≤◌, length, ◌++◌, IfSome, IsTrue};
-ghost use Rattle.cf_headers.specs.Packet.{IsWithin};
+ghost use Rattle.std.specs.Prelude.{◌≡◌, ◌+◌, ◌-◌, ◌≤◌, length, map, ◌++◌, IfSome, IsTrue};
+ghost use Rattle.cf_row.specs.declared.row.Value.TheVariants.{Num};
+ghost use Rattle.cf_headers.specs.Carried.{IsWithin};
 ghost use Rattle.cf_headers.specs.More.{payload_in as payload_by, message_values as message_values_of, flag_in as flag_by};
 ghost use Rattle.cf_headers.specs.More.{address_of as address_by, port_of as port_by, flow_in as flow_by, source_at, target_at, more_values as more_values_of};
 
@@ -9,7 +10,6 @@ use crate::fields::byte_at;
 use crate::flow::{Endpoint, flow_of};
 use crate::transport::Transport;
 use byteorder::{BigEndian, ByteOrder};
-use cf_row::Value;
 
 // How many bytes TCP or UDP carries, whether or not they were captured.
 #[tactic(auto, unfolding(crate::specs::More::payload_in))]
@@ -31,26 +31,26 @@ fn payload_in(transport: Transport, stop: usize, frame: &[u8]) -> usize
 }
 
 // icmp_type and icmp_code.
-fn message_values(message: Option<usize>, frame: &[u8]) -> [Value; 2]
+fn message_words(message: Option<usize>, frame: &[u8]) -> [u64; 2]
     requires { IfSome message (λ place. place + 2 ≤ length frame.now) }
-    ensures { result ≡ message_values_of message frame.now }
+    ensures { map Num result ≡ message_values_of message frame.now }
 {
     match message {
         Some(at) => [byte_at(frame, at), byte_at(frame, at + 1)],
-        None => [Value::Num(0); 2],
+        None => [0; 2],
     }
 }
 
 // A flag of TCP, 0 being the last.
 #[tactic(auto, unfolding(crate::specs::More::flag_in))]
-fn flag_in(flag: u8, transport: Transport, frame: &[u8]) -> Value
+fn flag_in(flag: u8, transport: Transport, frame: &[u8]) -> u64
     requires few { flag ≤ 7 }
     requires within { IsWithin transport frame.now }
-    ensures { result ≡ Value.Num (flag_by flag transport frame.now) }
+    ensures { result ≡ flag_by flag transport frame.now }
 {
     match transport {
-        Transport::Tcp(at) => Value::Num(u64::from((frame[at + 13] >> flag) % 2)),
-        Transport::Unread | Transport::Udp(_) => Value::Num(0),
+        Transport::Tcp(at) => u64::from((frame[at + 13] >> flag) % 2),
+        Transport::Unread | Transport::Udp(_) => 0,
     }
 }
 
@@ -120,33 +120,28 @@ fn flow_in(ipv6: bool, at: usize, carried: Carried, frame: &[u8]) -> u64
 }
 
 // payload, icmp_type, icmp_code, is_fin, is_syn, is_rst, is_ack and flow.
-pub(crate) fn more_values(
-    ipv6: bool,
-    at: usize,
-    carried: Option<Carried>,
-    frame: &[u8],
-) -> [Value; 8]
+pub(crate) fn more_words(ipv6: bool, at: usize, carried: Option<Carried>, frame: &[u8]) -> [u64; 8]
     requires near { at ≤ 28 }
     requires short { IfSome carried (λ c. at + 20 ≤ length frame.now) }
     requires long { IsTrue ipv6 → at + 40 ≤ length frame.now }
     requires transport { IfSome carried (λ c. IsWithin c.transport frame.now) }
     requires message { IfSome carried (λ c. IfSome c.message (λ place. place + 2 ≤ length frame.now)) }
-    ensures { result ≡ more_values_of ipv6 at carried frame.now }
+    ensures { map Num result ≡ more_values_of ipv6 at carried frame.now }
 {
     let Some(carried) = carried else {
-        return [Value::Num(0); 8];
+        return [0; 8];
     };
     let transport = carried.transport;
     let payload = payload_in(transport, carried.stop, frame);
-    let [icmp_type, icmp_code] = message_values(carried.message, frame);
+    let [icmp_type, icmp_code] = message_words(carried.message, frame);
     [
-        Value::Num(payload as u64),
+        payload as u64,
         icmp_type,
         icmp_code,
         flag_in(0, transport, frame),
         flag_in(1, transport, frame),
         flag_in(2, transport, frame),
         flag_in(4, transport, frame),
-        Value::Num(flow_in(ipv6, at, carried, frame)),
+        flow_in(ipv6, at, carried, frame),
     ]
 }

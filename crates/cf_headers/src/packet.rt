@@ -1,77 +1,56 @@
 // The row of a captured packet.
-ghost use Rattle.std.specs.Prelude.{◌≡◌, ◌+◌, ◌≤◌, length, IfOk, IsOk, IsTrue};
+ghost use Rattle.std.specs.Prelude.{◌≡◌, ◌+◌, ◌≤◌, ◌++◌, length, map, take, IfOk, IfSome, IsOk, IsTrue};
+ghost use Rattle.cf_row.specs.declared.row.Value.TheVariants.{Num};
 ghost use Rattle.cf_row.specs.Row.{Fits};
 ghost use Rattle.cf_row.specs.Schema.{packet_attrs};
+ghost use Rattle.cf_row.specs.Words.{values_words};
 ghost use Rattle.cf_headers.specs.Frames.{frame_of};
-ghost use Rattle.cf_headers.specs.Packet.{packet_row_of, address_values as address_values_of, network_values as network_values_of};
-ghost use Rattle.cf_headers.specs.Packet.{transport_values as transport_values_of, IsWithin};
+ghost use Rattle.cf_headers.specs.Carried.{IsWithin};
+ghost use Rattle.cf_headers.specs.Packet.{has_addresses as has_addresses_of, network_values as network_values_of};
+ghost use Rattle.cf_headers.specs.Packet.{transport_values as transport_values_of, common_values as common_values_of, packet_row_of};
 
-use crate::fields::{address_if, byte_at, byte_if, u16_at, u16_if, u32_at, u32_if};
-use crate::link::{has_addresses, link_header};
-use crate::network::has_ipv4;
-use crate::transport::{Transport, kind_of, transport_of};
-use cf_pcap::Frame;
-use cf_row::{Memory, Row, Value};
+use crate::carried::{Carried, carried_in, kind_of, transport_behind};
+use crate::fields::{address_if, byte_at, u16_at, u32_at};
+use crate::frame::FrameInfo;
+use crate::ipv6::network6_words;
+use crate::layer::{Layer, network_layer};
+use crate::network::network4_words;
+use crate::transport::Transport;
+use cf_pcap::{Frame, Link};
+use cf_row::{MOST_ATTRS, Memory, PacketSchema, Row};
 use std::alloc::Global;
 
-/// What a frame is beside its bytes.
-#[derive(Clone, Copy)]
-pub(crate) struct FrameFields {
-    pub num: u32,
-    pub ts: u64,
-    pub caplen: u32,
-    pub len: u32,
-    pub link: u16,
-}
-
-impl FrameFields {
-    pub(crate) fn of(frame: &Frame) -> FrameFields
-        ensures { frame_of result frame.now.bytes ≡ frame.now }
-    {
-        FrameFields {
-            num: frame.num,
-            ts: frame.ts,
-            caplen: frame.caplen,
-            len: frame.len,
-            link: frame.link,
-        }
-    }
-}
-
-// dmac and smac.
-pub(crate) fn address_values(link: u16, frame: &[u8]) -> [Value; 2]
-    ensures { result ≡ address_values_of link frame.now }
+// Whether the frame holds an Ethernet II header, with two addresses.
+fn has_addresses(link: u16, frame: &[u8]) -> bool
+    ensures value { result ≡ has_addresses_of link frame.now }
+    ensures room { IsTrue result → 14 ≤ length frame.now }
 {
-    let read = has_addresses(link, frame);
-    [address_if(read, frame, 0), address_if(read, frame, 6)]
+    link == Link::Ethernet.number() && frame.len() >= 14
 }
 
 // tos, iplen, ttl, proto, src and dst.
 #[inline(always)]
-pub(crate) fn network_values(ipv4: bool, at: usize, frame: &[u8]) -> [Value; 6]
+fn network_words(ipv6: bool, carried: Option<Carried>, at: usize, frame: &[u8]) -> [u64; 6]
     requires near { at ≤ 28 }
-    requires room { IsTrue ipv4 → at + 20 ≤ length frame.now }
-    ensures { result ≡ network_values_of ipv4 at frame.now }
+    requires short { IfSome carried (λ c. at + 20 ≤ length frame.now) }
+    requires long { IsTrue ipv6 → at + 40 ≤ length frame.now }
+    ensures { map Num result ≡ network_values_of ipv6 carried at frame.now }
 {
-    [
-        byte_if(ipv4, frame, at + 1),
-        u16_if(ipv4, frame, at + 2),
-        byte_if(ipv4, frame, at + 8),
-        byte_if(ipv4, frame, at + 9),
-        u32_if(ipv4, frame, at + 12),
-        u32_if(ipv4, frame, at + 16),
-    ]
+    match carried {
+        Some(carried) if ipv6 => network6_words(carried.protocol, at, frame),
+        Some(_) => network4_words(at, frame),
+        None => [0; 6],
+    }
 }
 
 // sport, dport, seq, ack, flags and win.
 #[inline(always)]
-pub(crate) fn transport_values(transport: Transport, frame: &[u8]) -> [Value; 6]
+fn transport_words(transport: Transport, frame: &[u8]) -> [u64; 6]
     requires { IsWithin transport frame.now }
-    ensures { result ≡ transport_values_of transport frame.now }
+    ensures { map Num result ≡ transport_values_of transport frame.now }
 {
-    let none = Value::Num(0);
     match transport {
-        Transport::Unread => [none, none, none, none, none, none],
+        Transport::Unread => [0; 6],
         Transport::Tcp(at) => [
             u16_at(frame, at),
             u16_at(frame, at + 2),
@@ -80,38 +59,41 @@ pub(crate) fn transport_values(transport: Transport, frame: &[u8]) -> [Value; 6]
             byte_at(frame, at + 13),
             u16_at(frame, at + 14),
         ],
-        Transport::Udp(at) => [
-            u16_at(frame, at),
-            u16_at(frame, at + 2),
-            none,
-            none,
-            none,
-            none,
-        ],
+        Transport::Udp(at) => [u16_at(frame, at), u16_at(frame, at + 2), 0, 0, 0, 0],
     }
 }
 
-// All values of a packet's row.
-fn packet_values(head: FrameFields, bytes: &[u8]) -> [Value; 20]
-    ensures { result ≡ (packet_row_of (frame_of head bytes.now)).values }
+/// Of each value of a packet's row how many bytes it has, 0 for a number: two addresses have 6.
+pub(crate) const LENS: [u8; MOST_ATTRS] = [
+    0, 0, 0, 6, 6, 0, 0, 0, 0, 0, 0, 0, 0, 0, 0, 0, 0, 0, 0, 0, 0, 0, 0, 0, 0, 0, 0, 0, 0, 0, 0, 0,
+];
+
+// The words of the values that the rows of both schemas have. `ipv6` says whether the network header is one of IPv6.
+#[inline(always)]
+pub(crate) fn common_words(
+    ipv6: bool,
+    carried: Option<Carried>,
+    layer: Layer,
+    info: FrameInfo,
+    bytes: &[u8],
+) -> [u64; 20]
+    requires near { layer.place ≤ 28 }
+    requires short { IfSome carried (λ c. layer.place + 20 ≤ length bytes.now) }
+    requires long { IsTrue ipv6 → layer.place + 40 ≤ length bytes.now }
+    requires transport { IfSome carried (λ c. IsWithin c.transport bytes.now) }
+    ensures { result ≡ values_words (common_values_of ipv6 carried layer (frame_of info bytes.now)) }
 {
-    let header = link_header(head.link, bytes);
-    let ipv4 = has_ipv4(header.etype, header.network, bytes);
-    let transport = transport_of(ipv4, header.network, bytes);
-    let [dmac, smac] = address_values(head.link, bytes);
-    let [tos, iplen, ttl, proto, src, dst] = network_values(ipv4, header.network, bytes);
-    let [sport, dport, seq, ack, flags, win] = transport_values(transport, bytes);
-    let etype = Value::Num(u64::from(header.etype));
-    let kind = Value::Num(u64::from(kind_of(ipv4, transport)));
-    let vlan = Value::Num(u64::from(header.vlan));
+    let read = has_addresses(info.link, bytes);
+    let [tos, iplen, ttl, proto, src, dst] = network_words(ipv6, carried, layer.place, bytes);
+    let [sport, dport, seq, ack, flags, win] = transport_words(transport_behind(carried), bytes);
     [
-        Value::Num(head.ts),
-        Value::Num(u64::from(head.caplen)),
-        Value::Num(u64::from(head.len)),
-        dmac,
-        smac,
-        etype,
-        kind,
+        info.ts,
+        u64::from(info.caplen),
+        u64::from(info.len),
+        address_if(read, bytes, 0),
+        address_if(read, bytes, 6),
+        u64::from(layer.etype),
+        u64::from(kind_of(carried)),
         tos,
         iplen,
         ttl,
@@ -124,16 +106,37 @@ fn packet_values(head: FrameFields, bytes: &[u8]) -> [Value; 20]
         ack,
         flags,
         win,
-        vlan,
+        u64::from(layer.vlan),
     ]
 }
 
-fn row_of(alloc: Global, head: FrameFields, bytes: &[u8]) -> Result<Row, Memory>
-    ensures row { IfOk result (λ row. row ≡ packet_row_of (frame_of head bytes.now)) }
-    ensures fits { IfOk result (Fits packet_attrs) }
-    ensures free { IsOk result }
+// The words of the values of both schemas, and others behind them.
+#[inline(always)]
+pub(crate) fn words_before(common: [u64; 20], rest: [u64; 12]) -> [u64; MOST_ATTRS]
+    ensures { result ≡ common ++ rest }
 {
-    Row::packed(alloc, head.num, &packet_values(head, bytes))
+    let mut words = [0; MOST_ATTRS];
+    words[..20].copy_from_slice(&common);
+    words[20..].copy_from_slice(&rest);
+    words
+}
+
+// The words of a packet's row, and zeros behind them.
+#[inline(always)]
+fn packet_words(info: FrameInfo, bytes: &[u8]) -> [u64; MOST_ATTRS]
+    ensures { take 20 result ≡ values_words (packet_row_of (frame_of info bytes.now)).values }
+{
+    let layer = network_layer(PacketSchema::Packet, info.link, bytes);
+    let carried = carried_in(false, layer.etype, layer.place, info.len, bytes);
+    words_before(common_words(false, carried, layer, info, bytes), [0; 12])
+}
+
+/// The row of a captured packet, of the packet schema, with the packet's number, from lent bytes. It is as [`packet_row`] says.
+pub fn packet_row_of_bytes(info: FrameInfo, bytes: &[u8]) -> Row
+    ensures row { result ≡ packet_row_of (frame_of info bytes.now) }
+    ensures fits { Fits packet_attrs result }
+{
+    Row::of_words(info.num, 20, LENS, packet_words(info, bytes))
 }
 
 /// The row of a captured packet, of the packet schema, with the packet's number. What isn't read is 0,
@@ -142,10 +145,10 @@ fn row_of(alloc: Global, head: FrameFields, bytes: &[u8]) -> Result<Row, Memory>
 /// header states. A total length of 0 is taken for the captured length, since captures of a sender that
 /// leaves segmentation to its device hold it. Of a link that is neither 1 nor 113 the type is read where
 /// it stands in an Ethernet header, and no address. The row takes no block of memory, so it is never refused for want of one.
-pub fn packet_row(alloc: Global, frame: &Frame) -> Result<Row, Memory>
+pub fn packet_row(_alloc: Global, frame: &Frame) -> Result<Row, Memory>
     ensures row { IfOk result (λ row. row ≡ packet_row_of frame.now) }
     ensures fits { IfOk result (Fits packet_attrs) }
     ensures free { IsOk result }
 {
-    row_of(alloc, FrameFields::of(frame), &frame.bytes)
+    Ok(packet_row_of_bytes(FrameInfo::of(frame), &frame.bytes))
 }
