@@ -4,11 +4,11 @@ use Rattle.cf_store.specs.declared.held.Reader.{Reader}
 use Rattle.cf_store.specs.declared.held.Writer.{Writer}
 use Rattle.cf_store.specs.declared.shown.Framed.{Framed}
 use Rattle.cf_store.specs.declared.shown.Head.{Head}
-use Rattle.cf_calls.specs.declared.refusals.LineRefusal.{LineRefusal}
+use Rattle.cf_store.specs.declared.refusals.LineRefusal.{LineRefusal}
 use Rattle.cf_store.specs.Asks.{AsksLine}
-use Rattle.cf_calls.specs.declared.code.Code.{Code}
-use Rattle.cf_calls.specs.declared.code.Code.TheVariants.{Nothing}
-use Rattle.cf_calls.specs.Codes.{code_number}
+use Rattle.cf_handles.specs.declared.code.Code.{Code}
+use Rattle.cf_handles.specs.declared.code.Code.TheVariants.{Nothing}
+use Rattle.cf_handles.specs.Codes.{code_number}
 use Rattle.cf_handles.specs.Calls.{AppendsBatch, BatchBy, ByHandle, IsCoded, LineBy, Tells, coded, number_of, told_or}
 
 pub by_handle : {T A : Type 0} (Does : T → T → Result A Code → Type 0) (a b : Option T) (m k n : T) (r : Result A Code) → a ≡ Some m → k ≡ m → b ≡ Some n

@@ -1,15 +1,16 @@
 // Calls by handles.
 ghost use Rattle.std.specs.Prelude.{◌≡◌, MatchOption, OnErr, Some, None};
-ghost use Rattle.cf_calls.specs.Codes.{append_code, ask_code, lane_code, row_code};
+ghost use Rattle.cf_handles.specs.Codes.{append_code, ask_code, lane_code, row_code};
 ghost use Rattle.cf_store.specs.Appends.{AppendsFrame, AppendsPlain, AppendsValues, IsRoomOf};
 ghost use Rattle.cf_store.specs.Asks.{AsksAt, AsksSeen, AsksTail, ShowsRowAt, TellsGroups};
-ghost use Rattle.cf_calls.specs.Copied.{Copies};
+ghost use Rattle.cf_handles.specs.Copied.{Copies};
 ghost use Rattle.cf_handles.specs.Calls.{BatchBy, ByHandle, ForksTo, IsCoded, IsRoom, IsTail, LineBy, OpensAt, TakesTo};
 
+use crate::code::Code;
+use crate::copies::copy_part;
 use crate::handles::{LogHandle, ReaderHandle, WriterHandle};
-use cf_calls::copy_part;
 use cf_store::{
-    Capture, Code, Framed, Head, LineRefusal, Log, OpenRefusal, Room, Shown, ShownValue, Sizes,
+    Capture, Framed, Head, LineRefusal, Log, OpenRefusal, Room, Shown, ShownValue, Sizes,
 };
 use std::alloc::Global;
 

@@ -1,12 +1,13 @@
 // What C calls to close a log, and for the report of what a reader has seen.
 ghost use Rattle.std.specs.Prelude.{◌≡◌, None, OnErr, Result};
-ghost use Rattle.cf_calls.specs.declared.code.Code.{Code as CodeValue};
+ghost use Rattle.cf_handles.specs.declared.code.Code.{Code as CodeValue};
 ghost use Rattle.cf_handles.specs.Calls.{ByHandle, Tells, number_of};
 ghost use Rattle.cf_handles.specs.Ends.{ClosesTo, ReportsTo};
 
+use crate::code::Code;
+use crate::copies::copy_part;
 use crate::handles::{LogHandle, ReaderHandle};
-use cf_calls::copy_part;
-use cf_store::{Code, Log};
+use cf_store::Log;
 use std::alloc::Global;
 
 impl LogHandle {

@@ -4,10 +4,12 @@ ghost use Rattle.std.specs.Arc.{arc_value};
 ghost use Rattle.cf_handles.specs.Calls.{Tells};
 ghost use Rattle.cf_handles.specs.Named.{CopiesName, IsAbout, IsQuestion, IsWidth, NamesTo};
 
+use crate::abouts::{About, about_in};
+use crate::code::Code;
+use crate::copies::copy_part;
 use crate::handles::LogHandle;
-use cf_about::{About, about_in, name_in, question_in};
-use cf_calls::copy_part;
-use cf_store::{Code, Log};
+use crate::setup_names::{name_in, question_in};
+use cf_store::Log;
 use std::alloc::Global;
 
 // Copies the name as far as there is room, and answers how long it is.

@@ -1,25 +1,25 @@
 // Calls as C has them: each answers the number of its code, and puts what it found at an out-value.
 ghost use Rattle.std.specs.Prelude.{◌≡◌, ℕ, IfErr, MatchOption, None, Option, Result, Vec};
-ghost use Rattle.cf_calls.specs.declared.code.Code.{Code as CodeValue};
-ghost use Rattle.cf_calls.specs.declared.refusals.OpenRefusal.{OpenRefusal as OpenRefusalValue};
-ghost use Rattle.cf_calls.specs.declared.refusals.LineRefusal.{LineRefusal as LineRefusalValue};
+ghost use Rattle.cf_handles.specs.declared.code.Code.{Code as CodeValue};
+ghost use Rattle.cf_store.specs.declared.refusals.OpenRefusal.{OpenRefusal as OpenRefusalValue};
+ghost use Rattle.cf_store.specs.declared.refusals.LineRefusal.{LineRefusal as LineRefusalValue};
 ghost use Rattle.cf_store.specs.declared.shown.Head.{Head as HeadValue};
 ghost use Rattle.std.specs.Global.{Global as GlobalValue};
-ghost use Rattle.cf_calls.specs.declared.refusals.MergeRefusal.{MergeRefusal as MergeRefusalValue};
+ghost use Rattle.cf_store.specs.declared.refusals.MergeRefusal.{MergeRefusal as MergeRefusalValue};
 ghost use Rattle.cf_store.specs.declared.shown.Shown.{Shown as ShownRow};
 ghost use Rattle.cf_store.specs.Merges.{Merges};
-ghost use Rattle.cf_calls.specs.Codes.{append_code, ask_code, code_number, lane_code, line_code, open_code, row_code};
+ghost use Rattle.cf_handles.specs.Codes.{append_code, ask_code, code_number, lane_code, line_code, open_code, row_code};
 ghost use Rattle.cf_store.specs.Opens.{Measures};
 ghost use Rattle.cf_store.specs.Appends.{AppendsFrame, AppendsPlain, AppendsValues};
 ghost use Rattle.cf_store.specs.Asks.{AsksAt, AsksSeen, ShowsRowAt, TellsGroups};
-ghost use Rattle.cf_calls.specs.Copied.{Copies};
+ghost use Rattle.cf_handles.specs.Copied.{Copies};
 ghost use Rattle.cf_handles.specs.Calls.{BatchBy, ByHandle, ForksTo, IsCoded, IsRoom, IsTail, LineBy, MergesTo, OpensAt, TakesTo, Tells, TellsFault, coded, count_or, fault_after, line_fault, line_fault_after, line_head, line_number, number_of, number_or, told_or};
 
+use crate::code::Code;
+use crate::copies::put_all;
 use crate::handles::{LogHandle, ReaderHandle, WriterHandle};
-use cf_calls::put_all;
 use cf_store::{
-    Capture, Code, Fault, Framed, Head, LineRefusal, OpenRefusal, Room, ShownValue, Sizes, measure,
-    merge,
+    Capture, Fault, Framed, Head, LineRefusal, OpenRefusal, Room, ShownValue, Sizes, measure, merge,
 };
 use std::alloc::Global;
 

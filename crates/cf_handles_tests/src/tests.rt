@@ -1,5 +1,3 @@
-use cf_about::About;
-use cf_calls::copy_part;
 use cf_handles::ends::{confluo_close, confluo_report};
 use cf_handles::names::{confluo_name, confluo_question, confluo_tell, confluo_width};
 use cf_handles::numbered::{
@@ -8,8 +6,8 @@ use cf_handles::numbered::{
     confluo_free_writer, confluo_groups, confluo_merge, confluo_open, confluo_room_of, confluo_row,
     confluo_tail, confluo_take_reader, confluo_take_writer, confluo_words,
 };
-use cf_handles::{LogHandle, ReaderHandle, WriterHandle};
-use cf_store::{Capture, Fault, Framed, Head, Room, ShownValue, Sizes, message_of};
+use cf_handles::{About, LogHandle, ReaderHandle, WriterHandle, copy_part, message_of};
+use cf_store::{Capture, Fault, Framed, Head, Room, ShownValue, Sizes};
 use std::alloc::Global;
 use std::process::Abort;
 use std::test::*;

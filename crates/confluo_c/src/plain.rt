@@ -1,18 +1,17 @@
 // What C calls without a handle.
 ghost use Rattle.std.specs.Prelude.{◌≡◌, ℕ, Result, Vec};
 ghost use Rattle.std.specs.Global.{Global as GlobalValue};
-ghost use Rattle.cf_calls.specs.Codes.{code_number, open_code, text_of};
-ghost use Rattle.cf_calls.specs.Copied.{Copies};
-ghost use Rattle.cf_calls.specs.declared.code.Code.{Code as CodeValue};
-ghost use Rattle.cf_calls.specs.declared.refusals.MergeRefusal.{MergeRefusal as MergeRefusalValue};
-ghost use Rattle.cf_calls.specs.declared.refusals.OpenRefusal.{OpenRefusal as OpenRefusalValue};
+ghost use Rattle.cf_handles.specs.Codes.{code_number, open_code, text_of};
+ghost use Rattle.cf_handles.specs.Copied.{Copies};
+ghost use Rattle.cf_handles.specs.declared.code.Code.{Code as CodeValue};
+ghost use Rattle.cf_store.specs.declared.refusals.MergeRefusal.{MergeRefusal as MergeRefusalValue};
+ghost use Rattle.cf_store.specs.declared.refusals.OpenRefusal.{OpenRefusal as OpenRefusalValue};
 ghost use Rattle.cf_handles.specs.Calls.{MergesTo, TellsFault, coded, told_or};
 ghost use Rattle.cf_store.specs.Merges.{Merges};
 ghost use Rattle.cf_store.specs.Opens.{Measures};
 
-use cf_calls::copy_part;
-use cf_handles::numbered;
-use cf_store::{Fault, Sizes, message_of};
+use cf_handles::{copy_part, message_of, numbered};
+use cf_store::{Fault, Sizes};
 use std::alloc::Global;
 
 /// The version of these calls: 1,000,000 for the major number, 1,000 for the minor one, 1 for the patch.

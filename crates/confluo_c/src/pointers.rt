@@ -2,7 +2,7 @@
 ghost use Rattle.std.specs.Prelude.{◌≡◌, None, Option};
 ghost use base.Fml.{fsep};
 ghost use types.Logic.{sem};
-ghost use Rattle.cf_calls.specs.Codes.{append_code, ask_code, lane_code};
+ghost use Rattle.cf_handles.specs.Codes.{append_code, ask_code, lane_code};
 ghost use Rattle.cf_handles.specs.Calls.{IsCoded, IsRoom, IsTail, Tells};
 ghost use Rattle.cf_handles.specs.Ends.{ReportsTo};
 ghost use Rattle.cf_handles.specs.Named.{IsAbout, IsQuestion, IsWidth};
@@ -14,8 +14,7 @@ ghost use Rattle.cf_store.specs.declared.held.Writer.{Writer};
 ghost use Rattle.confluo_c.specs.Leads.{log_at, reader_at, writer_at};
 ghost use Rattle.confluo_c.specs.Told.{AsksBy, BatchTold, ClosesBy, ForksBy, FrameBy, NamesBy, OpensBy, RowBy, TakesBy, WordsBy};
 
-use cf_about::About;
-use cf_handles::{LogHandle, ReaderHandle, WriterHandle, ends, names, numbered};
+use cf_handles::{About, LogHandle, ReaderHandle, WriterHandle, ends, names, numbered};
 use cf_store::{Capture, Fault, Framed, Head, Room, ShownValue, Sizes};
 use std::alloc::Global;
 

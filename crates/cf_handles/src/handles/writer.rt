@@ -4,8 +4,7 @@ ghost use Rattle.cf_handles.specs.Calls.{GivesBack};
 
 use crate::parts::Parts;
 use crate::seats::WriterSeat;
-use cf_home::Sent;
-use cf_store::Writer;
+use cf_store::{Sent, Writer};
 use std::alloc::Global;
 use std::mem::replace;
 use std::ptr::null_mut;

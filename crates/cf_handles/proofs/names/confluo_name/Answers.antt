@@ -1,7 +1,7 @@
 use Rattle.std.proofs.Common.{Ok, Err, Some, None, refl, subst}
 use Rattle.std.specs.Arc.{arc_value}
 use Rattle.cf_store.specs.declared.held.Log.{Log}
-use Rattle.cf_calls.specs.declared.code.Code.TheVariants as codes
+use Rattle.cf_handles.specs.declared.code.Code.TheVariants as codes
 use Rattle.cf_handles.specs.Named.{CopiesName, NamesTo}
 use Rattle.cf_handles.proofs.Called.{nothing_told, told}
 use Rattle.cf_handles.proofs.names.confluo_name.Goals as goal

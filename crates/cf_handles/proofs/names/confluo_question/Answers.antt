@@ -4,7 +4,7 @@ use Rattle.cf_setup.specs.Setups.{SetupValue}
 use Rattle.cf_setup.specs.Named.{place_in}
 use Rattle.cf_handles.specs.Named.{IsQuestion}
 use Rattle.cf_store.specs.declared.held.Log.{Log}
-use Rattle.cf_calls.specs.declared.code.Code.TheVariants as codes
+use Rattle.cf_handles.specs.declared.code.Code.TheVariants as codes
 use Rattle.cf_handles.proofs.Called.{nothing_told, told}
 use Rattle.cf_handles.proofs.names.confluo_question.Goals as goal
 

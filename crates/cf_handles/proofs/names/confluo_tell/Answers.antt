@@ -1,10 +1,10 @@
 use Rattle.std.proofs.Common.{◌∙◌, Ok, Err, ap, refl, sym}
 use Rattle.std.specs.Arc.{arc_value}
 use Rattle.cf_setup.specs.Setups.{SetupValue}
-use Rattle.cf_about.specs.Abouts.{about_of}
+use Rattle.cf_handles.specs.Abouts.{about_of}
 use Rattle.cf_handles.specs.Named.{IsAbout}
 use Rattle.cf_store.specs.declared.held.Log.{Log}
-use Rattle.cf_calls.specs.declared.code.Code.TheVariants as codes
+use Rattle.cf_handles.specs.declared.code.Code.TheVariants as codes
 use Rattle.cf_handles.proofs.Called.{nothing_told, told}
 use Rattle.cf_handles.proofs.names.confluo_tell.Goals as goal
 

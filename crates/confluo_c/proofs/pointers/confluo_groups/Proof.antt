@@ -1,7 +1,7 @@
 -- `confluo_groups` lends what is owned at the pointer to the function of that name in `cf_handles`, and hands it back.
 use Rattle.confluo_c.proofs.Steps.{◌≡◌, ◌∙◌, ℕ, List, [], ◌∷◌, ◌++◌, refl, sym, ap, subst, w32, MutBor, proved_at, handle_tells, full_share, id⊢, ent, sep, ex, ftrue, flft, flent, fsep, fact, tables, named, Val, vint, vptr, WpFn, sem, Body, lft_new, lft_end, at_ret, Item, ⋆, some, later, pick, use1, use2, use3, await, rewrite, show, suffices, group, done, ‵, raw, ◌⊛◌, ◌$◌, ◌∵◌, !, qed, by, move, drop, split, join, fsplit, fjoin, fpick, feq_l, of_opd, addr, stop, no_more, and_then, first, blocks, exec, returns, enter, free_all, look_at, get, through, sets, sets_last, lands_as, env, alloc_all, pass_all, yes, u32, Is, shows, lends_ref, ref_back, mem, part_at, uint_Lawful, RattleType, owns, Ptr, RawPtr, block_ptr, in_a_block, lies_at, ptr_val, MutRef, plain, nothing, heard, peeks, calls_at, lasts, triple_of, framed, Stays, walk_of, stay_dropped, Goes-dropped, gave_ref, Goes-gave_ref, ends_at, says, Option}
 use Rattle.cf_store.specs.contracts.shown.Head.{the_row as head_row}
-use Rattle.cf_calls.specs.Codes.{lane_code}
+use Rattle.cf_handles.specs.Codes.{lane_code}
 use Rattle.cf_handles.specs.Calls.{IsCoded, Tells}
 use Rattle.cf_store.specs.Asks.{TellsGroups}
 use Rattle.cf_store.specs.declared.held.Reader.{Reader}

@@ -1,7 +1,7 @@
 use Rattle.std.proofs.Common.{◌∙◌, Err, ap, refl}
 use Rattle.cf_table.specs.Values.{book_of}
 use Rattle.cf_store.specs.declared.held.Writer.{Writer}
-use Rattle.cf_calls.specs.Codes.{take_code}
+use Rattle.cf_handles.specs.Codes.{take_code}
 use Rattle.cf_store.specs.Opens.{Takes}
 use Rattle.cf_handles.specs.Calls.{TakesTo}
 use Rattle.cf_handles.proofs.Called.{by_handle, coded_err}

@@ -1,4 +1,4 @@
-use Rattle.cf_calls.specs.Codes.{ask_code}
+use Rattle.cf_handles.specs.Codes.{ask_code}
 use Rattle.cf_store.specs.Asks.{AsksSeen}
 use Rattle.cf_handles.specs.Calls.{IsCoded}
 use Rattle.cf_handles.proofs.Called.{by_handle, coded_ok, coded_err}

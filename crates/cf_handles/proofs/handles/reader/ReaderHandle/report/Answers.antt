@@ -1,5 +1,5 @@
 use Rattle.std.proofs.Common.{◌≡◌, ◌∙◌, ℕ, List, length, refl, rules, subst}
-use Rattle.cf_calls.specs.Copied.{Copies}
+use Rattle.cf_handles.specs.Copied.{Copies}
 use Rattle.cf_handles.specs.Ends.{ReportsTo}
 use Rattle.cf_handles.proofs.Called.{by_handle}
 use Rattle.cf_handles.proofs.handles.reader.ReaderHandle.report.Goals as goal

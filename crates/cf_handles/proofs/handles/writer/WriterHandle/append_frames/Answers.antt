@@ -1,5 +1,5 @@
 use Rattle.std.proofs.Common.{◌≤◌, inl, inr, length, arith, refl}
-use Rattle.cf_calls.specs.declared.code.Code.TheVariants.{Sizes}
+use Rattle.cf_handles.specs.declared.code.Code.TheVariants.{Sizes}
 use Rattle.cf_handles.proofs.Called.{batch_by}
 use Rattle.cf_handles.proofs.handles.writer.WriterHandle.append_frames.Goals as goal
 

@@ -1,4 +1,4 @@
-use Rattle.cf_calls.specs.Codes.{append_code}
+use Rattle.cf_handles.specs.Codes.{append_code}
 use Rattle.cf_store.specs.Appends.{AppendsValues}
 use Rattle.cf_handles.specs.Calls.{IsCoded}
 use Rattle.cf_handles.proofs.Called.{by_handle, coded_ok, coded_err}
