@@ -2,8 +2,8 @@
 use Rattle.std.specs.Prelude.{◌≡◌, ◌⊎◌, ℕ, ◌<◌, ◌≤◌, List, [], ◌∷◌, ◌++◌, length, Option, Some, None, Result, Ok, Err, Vec}
 use Rattle.std.specs.declared.alloc.AllocError.{AllocError}
 use Rattle.cf_table.specs.Values.{PassValue, book_of}
-use Rattle.cf_calls.specs.declared.code.Code.{Code}
-use Rattle.cf_calls.specs.declared.code.Code.TheVariants as codes
+use Rattle.cf_handles.specs.declared.code.Code.{Code}
+use Rattle.cf_handles.specs.declared.code.Code.TheVariants as codes
 use Rattle.cf_store.specs.declared.held.Log.{Log}
 use Rattle.cf_store.specs.declared.held.Writer.{Writer}
 use Rattle.cf_store.specs.declared.held.Reader.{Reader}
@@ -11,18 +11,18 @@ use Rattle.cf_store.specs.declared.shown.Sizes.{Sizes}
 use Rattle.cf_store.specs.declared.shown.Fault.{Fault}
 use Rattle.cf_store.specs.declared.shown.Head.{Head}
 use Rattle.std.specs.Global.{Global}
-use Rattle.cf_calls.specs.declared.refusals.MergeRefusal.{MergeRefusal}
+use Rattle.cf_store.specs.declared.refusals.MergeRefusal.{MergeRefusal}
 use Rattle.cf_store.specs.declared.shown.Room.{Room}
 use Rattle.cf_store.specs.declared.shown.Framed.{Framed}
 use Rattle.cf_store.specs.declared.shown.Shown.{Shown}
-use Rattle.cf_calls.specs.declared.refusals.LineRefusal.{LineRefusal}
-use Rattle.cf_calls.specs.declared.refusals.LineRefusal.TheVariants as said
-use Rattle.cf_calls.specs.declared.refusals.OpenRefusal.{OpenRefusal}
-use Rattle.cf_calls.specs.declared.refusals.OpenRefusal.TheVariants as opens
-use Rattle.cf_calls.specs.Codes.{code_number, line_code, merge_code, open_code, stop_code, take_code}
-use Rattle.cf_calls.specs.Copied.{Puts}
+use Rattle.cf_store.specs.declared.refusals.LineRefusal.{LineRefusal}
+use Rattle.cf_store.specs.declared.refusals.LineRefusal.TheVariants as said
+use Rattle.cf_store.specs.declared.refusals.OpenRefusal.{OpenRefusal}
+use Rattle.cf_store.specs.declared.refusals.OpenRefusal.TheVariants as opens
+use Rattle.cf_handles.specs.Codes.{code_number, line_code, merge_code, open_code, stop_code, take_code}
+use Rattle.cf_handles.specs.Copied.{Puts}
 use Rattle.cf_store.specs.Opens.{Opens, Takes, Forks}
-use Rattle.cf_calls.specs.declared.refusals.AppendRefusal.{AppendRefusal}
+use Rattle.cf_store.specs.declared.refusals.AppendRefusal.{AppendRefusal}
 use Rattle.cf_store.specs.Appends.{AppendsFrames, IsRoomOf}
 use Rattle.cf_store.specs.Asks.{AsksLine, AsksTail}
 

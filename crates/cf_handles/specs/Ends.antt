@@ -1,12 +1,12 @@
 -- What closing a log by its handle answers, and a report by a reader's.
 use Rattle.std.specs.Prelude.{◌≡◌, ℕ, List, length, Option, Some, None, Result, Ok, Err}
 use Rattle.std.specs.Arc.{arc_value}
-use Rattle.cf_calls.specs.Codes.{close_code}
-use Rattle.cf_calls.specs.Copied.{Copies}
-use Rattle.cf_calls.specs.declared.code.Code.{Code}
-use Rattle.cf_calls.specs.declared.code.Code.TheVariants as codes
-use Rattle.cf_calls.specs.declared.refusals.CloseRefusal.{CloseRefusal}
-use Rattle.cf_seen.specs.Seen.{seen_text}
+use Rattle.cf_handles.specs.Codes.{close_code}
+use Rattle.cf_handles.specs.Copied.{Copies}
+use Rattle.cf_handles.specs.declared.code.Code.{Code}
+use Rattle.cf_handles.specs.declared.code.Code.TheVariants as codes
+use Rattle.cf_store.specs.declared.refusals.CloseRefusal.{CloseRefusal}
+use Rattle.cf_store.specs.Seen.{seen_text}
 use Rattle.cf_store.specs.Closes.{Closes, IsClosed}
 use Rattle.cf_store.specs.Reports.{HasWalked}
 use Rattle.cf_store.specs.declared.held.Log.{Log}

@@ -3,13 +3,13 @@ use Rattle.std.specs.Prelude.{◌≡◌, ℕ, List, length, Option, Some, None, 
 use Rattle.std.specs.Arc.{arc_value}
 use Rattle.cf_setup.specs.Setups.{SetupValue}
 use Rattle.cf_setup.specs.Named.{place_in}
-use Rattle.cf_about.specs.declared.abouts.About.{About}
-use Rattle.cf_about.specs.Abouts.{about_of}
-use Rattle.cf_about.specs.Names.{name_of}
+use Rattle.cf_handles.specs.declared.abouts.About.{About}
+use Rattle.cf_handles.specs.Abouts.{about_of}
+use Rattle.cf_handles.specs.Names.{name_of}
 use Rattle.cf_store.specs.declared.held.Log.{Log}
-use Rattle.cf_calls.specs.declared.code.Code.{Code}
-use Rattle.cf_calls.specs.declared.code.Code.TheVariants as codes
-use Rattle.cf_calls.specs.Copied.{Copies}
+use Rattle.cf_handles.specs.declared.code.Code.{Code}
+use Rattle.cf_handles.specs.declared.code.Code.TheVariants as codes
+use Rattle.cf_handles.specs.Copied.{Copies}
 
 -- the name was copied as far as there is room, and is so long; or there is none
 abbrev pub CopiesName : SetupValue → ℕ → ℕ → List ℕ → List ℕ → Option ℕ → Type 0

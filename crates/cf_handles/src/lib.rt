@@ -1,12 +1,18 @@
 //! What C calls, by handles of a log, of its writers and of its readers: the calls themselves, each with the number that it answers.
 #![tactic(auto)]
 
-mod calls;
-pub mod ends;
-mod handles;
-pub mod names;
-pub mod numbered;
+mod abouts;
+mod code;
+mod copies;
+mod handle;
+pub mod logs;
 mod parts;
-mod seats;
+pub mod readers;
+mod seat;
+mod setup_names;
+pub mod writers;
 
-pub use handles::{LogHandle, ReaderHandle, WriterHandle};
+pub use abouts::About;
+pub use code::message_of;
+pub use copies::copy_part;
+pub use handle::{Handle, LogHandle, ReaderHandle, WriterHandle};

@@ -13,8 +13,8 @@ use Rattle.cf_store.specs.declared.held.Writer.{Writer}
 use Rattle.cf_store.specs.declared.shown.Capture.{Capture}
 use Rattle.cf_store.specs.declared.shown.Framed.{Framed}
 use Rattle.cf_store.specs.declared.shown.ShownValue.{ShownValue}
-use Rattle.cf_calls.specs.declared.refusals.AppendRefusal.{AppendRefusal}
-use Rattle.cf_calls.specs.declared.refusals.AppendRefusal.TheVariants.{Full, Nodes, Unfit, Frame, Memory}
+use Rattle.cf_store.specs.declared.refusals.AppendRefusal.{AppendRefusal}
+use Rattle.cf_store.specs.declared.refusals.AppendRefusal.TheVariants.{Full, Nodes, Unfit, Frame, Memory}
 use Rattle.cf_store.specs.Appends.{AppendsBy, AppendsFrame, AppendsFramed, AppendsPacket, AppendsPart, AppendsPlain, AppendsRow, AppendsValues, FramedBy, IsFrame, StandsIn, bytes_in, frame_of, numbers_row, row_by}
 
 of_row : (schema : PacketSchema) (capture : Capture) (bytes : List ℕ) (m n : Writer) (r : Result ℕ AppendRefusal) → IsFrame schema capture bytes

@@ -15,8 +15,8 @@ use Rattle.cf_table.specs.Moves.{AreAll, HasGathered, IsReading}
 use Rattle.cf_append.proofs.Appending.{rests_all}
 use Rattle.cf_log.specs.Writers.{AreWriters, HasJoined}
 use Rattle.cf_log.proofs.Writers.{joined}
-use Rattle.cf_home.specs.Homes.{AreAtHome, Comes, HaveLooked, IsHome, Keeps, PlaceValue, home_at, some_pass}
-use Rattle.cf_seen.specs.Seen.{seen_text}
+use Rattle.cf_store.specs.Homes.{AreAtHome, Comes, HaveLooked, IsHome, Keeps, PlaceValue, home_at, some_pass}
+use Rattle.cf_store.specs.Seen.{seen_text}
 use Rattle.cf_store.specs.Closes.{IsClosed, IsEnd}
 use Rattle.cf_store.specs.Opens.{IsLogWith}
 use Rattle.cf_append.specs.Appends.{IsReady}

@@ -13,7 +13,7 @@ use Rattle.cf_append.specs.declared.appends.AppendFault.{AppendFault}
 use Rattle.cf_append.specs.declared.appends.AppendFault.TheVariants.{Full, NodesFull}
 use Rattle.cf_append.proofs.Answering.{same_writer}
 use Rattle.cf_log.specs.Appended.{HasAppended}
-use Rattle.cf_home.specs.Homes.{Comes, HasLooked, HaveLooked, IsFront, IsSuccessor, MayCome, PlaceValue, at_home, taken_home}
+use Rattle.cf_store.specs.Homes.{Comes, HasLooked, HaveLooked, IsFront, IsSuccessor, MayCome, PlaceValue, at_home, taken_home}
 use Rattle.cf_append.specs.Appends.{HasAppendAnswer, IsReady}
 use Rattle.cf_store.specs.Parts.{IsPlaceOf}
 

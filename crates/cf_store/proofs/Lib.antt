@@ -10,3 +10,5 @@ pub mod Taken
 pub mod Numbered
 pub mod Closed
 pub mod Lined
+pub mod Looked
+pub mod Meant

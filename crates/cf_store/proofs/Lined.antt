@@ -9,8 +9,8 @@ use Rattle.cf_plain.specs.declared.ask.Ask.{Ask}
 use Rattle.cf_table.specs.Values.{PassValue}
 use Rattle.cf_store.specs.declared.held.Shared.{Shared}
 use Rattle.cf_store.specs.Asks.{AnswersLine, IsNewQuestion, ReadsLine, SaysQuestion, with_line}
-use Rattle.cf_calls.specs.declared.refusals.LineRefusal.{LineRefusal}
-use Rattle.cf_calls.specs.declared.refusals.LineRefusal.TheVariants.{Setup, NoQuestion, Memory}
+use Rattle.cf_store.specs.declared.refusals.LineRefusal.{LineRefusal}
+use Rattle.cf_store.specs.declared.refusals.LineRefusal.TheVariants.{Setup, NoQuestion, Memory}
 use Rattle.cf_store.proofs.Opened.{lawful}
 
 -- what is found of a text, and nothing else is

@@ -5,7 +5,7 @@ use Rattle.cf_law.specs.Passes.{Pass}
 use Rattle.cf_law.specs.Steps.{new_pass}
 use Rattle.cf_law.specs.Events.{no_book}
 use Rattle.cf_table.specs.Values.{LogValue, PassValue, book_of}
-use Rattle.cf_home.specs.Homes.{Comes, HasLooked, HaveLooked, PlaceValue, at_home, taken_home}
+use Rattle.cf_store.specs.Homes.{Comes, HasLooked, HaveLooked, PlaceValue, at_home, taken_home}
 use Rattle.cf_store.specs.Parts.{AreNumbered, IsOfWriter, IsPlaceOf}
 use Rattle.cf_store.proofs.Homeward.{first_in, one_first, placed_at}
 use Rattle.cf_store.proofs.Opened.{at_home_new}

@@ -9,7 +9,7 @@ use Rattle.cf_law.proofs.Fronts.{table_length, table_at}
 use Rattle.cf_table.specs.Values.{PassValue, LogValue, book_of}
 use Rattle.cf_table.specs.Rule.{root_pass}
 use Rattle.cf_table.specs.Moves.{AreDealt, HoldsAllBooks}
-use Rattle.cf_home.specs.Homes.{PlaceValue, at_home}
+use Rattle.cf_store.specs.Homes.{PlaceValue, at_home}
 use Rattle.cf_setup.specs.Setups.{SetupValue}
 use Rattle.cf_setup.specs.SetupText.{SetupText}
 use Rattle.cf_setup.specs.Reading.{Answers}
@@ -21,8 +21,8 @@ use Rattle.cf_store.specs.Opens.{BySetup, IsNew, refusal_by, sized}
 use Rattle.cf_store.specs.declared.held.Log.{Log}
 use Rattle.cf_store.specs.declared.held.Shared.{Shared}
 use Rattle.cf_store.specs.declared.shown.Sizes.{Sizes}
-use Rattle.cf_calls.specs.declared.refusals.OpenRefusal.{OpenRefusal}
-use Rattle.cf_calls.specs.declared.refusals.OpenRefusal.TheVariants.{Memory as NoMemory}
+use Rattle.cf_store.specs.declared.refusals.OpenRefusal.{OpenRefusal}
+use Rattle.cf_store.specs.declared.refusals.OpenRefusal.TheVariants.{Memory as NoMemory}
 
 one_ready : (log : LogValue) (m n : PassValue) (hs : List PassValue) → HoldsAllBooks log.shape m.view → AreDealt log m hs n → (k : ℕ) (h : PassValue)
     → slice_get hs k ≡ Some h → IsReady log h

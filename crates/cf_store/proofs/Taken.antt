@@ -6,13 +6,13 @@ use Rattle.std.proofs.lemmas.Option.{get_or_from_slice_get}
 use Rattle.std.proofs.lemmas.List.{take_at}
 use Rattle.cf_law.proofs.Heads.{get_set_other, get_set_same}
 use Rattle.cf_table.specs.Values.{PassValue}
-use Rattle.cf_home.specs.Homes.{Comes, HasLooked, HaveLooked, IsHomeAt, Keeps, MayCome, PlaceValue, taken_home}
+use Rattle.cf_store.specs.Homes.{Comes, HasLooked, HaveLooked, IsHomeAt, Keeps, MayCome, PlaceValue, taken_home}
 use Rattle.std.specs.Arc.{arc_value}
 use Rattle.cf_store.specs.Opens.{IsLogWith, IsTakenFrom, Takes, TakesAt}
 use Rattle.cf_store.specs.declared.held.Log.{Log}
 use Rattle.cf_store.specs.declared.held.Shared.{Shared}
 use Rattle.cf_store.specs.declared.held.Writer.{Writer}
-use Rattle.cf_calls.specs.declared.refusals.TakeRefusal.TheVariants.{Memory as NoMemory}
+use Rattle.cf_store.specs.declared.refusals.TakeRefusal.TheVariants.{Memory as NoMemory}
 
 pub some_is : {X : Type 0} {x y : X} → Some x ≡ Some y → x ≡ y
 some_is e = cc e

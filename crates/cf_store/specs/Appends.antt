@@ -24,8 +24,8 @@ use Rattle.cf_store.specs.declared.shown.Capture.{Capture}
 use Rattle.cf_store.specs.declared.shown.Framed.{Framed}
 use Rattle.cf_store.specs.declared.shown.ShownValue.{ShownValue}
 use Rattle.cf_store.specs.declared.shown.Room.{Room}
-use Rattle.cf_calls.specs.declared.refusals.AppendRefusal.{AppendRefusal}
-use Rattle.cf_calls.specs.declared.refusals.AppendRefusal.TheVariants.{Full, Nodes, Unfit, Frame, Memory}
+use Rattle.cf_store.specs.declared.refusals.AppendRefusal.{AppendRefusal}
+use Rattle.cf_store.specs.declared.refusals.AppendRefusal.TheVariants.{Full, Nodes, Unfit, Frame, Memory}
 
 -- a row of numbers
 abbrev pub numbers_row : ℕ → List ℕ → RowValue

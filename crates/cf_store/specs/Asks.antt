@@ -27,14 +27,14 @@ use Rattle.cf_store.specs.Values.{ShowsRow}
 use Rattle.cf_store.specs.declared.shown.Head.{Head}
 use Rattle.cf_store.specs.declared.shown.ShownValue.{ShownValue}
 use Rattle.cf_store.specs.declared.shown.Shown.{Shown}
-use Rattle.cf_calls.specs.declared.refusals.AskRefusal.{AskRefusal}
-use Rattle.cf_calls.specs.declared.refusals.AskRefusal.TheVariants.{NoQuestion, Memory}
-use Rattle.cf_calls.specs.declared.refusals.LineRefusal.{LineRefusal}
-use Rattle.cf_calls.specs.declared.refusals.LineRefusal.TheVariants as said
-use Rattle.cf_calls.specs.declared.refusals.LaneRefusal.{LaneRefusal}
-use Rattle.cf_calls.specs.declared.refusals.LaneRefusal.TheVariants as lanes
-use Rattle.cf_calls.specs.declared.refusals.RowRefusal.{RowRefusal}
-use Rattle.cf_calls.specs.declared.refusals.RowRefusal.TheVariants as rows
+use Rattle.cf_store.specs.declared.refusals.AskRefusal.{AskRefusal}
+use Rattle.cf_store.specs.declared.refusals.AskRefusal.TheVariants.{NoQuestion, Memory}
+use Rattle.cf_store.specs.declared.refusals.LineRefusal.{LineRefusal}
+use Rattle.cf_store.specs.declared.refusals.LineRefusal.TheVariants as said
+use Rattle.cf_store.specs.declared.refusals.LaneRefusal.{LaneRefusal}
+use Rattle.cf_store.specs.declared.refusals.LaneRefusal.TheVariants as lanes
+use Rattle.cf_store.specs.declared.refusals.RowRefusal.{RowRefusal}
+use Rattle.cf_store.specs.declared.refusals.RowRefusal.TheVariants as rows
 
 -- a bucket or key, and then the value that keeps the rows of the bucket apart, if one does
 abbrev pub keys_words : ℕ → Option ℕ → List ℕ

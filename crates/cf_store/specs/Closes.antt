@@ -6,9 +6,9 @@ use Rattle.cf_law.specs.Steps.{new_pass}
 use Rattle.cf_table.specs.Values.{PassValue}
 use Rattle.cf_table.specs.Moves.{HasGathered}
 use Rattle.cf_log.specs.Writers.{HasJoined}
-use Rattle.cf_home.specs.Homes.{AreAtHome, Comes, IsAwayAt, IsHome, Keeps, PlaceValue}
-use Rattle.cf_calls.specs.declared.refusals.CloseRefusal.{CloseRefusal}
-use Rattle.cf_calls.specs.declared.refusals.CloseRefusal.TheVariants.{Busy, Memory}
+use Rattle.cf_store.specs.Homes.{AreAtHome, Comes, IsAwayAt, IsHome, Keeps, PlaceValue}
+use Rattle.cf_store.specs.declared.refusals.CloseRefusal.{CloseRefusal}
+use Rattle.cf_store.specs.declared.refusals.CloseRefusal.TheVariants.{Busy, Memory}
 use Rattle.cf_store.specs.Opens.{IsLogWith}
 use Rattle.cf_store.specs.declared.held.Log.{Log}
 use Rattle.cf_store.specs.declared.held.Reader.{Reader}

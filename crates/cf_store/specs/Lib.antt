@@ -6,3 +6,5 @@ pub mod Asks
 pub mod Merges
 pub mod Closes
 pub mod Reports
+pub mod Homes
+pub mod Seen

@@ -5,8 +5,8 @@ use Rattle.std.specs.Global.{Global}
 use Rattle.cf_fold.specs.Quads.{QuadValue, IsQuad}
 use Rattle.cf_plain.specs.Segments.{merged, numbers_in}
 use Rattle.cf_store.specs.Asks.{groups_words}
-use Rattle.cf_calls.specs.declared.refusals.MergeRefusal.{MergeRefusal}
-use Rattle.cf_calls.specs.declared.refusals.MergeRefusal.TheVariants.{NoGroups, Memory}
+use Rattle.cf_store.specs.declared.refusals.MergeRefusal.{MergeRefusal}
+use Rattle.cf_store.specs.declared.refusals.MergeRefusal.TheVariants.{NoGroups, Memory}
 
 -- the quad of numbers that a log may have
 pub record IsToldQuad (q : QuadValue) : Type 0 where

@@ -12,15 +12,15 @@ use Rattle.cf_setup.specs.declared.parse.SetupFault.TheVariants as faults
 use Rattle.cf_law.specs.Steps.{new_pass}
 use Rattle.cf_law.specs.Events.{no_book}
 use Rattle.cf_table.specs.Values.{PassValue}
-use Rattle.cf_home.specs.Homes.{AreAway, Comes, IsAway, IsHomeAt, Keeps, PlaceValue, at_home, taken_home}
+use Rattle.cf_store.specs.Homes.{AreAway, Comes, IsAway, IsHomeAt, Keeps, PlaceValue, at_home, taken_home}
 use Rattle.cf_store.specs.declared.held.Log.{Log}
 use Rattle.cf_store.specs.declared.held.Writer.{Writer}
 use Rattle.cf_store.specs.declared.held.Reader.{Reader}
 use Rattle.cf_store.specs.declared.shown.Sizes.{Sizes as SizesValue}
-use Rattle.cf_calls.specs.declared.refusals.OpenRefusal.{OpenRefusal}
-use Rattle.cf_calls.specs.declared.refusals.OpenRefusal.TheVariants.{Setup, Sizes, Memory}
-use Rattle.cf_calls.specs.declared.refusals.TakeRefusal.{TakeRefusal}
-use Rattle.cf_calls.specs.declared.refusals.TakeRefusal.TheVariants as takes
+use Rattle.cf_store.specs.declared.refusals.OpenRefusal.{OpenRefusal}
+use Rattle.cf_store.specs.declared.refusals.OpenRefusal.TheVariants.{Setup, Sizes, Memory}
+use Rattle.cf_store.specs.declared.refusals.TakeRefusal.{TakeRefusal}
+use Rattle.cf_store.specs.declared.refusals.TakeRefusal.TheVariants as takes
 
 -- the sizes that a log may have
 pub record AreSizes (sizes : SizesValue) : Type 0 where

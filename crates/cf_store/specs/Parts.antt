@@ -2,7 +2,7 @@
 use Rattle.std.specs.Prelude.{◌≡◌, ◌≤◌, ℕ, List, Some, None, length, slice_get}
 use Rattle.cf_table.specs.Values.{PassValue, LogValue, IsOf, book_of}
 use Rattle.cf_append.specs.Appends.{IsReady}
-use Rattle.cf_home.specs.Homes.{PlaceValue}
+use Rattle.cf_store.specs.Homes.{PlaceValue}
 
 -- the place is that of a writer of the log: its pass is ready, or it was taken from there
 pub record IsPlaceOf (log : LogValue) (place : PlaceValue) : Type 0 where

@@ -3,14 +3,14 @@ ghost use Rattle.std.specs.Prelude.{◌≡◌, ◌≤◌, [], All, false, length
 ghost use Rattle.std.specs.Arc.{arc_value};
 ghost use Rattle.std.specs.Box.{box_value};
 ghost use Rattle.std.specs.Result.{result_map_both};
-ghost use Rattle.cf_home.specs.Homes.{HaveLooked, IsHome};
+ghost use Rattle.cf_store.specs.Homes.{HaveLooked, IsHome};
 ghost use Rattle.cf_store.specs.Closes.{Closes, IsEnd, IsTaken};
 ghost use Rattle.cf_store.specs.Opens.{IsLogWith};
 ghost use Rattle.cf_table.specs.Moves.{IsReading};
 
 use crate::held::{Log, Reader};
-use cf_calls::CloseRefusal;
-use cf_home::{find_away, take_home};
+use crate::places::{find_away, take_home};
+use crate::refusals::CloseRefusal;
 use cf_table::{ReaderPass, WriterPass};
 use std::alloc::Global;
 

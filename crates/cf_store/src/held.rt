@@ -5,12 +5,13 @@ ghost use Rattle.std.specs.Arc.{arc_value};
 ghost use Rattle.cf_law.specs.Steps.{new_pass};
 ghost use Rattle.cf_table.specs.Values.{IsOf};
 ghost use Rattle.cf_plain.specs.Asks.{suits_of, suits_trigger};
-ghost use Rattle.cf_home.specs.Homes.{MayCome};
+ghost use Rattle.cf_store.specs.Homes.{MayCome};
 ghost use Rattle.cf_table.specs.Moves.{IsReading};
 ghost use Rattle.cf_append.specs.Appends.{IsReady};
 ghost use Rattle.cf_store.specs.Parts.{AreNumbered, IsPlaceOf};
 
-use cf_home::{Place, Sent, Way};
+use crate::place::Place;
+use crate::way::{Sent, Way};
 use cf_setup::Setup;
 use cf_table::{MultiLog, ReaderPass, Root, WriterPass};
 use std::sync::Arc;

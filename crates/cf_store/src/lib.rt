@@ -1,21 +1,34 @@
 //! A log of a setup, its writers and its readers, each of which a program holds by itself and hands to a thread.
+//!
+//! A writer's pass leaves its place in the log with a way home, and comes back when the writer is freed, in any thread. A reader asks
+//! at the tail, or reports what it has seen.
 #![tactic(auto)]
 
+mod answers;
 mod close;
 mod held;
+mod law;
 mod line;
 mod log;
 mod merges;
+mod place;
+mod places;
 mod reader;
+mod refusals;
+mod report;
 mod shown;
+mod tags;
 mod values;
+mod way;
 mod writer;
 
-pub use cf_calls::{
-    AppendRefusal, AskRefusal, CloseRefusal, Code, LaneRefusal, LineRefusal, MergeRefusal,
-    OpenRefusal, RowRefusal, TakeRefusal, message_of,
-};
 pub use held::{Log, Reader, Writer};
+pub use law::seen_reports_are_histories;
 pub use log::measure;
 pub use merges::merge;
+pub use refusals::{
+    AppendRefusal, AskRefusal, CloseRefusal, LaneRefusal, LineRefusal, MergeRefusal, OpenRefusal,
+    RowRefusal, TakeRefusal,
+};
 pub use shown::{Capture, Fault, Framed, Head, Room, Shown, ShownValue, Sizes};
+pub use way::Sent;

@@ -6,8 +6,8 @@ ghost use Rattle.cf_store.specs.Asks.{AnswersLine, AsksLine, IsNewQuestion, Read
 
 use crate::held::{Reader, Shared};
 use crate::reader::{Told, is_keyed};
+use crate::refusals::LineRefusal;
 use crate::shown::Head;
-use cf_calls::LineRefusal;
 use cf_log::ask;
 use cf_plain::{Ask, suits};
 use cf_row::Memory;

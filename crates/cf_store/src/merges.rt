@@ -6,7 +6,7 @@ ghost use Rattle.cf_store.specs.Asks.{groups_words};
 ghost use Rattle.cf_store.specs.Merges.{AreGroups, CanMerge, IsToldQuad, Merges, group_at as group_at_of, groups_in, quad_at};
 
 use crate::reader::group_words;
-use cf_calls::MergeRefusal;
+use crate::refusals::MergeRefusal;
 use cf_fold::Quad;
 use cf_plain::{Finding, Group, Groups};
 use cf_row::Memory;

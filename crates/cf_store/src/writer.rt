@@ -10,9 +10,9 @@ ghost use Rattle.cf_log.specs.Appended.{HasAppended};
 ghost use Rattle.cf_store.specs.Appends.{AppendsFrame, AppendsFramed, AppendsFrames, AppendsPlain, AppendsRow, AppendsValues, IsRoomOf, IsFrame, StandsIn, numbers_row, frame_of, reads_link, row_by, bytes_in as bytes_in_of};
 
 use crate::held::Writer;
+use crate::refusals::AppendRefusal;
 use crate::shown::{Capture, Framed, Room, ShownValue};
 use crate::values::{are_values, row_of_values};
-use cf_calls::AppendRefusal;
 use cf_headers::{packet_row, packet6_row};
 use cf_log::{AppendFault, Leaves, append_near};
 use cf_pcap::{Frame, LinkSet};

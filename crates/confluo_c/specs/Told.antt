@@ -1,10 +1,10 @@
 -- What calls by handles tell, where one code and one out-value are not all.
 use Rattle.std.specs.Prelude.{◌≡◌, ℕ, IfErr, List, MatchOption, None, Option, Result}
-use Rattle.cf_calls.specs.Codes.{append_code, code_number, row_code}
-use Rattle.cf_calls.specs.Copied.{Copies}
-use Rattle.cf_calls.specs.declared.code.Code.{Code}
-use Rattle.cf_calls.specs.declared.refusals.LineRefusal.{LineRefusal}
-use Rattle.cf_calls.specs.declared.refusals.OpenRefusal.{OpenRefusal}
+use Rattle.cf_handles.specs.Codes.{append_code, code_number, row_code}
+use Rattle.cf_handles.specs.Copied.{Copies}
+use Rattle.cf_handles.specs.declared.code.Code.{Code}
+use Rattle.cf_store.specs.declared.refusals.LineRefusal.{LineRefusal}
+use Rattle.cf_store.specs.declared.refusals.OpenRefusal.{OpenRefusal}
 use Rattle.cf_handles.specs.Calls.{BatchBy, ByHandle, ForksTo, IsCoded, LineBy, OpensAt, TakesTo, Tells, TellsFault, count_or, line_fault, line_head, line_number, number_of, number_or}
 use Rattle.cf_handles.specs.Ends.{ClosesTo}
 use Rattle.cf_handles.specs.Named.{NamesTo}

@@ -1,18 +1,17 @@
 // What C calls without a handle.
 ghost use Rattle.std.specs.Prelude.{◌≡◌, ℕ, Result, Vec};
 ghost use Rattle.std.specs.Global.{Global as GlobalValue};
-ghost use Rattle.cf_calls.specs.Codes.{code_number, open_code, text_of};
-ghost use Rattle.cf_calls.specs.Copied.{Copies};
-ghost use Rattle.cf_calls.specs.declared.code.Code.{Code as CodeValue};
-ghost use Rattle.cf_calls.specs.declared.refusals.MergeRefusal.{MergeRefusal as MergeRefusalValue};
-ghost use Rattle.cf_calls.specs.declared.refusals.OpenRefusal.{OpenRefusal as OpenRefusalValue};
+ghost use Rattle.cf_handles.specs.Codes.{code_number, open_code, text_of};
+ghost use Rattle.cf_handles.specs.Copied.{Copies};
+ghost use Rattle.cf_handles.specs.declared.code.Code.{Code as CodeValue};
+ghost use Rattle.cf_store.specs.declared.refusals.MergeRefusal.{MergeRefusal as MergeRefusalValue};
+ghost use Rattle.cf_store.specs.declared.refusals.OpenRefusal.{OpenRefusal as OpenRefusalValue};
 ghost use Rattle.cf_handles.specs.Calls.{MergesTo, TellsFault, coded, told_or};
 ghost use Rattle.cf_store.specs.Merges.{Merges};
 ghost use Rattle.cf_store.specs.Opens.{Measures};
 
-use cf_calls::copy_part;
-use cf_handles::numbered;
-use cf_store::{Fault, Sizes, message_of};
+use cf_handles::{copy_part, logs, message_of, readers};
+use cf_store::{Fault, Sizes};
 use std::alloc::Global;
 
 /// The version of these calls: 1,000,000 for the major number, 1,000 for the minor one, 1 for the patch.
@@ -42,7 +41,7 @@ pub extern "C" fn confluo_check(
 ) -> u32
     ensures { (r : Result ℕ OpenRefusalValue) × Measures setup.now sizes.now r × TellsFault r fault.old fault.new result × (bytes.new ≡ told_or (coded open_code r) bytes.old) }
 {
-    numbered::confluo_check(alloc, setup, sizes, bytes, fault)
+    logs::confluo_check(alloc, setup, sizes, bytes, fault)
 }
 
 /// Merges two lists of groups, as `confluo_groups` tells them, and says how many words the merged list has.
@@ -56,5 +55,5 @@ pub extern "C" fn confluo_merge(
 ) -> u32
     ensures { (r : Result (Vec ℕ GlobalValue) MergeRefusalValue) × (code : CodeValue) × Merges one.now other.now r × MergesTo r out.old out.new count.old count.new code × (result ≡ code_number code) }
 {
-    numbered::confluo_merge(alloc, one, other, out, count)
+    readers::confluo_merge(alloc, one, other, out, count)
 }

@@ -1,6 +1,6 @@
 use Rattle.std.proofs.Common.{◌∙◌, ap, refl, subst}
 use Rattle.std.specs.Arc.{arc_value}
-use Rattle.cf_home.specs.Homes.{HaveLooked}
+use Rattle.cf_store.specs.Homes.{HaveLooked}
 use Rattle.cf_store.specs.Closes.{IsEnd}
 use Rattle.cf_store.specs.Opens.{IsLogWith}
 use Rattle.cf_store.specs.declared.held.Log.{Log}

@@ -1,6 +1,6 @@
 use Rattle.std.proofs.Common.{All, List, sym, subst}
 use Rattle.std.specs.Arc.{arc_value}
-use Rattle.cf_home.specs.Homes.{HaveLooked, PlaceValue}
+use Rattle.cf_store.specs.Homes.{HaveLooked, PlaceValue}
 use Rattle.cf_store.specs.Parts.{AreNumbered, IsPlaceOf}
 use Rattle.cf_store.proofs.Homeward.{looked_placed}
 use Rattle.cf_store.proofs.Numbered.{looked_numbered}

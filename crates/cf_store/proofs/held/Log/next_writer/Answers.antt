@@ -1,7 +1,7 @@
 use Rattle.std.proofs.Common.{All, List, refl, sym, subst}
 use Rattle.std.specs.Arc.{arc_value}
 use Rattle.std.specs.List.{AllZip}
-use Rattle.cf_home.specs.Homes.{AreAway, HaveLooked, IsHomeAt, Keeps, PlaceValue}
+use Rattle.cf_store.specs.Homes.{AreAway, HaveLooked, IsHomeAt, Keeps, PlaceValue}
 use Rattle.cf_store.specs.Parts.{AreNumbered, IsPlaceOf}
 use Rattle.cf_store.proofs.Homeward.{looked_placed}
 use Rattle.cf_store.proofs.Numbered.{looked_numbered}

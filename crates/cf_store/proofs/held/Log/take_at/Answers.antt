@@ -1,7 +1,7 @@
 use Rattle.std.proofs.Common.{◌≡◌, ◌∙◌, All, ◌∷◌, [], Some, None, slice_get, set, ap, refl, sym, subst, arith}
 use Rattle.std.specs.Arc.{arc_value}
 use Rattle.std.proofs.lemmas.Option.{slice_get_within}
-use Rattle.cf_home.specs.Homes.{PlaceValue, taken_home}
+use Rattle.cf_store.specs.Homes.{PlaceValue, taken_home}
 use Rattle.cf_append.specs.Appends.{IsReady}
 use Rattle.cf_store.specs.Parts.{AreNumbered, IsOfWriter, IsPlaceOf}
 use Rattle.cf_store.specs.declared.held.Shared.{Shared}

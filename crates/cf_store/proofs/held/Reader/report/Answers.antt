@@ -1,7 +1,7 @@
 use Rattle.std.proofs.Common.{◌≡◌, IfOk, refl, sym, subst}
 use Rattle.std.specs.Arc.{arc_value}
 use Rattle.cf_table.specs.Moves.{IsReading}
-use Rattle.cf_seen.specs.Seen.{seen_text}
+use Rattle.cf_store.specs.Seen.{seen_text}
 use Rattle.cf_store.proofs.Aware.{walked_aware}
 use Rattle.cf_store.proofs.Closed.{reading, reported}
 use Rattle.cf_store.specs.declared.held.Shared.{Shared}

@@ -1,2 +1,0 @@
-pub mod Abouts
-pub mod Names

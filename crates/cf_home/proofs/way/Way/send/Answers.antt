@@ -1,7 +1,0 @@
-use Rattle.std.proofs.Common.{List, sym, subst}
-use Rattle.cf_table.specs.Values.{PassValue}
-use Rattle.cf_home.specs.Homes.{MayCome}
-use Rattle.cf_home.proofs.way.Way.send.Goals as goal
-
-pub push_reserved-requires : goal.push_reserved-requires
-push_reserved-requires c = (c.self.invariant, subst (λ (w : List PassValue). MayCome w c.args.pass) (sym c.self.view_is) c.requires)

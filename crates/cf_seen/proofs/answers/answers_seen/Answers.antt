@@ -1,6 +1,0 @@
-use Rattle.cf_seen.proofs.Meant.{still_reading}
-use Rattle.cf_seen.proofs.answers.answers_seen.Goals as goal
-
-pub ask_seen-requires-clause-fit : goal.ask_seen-requires-clause-fit
-ask_seen-requires-clause-fit c =
-    (still_reading c.args.log.now c.args.pass.now c.loop-q.pass c.requires.reading c.loop-q.invariant.walked).fit
