@@ -1,5 +1,5 @@
 -- The words that a packet's row is made of spell its values.
-use Rattle.std.proofs.Common.{◌≡◌, ℕ, zero, suc, pred, List, [], ◌∷◌, ◌++◌, length, map, take, drop, replicate, get_or, refl, sym, ap, ap₂, subst, ◌∙◌, arith, append_assoc, length-append, append-nil}
+use Rattle.std.proofs.Common.{◌≡◌, ℕ, zero, suc, pred, ◌+◌, List, [], ◌∷◌, ◌++◌, length, map, take, drop, get_or, refl, sym, ap, ap₂, subst, ◌∙◌, arith, append_assoc, length-append, append-nil}
 use Rattle.std.proofs.lemmas.List.{drop_all, drop-drop}
 use Rattle.std.proofs.Math.Seq.{take-append_seam}
 use Rattle.cf_row.specs.declared.row.Value.{Value}
@@ -69,36 +69,22 @@ row_spell a b c m n e k v mac smac ns ts network transport by over first second 
     ap₂ (λ (x y : List ℕ). a ∷ b ∷ c ∷ m ∷ n ∷ e ∷ k ∷ (x ++ (y ++ v ∷ []))) (sym (six ns by)) (sym (six ts over))
     ∙ common_spell a b c m n e k v mac smac ns ts network transport first second are those
 
--- Twenty words, and twelve put where as many zeros stand behind them.
-pub both_put : (xs ys : List ℕ) → length xs ≡ 20 → take 20 (xs ++ replicate 12 0) ++ (ys ++ drop 12 (drop 20 (xs ++ replicate 12 0))) ≡ xs ++ ys
-both_put xs ys is =
-    let front : take 20 (xs ++ replicate 12 0) ≡ xs = subst (λ n. take n (xs ++ replicate 12 0) ≡ xs) is (take-append_seam xs (replicate 12 0)) in
-    let none : drop 12 (drop 20 (xs ++ replicate 12 0)) ≡ [] =
-    drop-drop 12 20 (xs ++ replicate 12 0) ∙ drop_all 32 (xs ++ replicate 12 0) (omega (arith, is, length-append xs (replicate 12 0))) in
+-- a list put where others stood behind another
+pub two_put : (n m : ℕ) (xs ys zs : List ℕ) → length xs ≡ n → length zs ≡ m → take n (xs ++ zs) ++ (ys ++ drop m (drop n (xs ++ zs))) ≡ xs ++ ys
+two_put n m xs ys zs is many =
+    let front : take n (xs ++ zs) ≡ xs = subst (λ k. take k (xs ++ zs) ≡ xs) is (take-append_seam xs zs) in
+    let none : drop m (drop n (xs ++ zs)) ≡ [] =
+    drop-drop m n (xs ++ zs) ∙ drop_all (n + m) (xs ++ zs) (omega (arith, is, many, length-append xs zs)) in
     ap₂ (λ (us vs : List ℕ). us ++ (ys ++ vs)) front none ∙ ap (λ (us : List ℕ). xs ++ us) (append-nil ys)
 
-pub twenty : (xs ys : List ℕ) → length xs ≡ 20 → take 20 (xs ++ ys) ≡ xs
-twenty xs ys is = subst (λ n. take n (xs ++ ys) ≡ xs) is (take-append_seam xs ys)
-
--- lists of four and of eight
-pub four : (xs : List ℕ) → length xs ≡ 4 → xs ≡ get_or xs 0 0 ∷ get_or xs 1 0 ∷ get_or xs 2 0 ∷ get_or xs 3 0 ∷ []
-four xs is = some_first 4 xs is
-
-pub eight : (xs : List ℕ) → length xs ≡ 8
-    → xs ≡ get_or xs 0 0 ∷ get_or xs 1 0 ∷ get_or xs 2 0 ∷ get_or xs 3 0 ∷ get_or xs 4 0 ∷ get_or xs 5 0 ∷ get_or xs 6 0 ∷ get_or xs 7 0 ∷ []
-eight xs is = some_first 8 xs is
+pub first_are : (n : ℕ) (xs ys : List ℕ) → length xs ≡ n → take n (xs ++ ys) ≡ xs
+first_are n xs ys is = subst (λ k. take k (xs ++ ys) ≡ xs) is (take-append_seam xs ys)
 
 -- what `packet6` has behind the words of both schemas
-pub rest_spell : (common : List ℕ) (shared addresses more : List Value) (ns ms : List ℕ) → length ns ≡ 4 → length ms ≡ 8
-    → common ≡ values_words shared → map Num ns ≡ addresses → map Num ms ≡ more
-    → common ++ (get_or ns 0 0 ∷ get_or ns 1 0 ∷ get_or ns 2 0 ∷ get_or ns 3 0
-    ∷ get_or ms 0 0 ∷ get_or ms 1 0 ∷ get_or ms 2 0 ∷ get_or ms 3 0 ∷ get_or ms 4 0 ∷ get_or ms 5 0 ∷ get_or ms 6 0 ∷ get_or ms 7 0 ∷ [])
-    ≡ values_words (shared ++ (addresses ++ more))
-rest_spell common shared addresses more ns ms few many spell are those =
-    let front : ns ++ ms ≡ get_or ns 0 0 ∷ get_or ns 1 0 ∷ get_or ns 2 0 ∷ get_or ns 3 0
-    ∷ get_or ms 0 0 ∷ get_or ms 1 0 ∷ get_or ms 2 0 ∷ get_or ms 3 0 ∷ get_or ms 4 0 ∷ get_or ms 5 0 ∷ get_or ms 6 0 ∷ get_or ms 7 0 ∷ [] =
-    ap₂ (λ (x y : List ℕ). x ++ y) (four ns few) (eight ms many) in
-    let numbers : ns ++ ms ≡ values_words (addresses ++ more) =
-    sym (words_append addresses more
-    ∙ ap₂ (λ (x y : List ℕ). x ++ y) (ap values_words (sym are) ∙ numbers_spell ns) (ap values_words (sym those) ∙ numbers_spell ms)) in
-    ap₂ (λ (x y : List ℕ). x ++ y) spell (sym front ∙ numbers) ∙ sym (words_append shared (addresses ++ more))
+pub rest_spell : (common ns ms : List ℕ) (shared addresses more : List Value)
+    → common ≡ values_words shared → map Num ns ≡ addresses → map Num ms ≡ more → common ++ (ns ++ ms) ≡ values_words (shared ++ (addresses ++ more))
+rest_spell common ns ms shared addresses more spell are those =
+    let numbers : values_words (addresses ++ more) ≡ ns ++ ms =
+    words_append addresses more
+    ∙ ap₂ (λ (x y : List ℕ). x ++ y) (ap values_words (sym are) ∙ numbers_spell ns) (ap values_words (sym those) ∙ numbers_spell ms) in
+    ap₂ (λ (x y : List ℕ). x ++ y) spell (sym numbers) ∙ sym (words_append shared (addresses ++ more))

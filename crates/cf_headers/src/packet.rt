@@ -1,6 +1,7 @@
 // The row of a captured packet.
-ghost use Rattle.std.specs.Prelude.{◌≡◌, ◌+◌, ◌≤◌, ◌++◌, length, map, take, IfOk, IfSome, IsOk, IsTrue};
+ghost use Rattle.std.specs.Prelude.{◌≡◌, ◌+◌, ◌≤◌, ◌∷◌, ◌++◌, ◌-◌, length, map, take, replicate, IfOk, IfSome, IsOk, IsTrue};
 ghost use Rattle.cf_row.specs.declared.row.Value.TheVariants.{Num};
+ghost use Rattle.cf_row.specs.declared.schema.TheConstants.{MOST_ATTRS};
 ghost use Rattle.cf_row.specs.Row.{Fits};
 ghost use Rattle.cf_row.specs.Schema.{packet_attrs};
 ghost use Rattle.cf_row.specs.Words.{values_words};
@@ -63,10 +64,21 @@ fn transport_words(transport: Transport, frame: &[u8]) -> [u64; 6]
     }
 }
 
-/// Of each value of a packet's row how many bytes it has, 0 for a number: two addresses have 6.
-pub(crate) const LENS: [u8; MOST_ATTRS] = [
-    0, 0, 0, 6, 6, 0, 0, 0, 0, 0, 0, 0, 0, 0, 0, 0, 0, 0, 0, 0, 0, 0, 0, 0, 0, 0, 0, 0, 0, 0, 0, 0,
-];
+/// How many values the rows of both schemas have.
+pub(crate) const COMMON: usize = 20;
+
+/// How many words may stand behind theirs.
+pub(crate) const MORE: usize = MOST_ATTRS - COMMON;
+
+// Of each value of a packet's row how many bytes it has, 0 for a number: two addresses have 6.
+pub(crate) fn lens() -> [u8; MOST_ATTRS]
+    ensures { result ≡ 0 ∷ 0 ∷ 0 ∷ 6 ∷ 6 ∷ replicate (MOST_ATTRS - 5) 0 }
+{
+    let mut lens = [0; MOST_ATTRS];
+    lens[3] = 6;
+    lens[4] = 6;
+    lens
+}
 
 // The words of the values that the rows of both schemas have. `ipv6` says whether the network header is one of IPv6.
 #[inline(always)]
@@ -76,7 +88,7 @@ pub(crate) fn common_words(
     layer: Layer,
     info: FrameInfo,
     bytes: &[u8],
-) -> [u64; 20]
+) -> [u64; COMMON]
     requires near { layer.place ≤ 28 }
     requires short { IfSome carried (λ c. layer.place + 20 ≤ length bytes.now) }
     requires long { IsTrue ipv6 → layer.place + 40 ≤ length bytes.now }
@@ -112,12 +124,12 @@ pub(crate) fn common_words(
 
 // The words of the values of both schemas, and others behind them.
 #[inline(always)]
-pub(crate) fn words_before(common: [u64; 20], rest: [u64; 12]) -> [u64; MOST_ATTRS]
+pub(crate) fn words_before(common: [u64; COMMON], rest: [u64; MORE]) -> [u64; MOST_ATTRS]
     ensures { result ≡ common ++ rest }
 {
     let mut words = [0; MOST_ATTRS];
-    words[..20].copy_from_slice(&common);
-    words[20..].copy_from_slice(&rest);
+    words[..COMMON].copy_from_slice(&common);
+    words[COMMON..].copy_from_slice(&rest);
     words
 }
 
@@ -128,7 +140,7 @@ fn packet_words(info: FrameInfo, bytes: &[u8]) -> [u64; MOST_ATTRS]
 {
     let layer = network_layer(PacketSchema::Packet, info.link, bytes);
     let carried = carried_in(false, layer.etype, layer.place, info.len, bytes);
-    words_before(common_words(false, carried, layer, info, bytes), [0; 12])
+    words_before(common_words(false, carried, layer, info, bytes), [0; MORE])
 }
 
 /// The row of a captured packet, of the packet schema, with the packet's number, from lent bytes. It is as [`packet_row`] says.
@@ -136,7 +148,7 @@ pub fn packet_row_of_bytes(info: FrameInfo, bytes: &[u8]) -> Row
     ensures row { result ≡ packet_row_of (frame_of info bytes.now) }
     ensures fits { Fits packet_attrs result }
 {
-    Row::of_words(info.num, 20, LENS, packet_words(info, bytes))
+    Row::of_words(info.num, COMMON as u8, lens(), packet_words(info, bytes))
 }
 
 /// The row of a captured packet, of the packet schema, with the packet's number. What isn't read is 0,

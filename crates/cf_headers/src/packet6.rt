@@ -1,5 +1,5 @@
 // The row of a captured packet with its IPv6 addresses and what more is asked of it.
-ghost use Rattle.std.specs.Prelude.{◌≡◌, ◌+◌, ◌≤◌, length, map, IfOk, IsOk, IsTrue};
+ghost use Rattle.std.specs.Prelude.{◌≡◌, ◌+◌, ◌≤◌, ◌++◌, length, map, IfOk, IsOk, IsTrue};
 ghost use Rattle.cf_row.specs.declared.row.Value.TheVariants.{Num};
 ghost use Rattle.cf_row.specs.Row.{Fits};
 ghost use Rattle.cf_row.specs.Schema6.{packet6_attrs};
@@ -14,19 +14,22 @@ use crate::frame::FrameInfo;
 use crate::ipv6::has_ipv6;
 use crate::layer::network_layer;
 use crate::more::more_words;
-use crate::packet::{LENS, common_words, words_before};
+use crate::packet::{MORE, common_words, lens, words_before};
 use cf_pcap::Frame;
 use cf_row::{MOST_ATTRS, Memory, PacketSchema, Row};
 use std::alloc::Global;
 
+// How many words the addresses have.
+const ADDRESSES: usize = 4;
+
 // src6, src6_low, dst6 and dst6_low.
-fn address6_words(ipv6: bool, at: usize, frame: &[u8]) -> [u64; 4]
+fn address6_words(ipv6: bool, at: usize, frame: &[u8]) -> [u64; ADDRESSES]
     requires near { at ≤ 28 }
     requires room { IsTrue ipv6 → at + 40 ≤ length frame.now }
     ensures { map Num result ≡ address6_values_of ipv6 at frame.now }
 {
     if !ipv6 {
-        return [0; 4];
+        return [0; ADDRESSES];
     }
     [
         u64_at(frame, at + 8),
@@ -34,6 +37,17 @@ fn address6_words(ipv6: bool, at: usize, frame: &[u8]) -> [u64; 4]
         u64_at(frame, at + 24),
         u64_at(frame, at + 32),
     ]
+}
+
+// The words of the addresses, and the others behind them.
+#[inline(always)]
+fn more_before(addresses: [u64; ADDRESSES], more: [u64; MORE - ADDRESSES]) -> [u64; MORE]
+    ensures { result ≡ addresses ++ more }
+{
+    let mut words = [0; MORE];
+    words[..ADDRESSES].copy_from_slice(&addresses);
+    words[ADDRESSES..].copy_from_slice(&more);
+    words
 }
 
 // The words of a packet's row.
@@ -45,21 +59,10 @@ fn packet6_words(info: FrameInfo, bytes: &[u8]) -> [u64; MOST_ATTRS]
     let ipv6 = has_ipv6(layer.etype, layer.place, bytes);
     let carried = carried_in(ipv6, layer.etype, layer.place, info.len, bytes);
     let common = common_words(ipv6, carried, layer, info, bytes);
-    let [src6, src6_low, dst6, dst6_low] = address6_words(ipv6, layer.place, bytes);
-    let [
-        payload,
-        icmp_type,
-        icmp_code,
-        is_fin,
-        is_syn,
-        is_rst,
-        is_ack,
-        flow,
-    ] = more_words(ipv6, layer.place, carried, bytes);
-    let rest = [
-        src6, src6_low, dst6, dst6_low, payload, icmp_type, icmp_code, is_fin, is_syn, is_rst,
-        is_ack, flow,
-    ];
+    let rest = more_before(
+        address6_words(ipv6, layer.place, bytes),
+        more_words(ipv6, layer.place, carried, bytes),
+    );
     words_before(common, rest)
 }
 
@@ -68,7 +71,12 @@ pub fn packet6_row_of_bytes(info: FrameInfo, bytes: &[u8]) -> Row
     ensures row { result ≡ packet6_row_of (frame_of info bytes.now) }
     ensures fits { Fits packet6_attrs result }
 {
-    Row::of_words(info.num, 32, LENS, packet6_words(info, bytes))
+    Row::of_words(
+        info.num,
+        MOST_ATTRS as u8,
+        lens(),
+        packet6_words(info, bytes),
+    )
 }
 
 /// The row of a captured packet, of the schema `packet6`, with the packet's number. What isn't read is 0, or zero bytes. Of a

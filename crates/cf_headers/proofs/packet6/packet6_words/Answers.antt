@@ -1,4 +1,4 @@
-use Rattle.std.proofs.Common.{◌∙◌, Bool, Option, ap, rules}
+use Rattle.std.proofs.Common.{◌++◌, List, ℕ, ◌∙◌, Bool, Option, ap}
 use Rattle.cf_row.specs.Words.{values_words}
 use Rattle.cf_pcap.specs.Capture.{FrameValue}
 use Rattle.cf_headers.specs.declared.carried.Carried.{Carried}
@@ -18,9 +18,10 @@ returns c =
     let ipv6 : Bool = c.has_ipv6-ipv6.result in
     let carried : Option Carried = c.carried_in-carried.result in
     c.words_before.ensures
-    ∙ (rest_spell c.common_words-common.result (common_values ipv6 carried layer packet) (address6_values ipv6 layer.place packet.bytes)
-    (more_values ipv6 layer.place carried packet.bytes) c.address6_words.result c.more_words.result (search rules) (search rules)
+    ∙ (ap (λ (rest : List ℕ). c.common_words-common.result ++ rest) c.more_before-rest.ensures
+    ∙ (rest_spell c.common_words-common.result c.address6_words.result c.more_words.result (common_values ipv6 carried layer packet)
+    (address6_values ipv6 layer.place packet.bytes) (more_values ipv6 layer.place carried packet.bytes)
     c.common_words-common.ensures c.address6_words.ensures c.more_words.ensures
     ∙ (ap (λ (o : Option Carried). values_words (values_by ipv6 o layer packet)) c.carried_in-carried.ensures.value
     ∙ (ap (λ (b : Bool). values_words (values_by b (carried_in b layer.etype layer.place packet.len packet.bytes) layer packet)) c.has_ipv6-ipv6.ensures.value
-    ∙ ap (λ (l : Layer). values_words (packet6_values l packet)) c.network_layer-layer.ensures.value)))
+    ∙ ap (λ (l : Layer). values_words (packet6_values l packet)) c.network_layer-layer.ensures.value))))
