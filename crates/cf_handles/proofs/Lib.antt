@@ -1,5 +1,3 @@
 pub mod Options
-pub mod AsLog
-pub mod AsWriter
-pub mod AsReader
+pub mod AsSeat
 pub mod Called

@@ -6,3 +6,5 @@ pub mod Codes
 pub mod Copied
 pub mod Abouts
 pub mod Names
+pub mod Lent
+pub mod Lends

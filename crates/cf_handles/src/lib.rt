@@ -2,18 +2,17 @@
 #![tactic(auto)]
 
 mod abouts;
-mod calls;
 mod code;
 mod copies;
-pub mod ends;
-mod handles;
-pub mod names;
-pub mod numbered;
+mod handle;
+pub mod logs;
 mod parts;
-mod seats;
+pub mod readers;
+mod seat;
 mod setup_names;
+pub mod writers;
 
 pub use abouts::About;
 pub use code::message_of;
 pub use copies::copy_part;
-pub use handles::{LogHandle, ReaderHandle, WriterHandle};
+pub use handle::{Handle, LogHandle, ReaderHandle, WriterHandle};

@@ -1,10 +1,14 @@
-use cf_handles::ends::{confluo_close, confluo_report};
-use cf_handles::names::{confluo_name, confluo_question, confluo_tell, confluo_width};
-use cf_handles::numbered::{
-    confluo_append, confluo_append_many, confluo_append_row, confluo_append_values, confluo_ask,
-    confluo_ask_seen, confluo_ask_text, confluo_check, confluo_free_log, confluo_free_reader,
-    confluo_free_writer, confluo_groups, confluo_merge, confluo_open, confluo_room_of, confluo_row,
-    confluo_tail, confluo_take_reader, confluo_take_writer, confluo_words,
+use cf_handles::logs::{
+    confluo_check, confluo_close, confluo_free_log, confluo_name, confluo_open, confluo_question,
+    confluo_take_reader, confluo_take_writer, confluo_tell, confluo_width,
+};
+use cf_handles::readers::{
+    confluo_ask, confluo_ask_seen, confluo_ask_text, confluo_free_reader, confluo_groups,
+    confluo_merge, confluo_report, confluo_row, confluo_tail, confluo_words,
+};
+use cf_handles::writers::{
+    confluo_append, confluo_append_many, confluo_append_row, confluo_append_values,
+    confluo_free_writer, confluo_room_of,
 };
 use cf_handles::{About, LogHandle, ReaderHandle, WriterHandle, copy_part, message_of};
 use cf_store::{Capture, Fault, Framed, Head, Room, ShownValue, Sizes};

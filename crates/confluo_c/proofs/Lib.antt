@@ -1,5 +1,3 @@
 pub mod Options
 pub mod Steps
-pub mod LeadsReader
-pub mod LeadsLog
-pub mod LeadsWriter
+pub mod Leads

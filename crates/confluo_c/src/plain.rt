@@ -10,7 +10,7 @@ ghost use Rattle.cf_handles.specs.Calls.{MergesTo, TellsFault, coded, told_or};
 ghost use Rattle.cf_store.specs.Merges.{Merges};
 ghost use Rattle.cf_store.specs.Opens.{Measures};
 
-use cf_handles::{copy_part, message_of, numbered};
+use cf_handles::{copy_part, logs, message_of, readers};
 use cf_store::{Fault, Sizes};
 use std::alloc::Global;
 
@@ -41,7 +41,7 @@ pub extern "C" fn confluo_check(
 ) -> u32
     ensures { (r : Result ℕ OpenRefusalValue) × Measures setup.now sizes.now r × TellsFault r fault.old fault.new result × (bytes.new ≡ told_or (coded open_code r) bytes.old) }
 {
-    numbered::confluo_check(alloc, setup, sizes, bytes, fault)
+    logs::confluo_check(alloc, setup, sizes, bytes, fault)
 }
 
 /// Merges two lists of groups, as `confluo_groups` tells them, and says how many words the merged list has.
@@ -55,5 +55,5 @@ pub extern "C" fn confluo_merge(
 ) -> u32
     ensures { (r : Result (Vec ℕ GlobalValue) MergeRefusalValue) × (code : CodeValue) × Merges one.now other.now r × MergesTo r out.old out.new count.old count.new code × (result ≡ code_number code) }
 {
-    numbered::confluo_merge(alloc, one, other, out, count)
+    readers::confluo_merge(alloc, one, other, out, count)
 }

@@ -1,4 +1,4 @@
-// The bytes of a handle, whatever it leads to.
+// The bytes of a handle, whatever it leads to. C sees no type parameter: a call takes a pointer to these bytes, and reads a `Handle` there.
 use std::alloc::Global;
 
 /// Where a handle's value is, and where its memory comes from.

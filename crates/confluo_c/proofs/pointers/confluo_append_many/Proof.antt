@@ -4,17 +4,17 @@ use Rattle.cf_store.specs.contracts.shown.Framed.{the_row as framed_row}
 use Rattle.confluo_c.specs.Told.{BatchTold}
 use Rattle.cf_store.specs.declared.held.Writer.{Writer}
 use Rattle.std.specs.contracts.alloc.Global as Heap
-use Rattle.cf_handles.proofs.AsReader.{E}
-use Rattle.confluo_c.proofs.LeadsWriter as writers
+use Rattle.cf_handles.proofs.AsSeat.{al}
+use Rattle.confluo_c.proofs.Leads.{closes, opens}
 use Rattle.confluo_c.specs.Leads.{handle_owns, leads_to, writer_at}
 use Rattle.cf_store.specs.contracts.held.Writer as HeldWriter
 use Rattle.confluo_c.specs.contracts.raw.RawHandle as Bytes
-use Rattle.cf_handles.specs.contracts.handles.writer.WriterHandle as WriterHandle
+use Rattle.cf_handles.specs.contracts.handle.Handle as Handle
 use Rattle.confluo_c.specs.contracts.pointers.confluo_append_many as f
 use Rattle.confluo_c.proofs.pointers.confluo_append_many.Statement.{statement}
 use Rattle.confluo_c.proofs.pointers.confluo_append_many.Code as code
-use Rattle.cf_handles.specs.contracts.numbered.confluo_append_many as g
-use Rattle.cf_handles.proofs.numbered.confluo_append_many.Met.{met}
+use Rattle.cf_handles.specs.contracts.writers.confluo_append_many as g
+use Rattle.cf_handles.proofs.writers.confluo_append_many.Met.{met}
 
 abbrev stayed : Stays f.ended.signature.params f.ended.kept
 stayed = (
@@ -26,7 +26,7 @@ stayed = (
 )
 
 abbrev R : RattleType
-R = WriterHandle.the_row
+R = Handle.the_row HeldWriter.the_row
 
 pub confluo_append_many_spec : {M : Type 1} → statement M
 confluo_append_many_spec 𝓤 𝓛 𝓜 𝓡 wired =
@@ -51,7 +51,7 @@ confluo_append_many_spec 𝓤 𝓛 𝓜 𝓡 wired =
     qed 𝓛 (((‵ (flft κ q) ⊛ (‵ (flft κ₂ q₂) ⊛ (‵ (flft κ₃ q₃) ⊛ (‵ (flft κ₄ q₄) ⊛ ‵ ftrue)))) ⊛ ‵
     (owns (Heap.the_row ∷ RawPtr ∷ ShrSlice (named 0) κ framed_row ∷ ShrSlice (named 1) κ₂ u8 ∷ MutSlice (named 2) κ₃ u32 ∷ MutRef (named 3) κ₄ usize ∷ [])
     (a, (p, (frames, (bytes, (offsets, (many, tt)))))) z.0.4)) ∷ ‵ (writer_at p x) ∷ []) ∵
-    split ! $ move ! (1 ∷ []) $ fsplit ! $ handle_tells E.al ! a z.0.4.0
+    split ! $ move ! (1 ∷ []) $ fsplit ! $ handle_tells al ! a z.0.4.0
     (λ hv eh fa. move ! (1 ∷ []) $ fsplit ! $ feq_l !
     (λ ep. fsplit ! $ rewrite ! 0 (λ (us : List Val). ‵ ((ShrSlice (named 0) κ framed_row).own_val frames us)) (are.1.1.0.0.0) refl $
     move ! (1 ∷ []) $ fsplit ! $ rewrite ! 0 (λ (us : List Val). ‵ ((ShrSlice (named 1) κ₂ u8).own_val bytes us)) (are.1.1.1.0.0.0) refl $
@@ -70,7 +70,7 @@ confluo_append_many_spec 𝓤 𝓛 𝓜 𝓡 wired =
     (sym (λ i. eh i ++
     ((ep ∙ ap (λ (r : Ptr). ptr_val r ∷ []) e) i ++ (are.1.1.0.0.0 i ++ (are.1.1.1.0.0.0 i ++ (are.1.1.1.1.0.0.0 i ++ (are.1.1.1.1.1.0.0 i ++ [])))))))
     (qed 𝓛 Γ ∵ move ! (2 ∷ []) $ drop ! $
-    use1 𝓛 (some (λ (k : R.Denot). ‵ (part_at R full_share k b o) ⊛ raw (fact 𝓤 (k.seat.held ≡ x)))) (writers.opens 𝓛 b o h x) $ pick !
+    use1 𝓛 (some (λ (k : R.Denot). ‵ (part_at R full_share k b o) ⊛ raw (fact 𝓤 (k.seat.held ≡ x)))) (opens HeldWriter.the_row 𝓛 b o h x) $ pick !
     (λ k. split ! $ move ! (1 ∷ []) $ heard ! _ (λ led.
     enter ! 𝓣.C 𝓣.Λ code.function
     (hv ∷ vptr b o ∷ slice_val frames.ref_ptr (length frames.now) ∷ slice_val bytes.ref_ptr (length bytes.now) ∷ slice_val offsets.ref_ptr
@@ -90,7 +90,7 @@ confluo_append_many_spec 𝓤 𝓛 𝓜 𝓡 wired =
     (some (λ (δ : ℕ). ‵ ((MutRef (named 0) (α ∷ []) R).own_val (record { ref_ptr = (b, o); ghost_name = δ; now = k }) (vptr b o ∷ [])) ⊛ ‵
     (flent (α ∷ []) (Body (mem R) b o δ)))))
     (lends_ref 𝓛 R (named 0) (α ∷ []) k b o) $ await ! tt $ pick ! (λ δ. split ! $
-    sets ! (of_opd ! (get ! refl)) refl fa $ first ! $ blocks ! $ sets_last ! (addr ! (through ! refl (stop !))) refl (tt, tt) $
+    sets ! (of_opd ! (get ! refl)) refl fa $ first ! $ blocks ! $ sets ! (of_opd ! (get ! refl)) refl (tt, tt) $ sets_last ! (addr ! (through ! refl (stop !))) refl (tt, tt) $
     exec ! 𝓣.C 𝓣.Λ (env code.Mir.locals ls) code.Mir.t-3 (at_ret (env code.Mir.locals ls) Post) $
     sets ! (of_opd ! (get ! refl)) refl (tt, tt) $ sets ! (of_opd ! (get ! refl)) refl (tt, (tt, (record { fits = are.1.1.0.0.1.0 }, tt))) $ sets !
     (of_opd ! (get ! refl)) refl (tt, (tt, (record { fits = are.1.1.1.0.0.1.0 }, tt))) $ sets !
@@ -124,7 +124,7 @@ confluo_append_many_spec 𝓤 𝓛 𝓜 𝓡 wired =
     nothing ! $ move ! (4 ∷ 0 ∷ []) $ join ! $ move ! (4 ∷ 0 ∷ []) $ join ! $ move ! (4 ∷ 0 ∷ []) $ join ! $ move ! (4 ∷ 0 ∷ []) $ join ! $ move !
     (1 ∷ 0 ∷ []) $ join ! $ move ! (3 ∷ 0 ∷ []) $ join ! $ move ! (2 ∷ 3 ∷ []) $ join ! $ join ! $
     nothing ! $ move ! (1 ∷ 0 ∷ []) $ use2 𝓛 (raw (G.pre y)) (id⊢ 𝓤 _) $
-    calls_at ! (framed 𝓤 𝓛.H 𝓜 𝓣) G (met 𝓤 𝓛 𝓜 𝓡 (code.calls-cf_handles::numbered::confluo_append_many 𝓡.env wired)) y
+    calls_at ! (framed 𝓤 𝓛.H 𝓜 𝓣) G (met 𝓤 𝓛 𝓜 𝓡 (code.calls-cf_handles::writers::confluo_append_many 𝓡.env wired)) y
     (and_then ! (get ! refl)
     (and_then ! (get ! refl) (and_then ! (get ! refl) (and_then ! (get ! refl) (and_then ! (get ! refl) (and_then ! (get ! refl) (no_more !))))))) (λ v.
     use1 𝓛 (later
@@ -136,7 +136,7 @@ confluo_append_many_spec 𝓤 𝓛 𝓜 𝓡 wired =
     (λ r. split ! $ split ! $ split ! $ lft_end ! tt $ move ! (3 ∷ []) $ pick ! (λ ws. split ! $ move ! (1 ∷ []) $ heard ! _ (λ did. let k' = ws.1.0 in
     fsplit ! $ drop ! $ fsplit ! $ fsplit ! $ move ! (1 ∷ []) $ drop ! $ move ! (2 ∷ 5 ∷ 0 ∷ []) $
     use3 𝓛 (later (‵ (part_at R full_share k' b o))) (ref_back 𝓛 R (α ∷ []) δ k' b o) $ await ! tt $
-    use1 𝓛 (‵ (leads_to HeldWriter.the_row (block_ptr b o) k'.seat.held)) (writers.closes 𝓛 b o k') $
+    use1 𝓛 (‵ (leads_to HeldWriter.the_row (block_ptr b o) k'.seat.held)) (closes HeldWriter.the_row 𝓛 b o k') $
     rewrite ! 0 (λ (r : Ptr). ‵ (leads_to HeldWriter.the_row r k'.seat.held)) (sym e) refl $ move ! (1 ∷ []) $ fsplit ! $ move ! (1 ∷ []) $ fsplit ! $ move !
     (1 ∷ []) $ fsplit ! $ fsplit ! $ fsplit ! $ move ! (1 ∷ []) $ feq_l ! (λ same. fjoin ! $
     join ! $ move ! (1 ∷ 0 ∷ []) $ join ! $ move ! (1 ∷ 0 ∷ []) $ join ! $ move ! (3 ∷ []) $

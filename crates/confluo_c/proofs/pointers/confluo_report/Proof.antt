@@ -5,23 +5,23 @@ use Rattle.cf_handles.specs.Ends.{ReportsTo}
 use Rattle.std.specs.Prelude.{None}
 use Rattle.cf_store.specs.declared.held.Reader.{Reader}
 use Rattle.std.specs.contracts.alloc.Global as Heap
-use Rattle.cf_handles.proofs.AsReader.{E}
-use Rattle.confluo_c.proofs.LeadsReader as readers
+use Rattle.cf_handles.proofs.AsSeat.{al}
+use Rattle.confluo_c.proofs.Leads.{closes, opens}
 use Rattle.confluo_c.specs.Leads.{handle_owns, leads_to, reader_at}
 use Rattle.cf_store.specs.contracts.held.Reader as HeldReader
 use Rattle.confluo_c.specs.contracts.raw.RawHandle as Bytes
-use Rattle.cf_handles.specs.contracts.handles.reader.ReaderHandle as ReaderHandle
+use Rattle.cf_handles.specs.contracts.handle.Handle as Handle
 use Rattle.confluo_c.specs.contracts.pointers.confluo_report as f
 use Rattle.confluo_c.proofs.pointers.confluo_report.Statement.{statement}
 use Rattle.confluo_c.proofs.pointers.confluo_report.Code as code
-use Rattle.cf_handles.specs.contracts.ends.confluo_report as g
-use Rattle.cf_handles.proofs.ends.confluo_report.Met.{met}
+use Rattle.cf_handles.specs.contracts.readers.confluo_report as g
+use Rattle.cf_handles.proofs.readers.confluo_report.Met.{met}
 
 abbrev stayed : Stays f.ended.signature.params f.ended.kept
 stayed = (stay_dropped _ yes, (stay_dropped _ yes, (gave_slice (0 ∷ []) tt (plain (λ _. u8)), (gave_ref (1 ∷ []) tt (plain (λ _. usize)), tt))))
 
 abbrev R : RattleType
-R = ReaderHandle.the_row
+R = Handle.the_row HeldReader.the_row
 
 pub confluo_report_spec : {M : Type 1} → statement M
 confluo_report_spec 𝓤 𝓛 𝓜 𝓡 wired =
@@ -39,7 +39,7 @@ confluo_report_spec 𝓤 𝓛 𝓜 𝓡 wired =
     qed 𝓛 (((‵ (flft κ q) ⊛ (‵ (flft κ₂ q₂) ⊛ ‵ ftrue)) ⊛ ‵
     (owns (Heap.the_row ∷ RawPtr ∷ MutSlice (named 0) κ u8 ∷ MutRef (named 1) κ₂ usize ∷ []) (a, (p, (text, (count, tt)))) z.0.4)) ∷ ‵
     (reader_at p x) ∷ []) ∵
-    split ! $ move ! (1 ∷ []) $ fsplit ! $ handle_tells E.al ! a z.0.4.0
+    split ! $ move ! (1 ∷ []) $ fsplit ! $ handle_tells al ! a z.0.4.0
     (λ hv eh fa. move ! (1 ∷ []) $ fsplit ! $ feq_l !
     (λ ep. fsplit ! $ rewrite ! 0 (λ (us : List Val). ‵ ((MutSlice (named 0) κ u8).own_val text us)) (are.1.1.0.0.0) refl $
     move ! (1 ∷ []) $ fsplit ! $ rewrite ! 0 (λ (us : List Val). ‵ ((MutRef (named 1) κ₂ usize).own_val count us)) (are.1.1.1.0.0) refl $
@@ -53,7 +53,7 @@ confluo_report_spec 𝓤 𝓛 𝓜 𝓡 wired =
     by ! (subst (λ (us : List Val). ent 𝓤 (⋆ 𝓛 Γ) (WpFn 𝓤 𝓛.H 𝓣.C 𝓣.Λ code.function us Post))
     (sym (λ i. eh i ++ ((ep ∙ ap (λ (r : Ptr). ptr_val r ∷ []) e) i ++ (are.1.1.0.0.0 i ++ (are.1.1.1.0.0 i ++ [])))))
     (qed 𝓛 Γ ∵ move ! (2 ∷ []) $ drop ! $
-    use1 𝓛 (some (λ (k : R.Denot). ‵ (part_at R full_share k b o) ⊛ raw (fact 𝓤 (k.seat.held ≡ x)))) (readers.opens 𝓛 b o h x) $ pick !
+    use1 𝓛 (some (λ (k : R.Denot). ‵ (part_at R full_share k b o) ⊛ raw (fact 𝓤 (k.seat.held ≡ x)))) (opens HeldReader.the_row 𝓛 b o h x) $ pick !
     (λ k. split ! $ move ! (1 ∷ []) $ heard ! _ (λ led.
     enter ! 𝓣.C 𝓣.Λ code.function (hv ∷ vptr b o ∷ slice_val text.ref_ptr (length text.now) ∷ vptr count.ref_ptr.0 count.ref_ptr.1 ∷ []) _ $ alloc_all !
     (λ ls. pass_all ! refl (fa, ((tt, tt), ((tt, (tt, (record { fits = are.1.1.0.0.1.0 }, tt))), ((tt, tt), tt)))) $
@@ -62,7 +62,7 @@ confluo_report_spec 𝓤 𝓛 𝓜 𝓡 wired =
     (some (λ (δ : ℕ). ‵ ((MutRef (named 0) (α ∷ []) R).own_val (record { ref_ptr = (b, o); ghost_name = δ; now = k }) (vptr b o ∷ [])) ⊛ ‵
     (flent (α ∷ []) (Body (mem R) b o δ)))))
     (lends_ref 𝓛 R (named 0) (α ∷ []) k b o) $ await ! tt $ pick ! (λ δ. split ! $
-    sets ! (of_opd ! (get ! refl)) refl fa $ first ! $ blocks ! $ sets_last ! (addr ! (through ! refl (stop !))) refl (tt, tt) $
+    sets ! (of_opd ! (get ! refl)) refl fa $ first ! $ blocks ! $ sets ! (of_opd ! (get ! refl)) refl (tt, tt) $ sets_last ! (addr ! (through ! refl (stop !))) refl (tt, tt) $
     exec ! 𝓣.C 𝓣.Λ (env code.Mir.locals ls) code.Mir.t-3 (at_ret (env code.Mir.locals ls) Post) $
     sets ! (of_opd ! (get ! refl)) refl (tt, tt) $ sets ! (addr ! (from ! (fld ! refl (hop ! (look_in_at ! 3 (sub ! 0 refl (whole !))) (stop !))))) refl
     (tt, tt) $
@@ -83,7 +83,7 @@ confluo_report_spec 𝓤 𝓛 𝓜 𝓡 wired =
     nothing ! $ move ! (4 ∷ 0 ∷ []) $ join ! $ move ! (4 ∷ 0 ∷ []) $ join ! $ move ! (1 ∷ 0 ∷ []) $ join ! $ move ! (3 ∷ 0 ∷ []) $ join ! $ move !
     (2 ∷ 3 ∷ []) $ join ! $ join ! $
     nothing ! $ move ! (1 ∷ 0 ∷ []) $ use2 𝓛 (raw (G.pre y)) (id⊢ 𝓤 _) $
-    calls_at ! (framed 𝓤 𝓛.H 𝓜 𝓣) G (met 𝓤 𝓛 𝓜 𝓡 (code.calls-cf_handles::ends::confluo_report 𝓡.env wired)) y
+    calls_at ! (framed 𝓤 𝓛.H 𝓜 𝓣) G (met 𝓤 𝓛 𝓜 𝓡 (code.calls-cf_handles::readers::confluo_report 𝓡.env wired)) y
     (and_then ! (get ! refl) (and_then ! (get ! refl) (and_then ! (get ! refl) (and_then ! (get ! refl) (no_more !))))) (λ v.
     use1 𝓛 (later (some (λ (r : ℕ). ((‵ (flft (α ∷ []) full_share) ⊛ (‵ (flft κ q) ⊛ (‵ (flft κ₂ q₂) ⊛ ‵ ftrue))) ⊛ ‵ (u32.own_val r (v ∷ []))) ⊛
     some (λ (ws : Unit {0} × (R.Denot × (List ℕ × (ℕ × Unit {0})))). ‵ (lasts g.ended y.0.0 y.0.3 ws) ⊛
@@ -94,7 +94,7 @@ confluo_report_spec 𝓤 𝓛 𝓜 𝓡 wired =
     (λ ws. split ! $ move ! (1 ∷ []) $ split ! $ heard ! _ (λ did₁. heard ! _ (λ did₂. let k' = ws.1.0 in
     fsplit ! $ drop ! $ fsplit ! $ fsplit ! $ move ! (1 ∷ []) $ drop ! $ move ! (2 ∷ 5 ∷ 0 ∷ []) $
     use3 𝓛 (later (‵ (part_at R full_share k' b o))) (ref_back 𝓛 R (α ∷ []) δ k' b o) $ await ! tt $
-    use1 𝓛 (‵ (leads_to HeldReader.the_row (block_ptr b o) k'.seat.held)) (readers.closes 𝓛 b o k') $
+    use1 𝓛 (‵ (leads_to HeldReader.the_row (block_ptr b o) k'.seat.held)) (closes HeldReader.the_row 𝓛 b o k') $
     rewrite ! 0 (λ (r : Ptr). ‵ (leads_to HeldReader.the_row r k'.seat.held)) (sym e) refl $ move ! (1 ∷ []) $ fsplit ! $ fsplit ! $ fsplit ! $ move !
     (1 ∷ []) $ feq_l ! (λ same. fjoin ! $
     join ! $ move ! (3 ∷ []) $

@@ -4,23 +4,23 @@ use Rattle.cf_store.specs.contracts.shown.Room.{the_row as room_row}
 use Rattle.cf_handles.specs.Calls.{IsRoom, Tells}
 use Rattle.cf_store.specs.declared.held.Writer.{Writer}
 use Rattle.std.specs.contracts.alloc.Global as Heap
-use Rattle.cf_handles.proofs.AsReader.{E}
-use Rattle.confluo_c.proofs.LeadsWriter as writers
+use Rattle.cf_handles.proofs.AsSeat.{al}
+use Rattle.confluo_c.proofs.Leads.{closes, opens}
 use Rattle.confluo_c.specs.Leads.{handle_owns, leads_to, writer_at}
 use Rattle.cf_store.specs.contracts.held.Writer as HeldWriter
 use Rattle.confluo_c.specs.contracts.raw.RawHandle as Bytes
-use Rattle.cf_handles.specs.contracts.handles.writer.WriterHandle as WriterHandle
+use Rattle.cf_handles.specs.contracts.handle.Handle as Handle
 use Rattle.confluo_c.specs.contracts.pointers.confluo_room_of as f
 use Rattle.confluo_c.proofs.pointers.confluo_room_of.Statement.{statement}
 use Rattle.confluo_c.proofs.pointers.confluo_room_of.Code as code
-use Rattle.cf_handles.specs.contracts.numbered.confluo_room_of as g
-use Rattle.cf_handles.proofs.numbered.confluo_room_of.Met.{met}
+use Rattle.cf_handles.specs.contracts.writers.confluo_room_of as g
+use Rattle.cf_handles.proofs.writers.confluo_room_of.Met.{met}
 
 abbrev stayed : Stays f.ended.signature.params f.ended.kept
 stayed = (stay_dropped _ yes, (stay_dropped _ yes, (gave_ref (0 ∷ []) tt (plain (λ _. room_row)), tt)))
 
 abbrev R : RattleType
-R = WriterHandle.the_row
+R = Handle.the_row HeldWriter.the_row
 
 pub confluo_room_of_spec : {M : Type 1} → statement M
 confluo_room_of_spec 𝓤 𝓛 𝓜 𝓡 wired =
@@ -33,7 +33,7 @@ confluo_room_of_spec 𝓤 𝓛 𝓜 𝓡 wired =
     (λ z are. let κ = z.0.0.0 in let q = z.0.1.0 in let a = z.0.3.0 in let p = z.0.3.1.0 in let room = z.0.3.1.1.0 in let x = z.1 in let Post = W.post z in
     qed 𝓛 (((‵ (flft κ q) ⊛ ‵ ftrue) ⊛ ‵ (owns (Heap.the_row ∷ RawPtr ∷ MutRef (named 0) κ room_row ∷ []) (a, (p, (room, tt))) z.0.4)) ∷ ‵
     (writer_at p x) ∷ []) ∵
-    split ! $ move ! (1 ∷ []) $ fsplit ! $ handle_tells E.al ! a z.0.4.0
+    split ! $ move ! (1 ∷ []) $ fsplit ! $ handle_tells al ! a z.0.4.0
     (λ hv eh fa. move ! (1 ∷ []) $ fsplit ! $ feq_l !
     (λ ep. fsplit ! $ rewrite ! 0 (λ (us : List Val). ‵ ((MutRef (named 0) κ room_row).own_val room us)) (are.1.1.0.0) refl $
     move ! (4 ∷ []) $ fpick ! (λ h. fsplit ! $ in_a_block ! p (λ r. lies_at Bytes.the_row full_share r h) (id⊢ 𝓤 _) (λ b o e. fjoin ! $
@@ -45,7 +45,7 @@ confluo_room_of_spec 𝓤 𝓛 𝓜 𝓡 wired =
     by ! (subst (λ (us : List Val). ent 𝓤 (⋆ 𝓛 Γ) (WpFn 𝓤 𝓛.H 𝓣.C 𝓣.Λ code.function us Post))
     (sym (λ i. eh i ++ ((ep ∙ ap (λ (r : Ptr). ptr_val r ∷ []) e) i ++ (are.1.1.0.0 i ++ []))))
     (qed 𝓛 Γ ∵ move ! (2 ∷ []) $ drop ! $
-    use1 𝓛 (some (λ (k : R.Denot). ‵ (part_at R full_share k b o) ⊛ raw (fact 𝓤 (k.seat.held ≡ x)))) (writers.opens 𝓛 b o h x) $ pick !
+    use1 𝓛 (some (λ (k : R.Denot). ‵ (part_at R full_share k b o) ⊛ raw (fact 𝓤 (k.seat.held ≡ x)))) (opens HeldWriter.the_row 𝓛 b o h x) $ pick !
     (λ k. split ! $ move ! (1 ∷ []) $ heard ! _ (λ led.
     enter ! 𝓣.C 𝓣.Λ code.function (hv ∷ vptr b o ∷ vptr room.ref_ptr.0 room.ref_ptr.1 ∷ []) _ $ alloc_all !
     (λ ls. pass_all ! refl (fa, ((tt, tt), ((tt, tt), tt))) $
@@ -54,7 +54,7 @@ confluo_room_of_spec 𝓤 𝓛 𝓜 𝓡 wired =
     (some (λ (δ : ℕ). ‵ ((MutRef (named 0) (α ∷ []) R).own_val (record { ref_ptr = (b, o); ghost_name = δ; now = k }) (vptr b o ∷ [])) ⊛ ‵
     (flent (α ∷ []) (Body (mem R) b o δ)))))
     (lends_ref 𝓛 R (named 0) (α ∷ []) k b o) $ await ! tt $ pick ! (λ δ. split ! $
-    sets ! (of_opd ! (get ! refl)) refl fa $ first ! $ blocks ! $ sets_last ! (addr ! (through ! refl (stop !))) refl (tt, tt) $
+    sets ! (of_opd ! (get ! refl)) refl fa $ first ! $ blocks ! $ sets ! (of_opd ! (get ! refl)) refl (tt, tt) $ sets_last ! (addr ! (through ! refl (stop !))) refl (tt, tt) $
     exec ! 𝓣.C 𝓣.Λ (env code.Mir.locals ls) code.Mir.t-3 (at_ret (env code.Mir.locals ls) Post) $
     sets ! (of_opd ! (get ! refl)) refl (tt, tt) $ sets ! (addr ! (through ! refl (stop !))) refl (tt, tt) $
     let G = triple_of 𝓛 g.signature (g.spec 𝓛 𝓜.mem 𝓡.returns) in
@@ -65,7 +65,7 @@ confluo_room_of_spec 𝓤 𝓛 𝓜 𝓡 wired =
     ) in
     nothing ! $ move ! (4 ∷ 0 ∷ []) $ join ! $ move ! (1 ∷ 0 ∷ []) $ join ! $ move ! (3 ∷ 0 ∷ []) $ join ! $ move ! (2 ∷ 3 ∷ []) $ join ! $ join ! $
     nothing ! $ move ! (1 ∷ 0 ∷ []) $ use2 𝓛 (raw (G.pre y)) (id⊢ 𝓤 _) $
-    calls_at ! (framed 𝓤 𝓛.H 𝓜 𝓣) G (met 𝓤 𝓛 𝓜 𝓡 (code.calls-cf_handles::numbered::confluo_room_of 𝓡.env wired)) y
+    calls_at ! (framed 𝓤 𝓛.H 𝓜 𝓣) G (met 𝓤 𝓛 𝓜 𝓡 (code.calls-cf_handles::writers::confluo_room_of 𝓡.env wired)) y
     (and_then ! (get ! refl) (and_then ! (get ! refl) (and_then ! (get ! refl) (no_more !)))) (λ v.
     use1 𝓛 (later (some (λ (r : ℕ). ((‵ (flft (α ∷ []) full_share) ⊛ (‵ (flft κ q) ⊛ ‵ ftrue)) ⊛ ‵ (u32.own_val r (v ∷ []))) ⊛
     some (λ (ws : Unit {0} × (R.Denot × (room_row.Denot × Unit {0}))). ‵ (lasts g.ended y.0.0 y.0.3 ws) ⊛
@@ -74,7 +74,7 @@ confluo_room_of_spec 𝓤 𝓛 𝓜 𝓡 wired =
     (λ r. split ! $ split ! $ split ! $ lft_end ! tt $ move ! (3 ∷ []) $ pick ! (λ ws. split ! $ move ! (1 ∷ []) $ heard ! _ (λ did. let k' = ws.1.0 in
     fsplit ! $ drop ! $ fsplit ! $ fsplit ! $ move ! (1 ∷ []) $ drop ! $ move ! (2 ∷ 5 ∷ 0 ∷ []) $
     use3 𝓛 (later (‵ (part_at R full_share k' b o))) (ref_back 𝓛 R (α ∷ []) δ k' b o) $ await ! tt $
-    use1 𝓛 (‵ (leads_to HeldWriter.the_row (block_ptr b o) k'.seat.held)) (writers.closes 𝓛 b o k') $
+    use1 𝓛 (‵ (leads_to HeldWriter.the_row (block_ptr b o) k'.seat.held)) (closes HeldWriter.the_row 𝓛 b o k') $
     rewrite ! 0 (λ (r : Ptr). ‵ (leads_to HeldWriter.the_row r k'.seat.held)) (sym e) refl $ move ! (3 ∷ []) $
     peeks ! u32 (Is u32) (shows 𝓛 u32) r (v ∷ []) (λ is. lands_as ! refl refl ((uint_Lawful 𝓛 w32).typed r _ is).0 $
     returns ! (look_at ! 0 refl) $ free_all ! refl $ move ! (1 ∷ []) $

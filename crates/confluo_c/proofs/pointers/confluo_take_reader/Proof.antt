@@ -4,29 +4,27 @@ use Rattle.confluo_c.specs.Told.{ForksBy}
 use Rattle.cf_store.specs.declared.held.Log.{Log}
 use Rattle.cf_store.specs.declared.held.Reader.{Reader}
 use Rattle.std.specs.contracts.alloc.Global as Heap
-use Rattle.cf_handles.proofs.AsReader.{E}
-use Rattle.confluo_c.proofs.LeadsLog as logs
-use Rattle.confluo_c.proofs.LeadsReader as readers
+use Rattle.cf_handles.proofs.AsSeat.{al}
+use Rattle.confluo_c.proofs.Leads.{closes, opens}
 use Rattle.confluo_c.specs.Leads.{handle_owns, leads_to, log_at, reader_at}
 use Rattle.cf_store.specs.contracts.held.Log as HeldLog
 use Rattle.cf_store.specs.contracts.held.Reader as HeldReader
 use Rattle.confluo_c.specs.contracts.raw.RawHandle as Bytes
-use Rattle.cf_handles.specs.contracts.handles.log.LogHandle as LogHandle
-use Rattle.cf_handles.specs.contracts.handles.reader.ReaderHandle as ReaderHandle
+use Rattle.cf_handles.specs.contracts.handle.Handle as Handle
 use Rattle.confluo_c.specs.contracts.pointers.confluo_take_reader as f
 use Rattle.confluo_c.proofs.pointers.confluo_take_reader.Statement.{statement}
 use Rattle.confluo_c.proofs.pointers.confluo_take_reader.Code as code
-use Rattle.cf_handles.specs.contracts.numbered.confluo_take_reader as g
-use Rattle.cf_handles.proofs.numbered.confluo_take_reader.Met.{met}
+use Rattle.cf_handles.specs.contracts.logs.confluo_take_reader as g
+use Rattle.cf_handles.proofs.logs.confluo_take_reader.Met.{met}
 
 abbrev stayed : Stays f.ended.signature.params f.ended.kept
 stayed = (stay_dropped _ yes, (stay_dropped _ yes, (stay_dropped _ yes, tt)))
 
 abbrev R : RattleType
-R = LogHandle.the_row
+R = Handle.the_row HeldLog.the_row
 
 abbrev S : RattleType
-S = ReaderHandle.the_row
+S = Handle.the_row HeldReader.the_row
 
 pub confluo_take_reader_spec : {M : Type 1} → statement M
 confluo_take_reader_spec 𝓤 𝓛 𝓜 𝓡 wired =
@@ -38,7 +36,7 @@ confluo_take_reader_spec 𝓤 𝓛 𝓜 𝓡 wired =
     f.Key.name code.function (code.unfolded 𝓤 𝓛.H 𝓜 𝓡 wired)
     (λ z are. let a = z.0.3.0 in let p = z.0.3.1.0 in let p₂ = z.0.3.1.1.0 in let x = z.1.0 in let x₂ = z.1.1 in let Post = W.post z in
     qed 𝓛 ((‵ ftrue ⊛ ‵ (owns (Heap.the_row ∷ RawPtr ∷ RawPtr ∷ []) (a, (p, (p₂, tt))) z.0.4)) ∷ ‵ (fsep (log_at p x) (reader_at p₂ x₂)) ∷ []) ∵
-    split ! $ move ! (1 ∷ []) $ fsplit ! $ handle_tells E.al ! a z.0.4.0
+    split ! $ move ! (1 ∷ []) $ fsplit ! $ handle_tells al ! a z.0.4.0
     (λ hv eh fa. move ! (1 ∷ []) $ fsplit ! $ feq_l !
     (λ ep. fsplit ! $ feq_l !
     (λ ep₂. move ! (3 ∷ []) $ fsplit ! $ fpick ! (λ h. fsplit ! $ in_a_block ! p (λ r. lies_at Bytes.the_row full_share r h) (id⊢ 𝓤 _) (λ b o e. fjoin ! $
@@ -51,10 +49,10 @@ confluo_take_reader_spec 𝓤 𝓛 𝓜 𝓡 wired =
     by ! (subst (λ (us : List Val). ent 𝓤 (⋆ 𝓛 Γ) (WpFn 𝓤 𝓛.H 𝓣.C 𝓣.Λ code.function us Post))
     (sym (λ i. eh i ++ ((ep ∙ ap (λ (r : Ptr). ptr_val r ∷ []) e) i ++ ((ep₂ ∙ ap (λ (r : Ptr). ptr_val r ∷ []) e₂) i ++ []))))
     (qed 𝓛 Γ ∵ move ! (2 ∷ []) $ drop ! $
-    move ! (1 ∷ []) $ use1 𝓛 (some (λ (k : R.Denot). ‵ (part_at R full_share k b o) ⊛ raw (fact 𝓤 (k.seat.held ≡ x)))) (logs.opens 𝓛 b o h x) $ pick !
+    move ! (1 ∷ []) $ use1 𝓛 (some (λ (k : R.Denot). ‵ (part_at R full_share k b o) ⊛ raw (fact 𝓤 (k.seat.held ≡ x)))) (opens HeldLog.the_row 𝓛 b o h x) $ pick !
     (λ k. split ! $ move ! (1 ∷ []) $ heard ! _ (λ led.
     move ! (1 ∷ []) $ use1 𝓛 (some (λ (k : S.Denot). ‵ (part_at S full_share k b₂ o₂) ⊛ raw (fact 𝓤 (k.seat.held ≡ x₂))))
-    (readers.opens 𝓛 b₂ o₂ h₂ x₂) $ pick ! (λ k₂. split ! $ move ! (1 ∷ []) $ heard ! _ (λ led₂.
+    (opens HeldReader.the_row 𝓛 b₂ o₂ h₂ x₂) $ pick ! (λ k₂. split ! $ move ! (1 ∷ []) $ heard ! _ (λ led₂.
     enter ! 𝓣.C 𝓣.Λ code.function (hv ∷ vptr b o ∷ vptr b₂ o₂ ∷ []) _ $ alloc_all ! (λ ls. pass_all ! refl (fa, ((tt, tt), ((tt, tt), tt))) $
     lft_new ! tt (λ α. move ! (2 ∷ []) $
     use1 𝓛 (later
@@ -65,9 +63,9 @@ confluo_take_reader_spec 𝓤 𝓛 𝓜 𝓡 wired =
     (some (λ (δ : ℕ). ‵ ((MutRef (named 1) (β ∷ []) S).own_val (record { ref_ptr = (b₂, o₂); ghost_name = δ; now = k₂ }) (vptr b₂ o₂ ∷ [])) ⊛ ‵
     (flent (β ∷ []) (Body (mem S) b₂ o₂ δ)))))
     (lends_ref 𝓛 S (named 1) (β ∷ []) k₂ b₂ o₂) $ await ! tt $ pick ! (λ δ₂. split ! $
-    sets ! (of_opd ! (get ! refl)) refl fa $ first ! $ blocks ! $ sets_last ! (addr ! (through ! refl (stop !))) refl (tt, tt) $
+    sets ! (of_opd ! (get ! refl)) refl fa $ first ! $ blocks ! $ sets ! (of_opd ! (get ! refl)) refl (tt, tt) $ sets_last ! (addr ! (through ! refl (stop !))) refl (tt, tt) $
     exec ! 𝓣.C 𝓣.Λ (env code.Mir.locals ls) code.Mir.t-3 (at_ret (env code.Mir.locals ls) Post) $
-    sets ! (of_opd ! (get ! refl)) refl (tt, tt) $ first ! $ blocks ! $ sets_last ! (addr ! (through ! refl (stop !))) refl (tt, tt) $
+    sets ! (of_opd ! (get ! refl)) refl (tt, tt) $ first ! $ blocks ! $ sets ! (of_opd ! (get ! refl)) refl (tt, tt) $ sets_last ! (addr ! (through ! refl (stop !))) refl (tt, tt) $
     exec ! 𝓣.C 𝓣.Λ (env code.Mir.locals ls) code.Mir.t-5 (at_ret (env code.Mir.locals ls) Post) $
     sets ! (of_opd ! (get ! refl)) refl (tt, tt) $
     let G = triple_of 𝓛 g.signature (g.spec 𝓛 𝓜.mem 𝓡.returns) in
@@ -78,7 +76,7 @@ confluo_take_reader_spec 𝓤 𝓛 𝓜 𝓡 wired =
     nothing ! $ move ! (1 ∷ 0 ∷ []) $ join ! $ move ! (3 ∷ 0 ∷ []) $ join ! $ move ! (5 ∷ 0 ∷ []) $ join ! $ move ! (2 ∷ 5 ∷ []) $ join ! $ move !
     (4 ∷ 0 ∷ []) $ join ! $ join ! $
     nothing ! $ move ! (1 ∷ 0 ∷ []) $ use2 𝓛 (raw (G.pre y)) (id⊢ 𝓤 _) $
-    calls_at ! (framed 𝓤 𝓛.H 𝓜 𝓣) G (met 𝓤 𝓛 𝓜 𝓡 (code.calls-cf_handles::numbered::confluo_take_reader 𝓡.env wired)) y
+    calls_at ! (framed 𝓤 𝓛.H 𝓜 𝓣) G (met 𝓤 𝓛 𝓜 𝓡 (code.calls-cf_handles::logs::confluo_take_reader 𝓡.env wired)) y
     (and_then ! (get ! refl) (and_then ! (get ! refl) (and_then ! (get ! refl) (no_more !)))) (λ v.
     use1 𝓛 (later (some (λ (r : ℕ). ((‵ (flft (α ∷ []) full_share) ⊛ (‵ (flft (β ∷ []) full_share) ⊛ ‵ ftrue)) ⊛ ‵ (u32.own_val r (v ∷ []))) ⊛
     some (λ (ws : Unit {0} × (R.Denot × (S.Denot × Unit {0}))). ‵ (lasts g.ended y.0.0 y.0.3 ws) ⊛
@@ -88,11 +86,11 @@ confluo_take_reader_spec 𝓤 𝓛 𝓜 𝓡 wired =
     (4 ∷ []) $ pick ! (λ ws. split ! $ move ! (1 ∷ []) $ heard ! _ (λ did. let k' = ws.1.0 in let k₂' = ws.1.1.0 in
     fsplit ! $ drop ! $ fsplit ! $ fsplit ! $ move ! (1 ∷ []) $ drop ! $ move ! (3 ∷ 7 ∷ 0 ∷ []) $
     use3 𝓛 (later (‵ (part_at R full_share k' b o))) (ref_back 𝓛 R (α ∷ []) δ k' b o) $ await ! tt $
-    use1 𝓛 (‵ (leads_to HeldLog.the_row (block_ptr b o) k'.seat.held)) (logs.closes 𝓛 b o k') $
+    use1 𝓛 (‵ (leads_to HeldLog.the_row (block_ptr b o) k'.seat.held)) (closes HeldLog.the_row 𝓛 b o k') $
     rewrite ! 0 (λ (r : Ptr). ‵ (leads_to HeldLog.the_row r k'.seat.held)) (sym e) refl $ move ! (1 ∷ []) $ fsplit ! $ fsplit ! $ move !
     (1 ∷ []) $ drop ! $ move ! (3 ∷ 6 ∷ 0 ∷ []) $
     use3 𝓛 (later (‵ (part_at S full_share k₂' b₂ o₂))) (ref_back 𝓛 S (β ∷ []) δ₂ k₂' b₂ o₂) $ await ! tt $
-    use1 𝓛 (‵ (leads_to HeldReader.the_row (block_ptr b₂ o₂) k₂'.seat.held)) (readers.closes 𝓛 b₂ o₂ k₂') $
+    use1 𝓛 (‵ (leads_to HeldReader.the_row (block_ptr b₂ o₂) k₂'.seat.held)) (closes HeldReader.the_row 𝓛 b₂ o₂ k₂') $
     rewrite ! 0 (λ (r : Ptr). ‵ (leads_to HeldReader.the_row r k₂'.seat.held)) (sym e₂) refl $ move ! (4 ∷ []) $
     peeks ! u32 (Is u32) (shows 𝓛 u32) r (v ∷ []) (λ is. lands_as ! refl refl ((uint_Lawful 𝓛 w32).typed r _ is).0 $
     returns ! (look_at ! 0 refl) $ free_all ! refl $ move ! (3 ∷ 1 ∷ []) $ fjoin ! $

@@ -1,5 +1,0 @@
-use Rattle.std.proofs.Common.{◌∙◌, ap, Some}
-use Rattle.cf_handles.proofs.handles.log.LogHandle.open_at.Goals as goal
-
-pub returns : goal.returns
-returns c = (c.in_ok-opened.opened, c.put.ensures ∙ ap Some c.in-Ok.ensures.ok, c.in_ok-opened.ensures)
