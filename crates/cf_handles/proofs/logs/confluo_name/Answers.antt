@@ -1,4 +1,4 @@
-use Rattle.std.proofs.Common.{Err, None, Ok, Some, refl}
+use Rattle.std.proofs.Common.{Err, Ok, refl}
 use Rattle.cf_handles.specs.declared.code.Code.TheVariants as codes
 use Rattle.cf_handles.specs.Named.{NamesTo}
 use Rattle.cf_handles.proofs.Called.{if_lent, if_not_lent, nothing_told, told}

@@ -1,4 +1,4 @@
-use Rattle.std.proofs.Common.{◌∙◌, Err, None, Ok, Some, ap, refl, sym}
+use Rattle.std.proofs.Common.{◌∙◌, Err, Ok, ap, refl, sym}
 use Rattle.cf_setup.specs.Setups.{SetupValue}
 use Rattle.cf_handles.specs.Abouts.{about_of}
 use Rattle.cf_handles.specs.declared.code.Code.TheVariants as codes

@@ -1,7 +1,7 @@
 -- `as_mut` lends the value, and the seat follows it.
 use mathlib.Core.Path.{◌≡◌, refl}
 use Prim.Native.Nat.{ℕ}
-use mathlib.Core.List.{List, [], ◌∷◌, ◌++◌}
+use mathlib.Core.List.{List, [], ◌∷◌}
 use seplogic.Ra.Ura.{Ura}
 use base.Fraction.{full_share}
 use mir.Syntax.{Fn, Body, named, place, copy, rv_opd, seq, assign, return}
@@ -36,7 +36,7 @@ use denote.Exit.{no}
 use denote.Builtin.{RefMutOf}
 use denote.Follow.{follows, Part, lends_Part}
 use Rattle.std.proofs.alloc.Calls.{token}
-use Rattle.std.proofs.BoxSteps.Form.{Bx, D, R, B, τ, word, handle}
+use Rattle.std.proofs.BoxSteps.Form.{Bx, D, R, τ, word, handle}
 use Rattle.std.proofs.BoxSteps.Steps.{box_out, box_in}
 use Rattle.std.specs.Prelude.{◌≢◌, Option, Some, None}
 use Rattle.cf_handles.proofs.AsSeat.{E, at_X}

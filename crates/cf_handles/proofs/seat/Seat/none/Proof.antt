@@ -48,7 +48,6 @@ use denote.Triple.Clauses.{Ended, Clauses}
 use contract.Monad.{fact}
 use contract.BorrowLft.{◌⊑◌}
 use Rattle.std.proofs.BoxSteps.Form.{R}
-use denote.Signature.{Slot}
 use Rattle.std.proofs.BoxSteps.Form.{Bx}
 
 module _ (X : RattleType) (LX : Laws X) where
