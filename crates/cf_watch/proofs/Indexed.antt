@@ -9,7 +9,7 @@ use Rattle.std.specs.Option.{MatchOption}
 use Rattle.std.specs.Ordering.{is_eq, nat_cmp}
 use Rattle.cf_watch.specs.Kept.{AreApart, BucketValue, begun, is_kept, is_of, with_record}
 use Rattle.cf_watch.specs.Pairs.{ApartValue, IsIndexed, if_of, with_key}
-use Rattle.cf_watch.proofs.Distinct.{apart_push, apart_same, kept_same, numbers}
+use Rattle.cf_watch.proofs.Distinct.{apart_push, apart_same, kept_same, number_of, numbers}
 use Rattle.cf_watch.proofs.Places.{is_eq-nat_cmp}
 
 abbrev pub Found : List BucketValue → ℕ → Option ℕ → Type 0
@@ -34,12 +34,12 @@ indexed_push m n pairs k v is none updates = record {
     )
     | inr ne ↦ rw (updates q, is_eq-nat_cmp k q, ne_eqb k q ne) (found_behind pairs (begun k v) q (get nat_cmp m q) ne (is.found q))
   ];
-  apart = apart_push pairs (begun k v) is.apart none;
+  apart = apart_push number_of pairs (begun k v) is.apart none;
 }
 
 -- keys that stay
 found_same : (xs ys : List BucketValue) (q : ℕ) (o : Option ℕ) → numbers xs ≡ numbers ys → Found xs q o → Found ys q o
-found_same xs ys q None same none = sym (kept_same xs ys q same) ∙ none
+found_same xs ys q None same none = sym (kept_same number_of xs ys q same) ∙ none
 found_same xs ys q (Some i) same found =
     let len : length xs ≡ length ys = sym (length-map xs (λ k. k.bucket)) ∙ ap length same ∙ length-map ys (λ k. k.bucket) in
     let below : i < length ys = omega (arith, len, found.0) in (
@@ -51,7 +51,7 @@ found_same xs ys q (Some i) same found =
 pub indexed_same : (m : BTreeMap ℕ ℕ) (xs ys : List BucketValue) → numbers xs ≡ numbers ys → IsIndexed m xs → IsIndexed m ys
 indexed_same m xs ys same is = record {
   found = λ q. found_same xs ys q (get nat_cmp m q) same (is.found q);
-  apart = apart_same xs ys same is.apart;
+  apart = apart_same number_of xs ys same is.apart;
 }
 
 -- a key changes at its place

@@ -12,7 +12,7 @@ use Rattle.cf_plain.specs.declared.answer.Fired.{Fired}
 use Rattle.cf_watch.specs.Kept.{AreApart, BucketValue, is_kept, is_of, most_triggers}
 use Rattle.cf_watch.specs.Laws.{HasMarkOf, Step, told, after_step, after_steps}
 use Rattle.cf_watch.specs.Marks.{fresh_on, is_told, is_untold, mark_in, meets, put_mark, settled, settled_count, telling, with_told}
-use Rattle.cf_watch.proofs.Distinct.{kept_same}
+use Rattle.cf_watch.proofs.Distinct.{kept_same, number_of}
 use Rattle.cf_watch.proofs.Since.{few_kept}
 use Rattle.cf_watch.proofs.Steps.{origin}
 use Rattle.cf_watch.proofs.Told.{numbers_first, told_number}
@@ -118,7 +118,7 @@ telling_tells trigger place b (suc n) (k ∷ ks) lt apart sized found =
           let of : k.bucket ≡ b = eqb-true k.bucket b parts.0 in
           let met = (and_parts (meets trigger k) (not (is_told place k)) parts.1).0 in
           let lacks : is_kept (first_told trigger place n ks) b ≡ false =
-          sym (kept_same ks (first_told trigger place n ks) b (numbers_first trigger place n ks)) ∙ ap (is_kept ks) (sym of) ∙ apart.0 in
+          sym (kept_same number_of ks (first_told trigger place n ks) b (numbers_first trigger place n ks)) ∙ ap (is_kept ks) (sym of) ∙ apart.0 in
           All-cons (IsTold b place) (with_told trigger place k) (first_told trigger place n ks)
           (λ e. now_told trigger place k lt (All-head IsSized k ks sized) met)
           (lacking_told b place (first_told trigger place n ks) lacks)

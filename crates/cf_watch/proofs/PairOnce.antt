@@ -16,7 +16,7 @@ use Rattle.cf_watch.specs.New.{is_on}
 use Rattle.cf_watch.specs.Pairs.{ApartValue, AreSeparate, IsApart, has_bucket, is_at}
 use Rattle.cf_watch.specs.PairMarks.{apart_fresh, apart_telling, crowds_told, is_crowd_untold, marks_at, pair_mark, settled_apart, with_crowd_told, with_pairs_told}
 use Rattle.cf_watch.specs.PairLaws.{HasCrowd, HasMarkOn, PairStep, told, crowds, after_pair_step, after_pair_steps}
-use Rattle.cf_watch.proofs.Distinct.{kept_same}
+use Rattle.cf_watch.proofs.Distinct.{kept_same, number_of}
 use Rattle.cf_watch.proofs.Told.{told_numbers}
 use Rattle.cf_watch.proofs.Once.{IsSized, IsTold, telling_tells}
 use Rattle.cf_watch.proofs.PairSteps.{lawful, origin_apart}
@@ -153,7 +153,7 @@ telling_tells_pair trigger place b k (suc n) (a ∷ rest) lt separate apart size
           let of : a.bucket ≡ b = eqb-true a.bucket b parts.0 in
           let lacks : has_bucket later b ≡ false = told_lacks trigger place n b rest (rw (sym of) separate.0) in
           let kept' : is_kept (map (with_told trigger place) a.pairs) k ≡ true =
-          kept_same (map (with_told trigger place) a.pairs) a.pairs k (told_numbers trigger place a.pairs)
+          kept_same number_of (map (with_told trigger place) a.pairs) a.pairs k (told_numbers trigger place a.pairs)
           ∙ pairs_found test k a.pairs parts.1 in
           All-cons (IsPairTold b k place) (with_pairs_told trigger place a) later
           (λ e. (kept', pairs_told trigger place k a.pairs lt (All-head (λ x. AreApart x.pairs) a rest apart) (All-head AreSized a rest sized) parts.1))

@@ -11,7 +11,7 @@ use Rattle.cf_watch.specs.Marks.{settled_count, with_told}
 use Rattle.cf_watch.specs.Pairs.{ApartValue, AreSeparate, IsKeptApart, begun_apart, forgotten_at, has_bucket, has_pair, if_of, is_at, is_elsewhere, most_apart, most_pairs, no_bucket, pair_count, with_key, without}
 use Rattle.cf_watch.specs.PairMarks.{with_crowd_told, with_pairs_told}
 use Rattle.cf_watch.specs.PairLaws.{PairStep, took, told, crowds, after_pair_step, after_pair_steps}
-use Rattle.cf_watch.proofs.Distinct.{kept_same}
+use Rattle.cf_watch.proofs.Distinct.{kept_same, number_of}
 use Rattle.cf_watch.proofs.Once.{IsSized, IsTold}
 use Rattle.cf_watch.proofs.PairsTold.{kept_crowds_told, kept_pairs_told}
 use Rattle.cf_watch.proofs.Placing.{forgets_no_pair, forgets_none, forgets_other, kept_taking_apart, key_bucket, key_numbers}
@@ -80,7 +80,7 @@ key_goes_on apart k n = record {
   same = key_bucket apart k n;
   crowd = λ is. crowd_same apart k n ∙ is;
   keeps = λ q kept. elim (cases_Bool (is_kept apart.pairs k)) [
-    | inl found ↦ rw found (sym (kept_same apart.pairs (map (if_of k n) apart.pairs) q (key_numbers k n apart.pairs)) ∙ kept)
+    | inl found ↦ rw found (sym (kept_same number_of apart.pairs (map (if_of k n) apart.pairs) q (key_numbers k n apart.pairs)) ∙ kept)
     | inr none ↦ elim (cases_Bool (nat_le most_pairs (length apart.pairs))) [ inl full ↦ rw (none, full) kept | inr few ↦ rw (none, few) (found_behind apart.pairs (begun k n) q kept) ]
   ];
   told = λ place q kept all. elim (cases_Bool (is_kept apart.pairs k)) [
@@ -166,7 +166,7 @@ told_goes_on : (trigger : Trigger) (place : ℕ) (apart : ApartValue) → GoesOn
 told_goes_on trigger place apart = record {
   same = refl;
   crowd = λ is. is;
-  keeps = λ q kept. kept_same (map (with_told trigger place) apart.pairs) apart.pairs q (told_numbers trigger place apart.pairs) ∙ kept;
+  keeps = λ q kept. kept_same number_of (map (with_told trigger place) apart.pairs) apart.pairs q (told_numbers trigger place apart.pairs) ∙ kept;
   told = λ p q kept all. All-map (IsTold q p) (with_told trigger place) apart.pairs
       (All-weaker (IsTold q p) (λ x. IsTold q p (with_told trigger place x)) (λ x known. told_pair trigger place q p x known) apart.pairs all);
   sized = λ all. All-map IsSized (with_told trigger place) apart.pairs

@@ -8,22 +8,21 @@ use Rattle.cf_watch.specs.Kept.{BucketValue}
 use Rattle.cf_watch.specs.Marks.{with_told}
 use Rattle.cf_watch.specs.Pairs.{ApartValue, IsApart, IsKeptApart, pair_count}
 use Rattle.cf_watch.specs.PairMarks.{crowds_told, with_crowd_told, with_pairs_told}
-use Rattle.cf_watch.proofs.Distinct.{apart_same}
-use Rattle.cf_watch.proofs.Separate.{numbers, separate_same}
+use Rattle.cf_watch.proofs.Distinct.{apart_same, number_at, number_of}
 use Rattle.cf_watch.proofs.Told.{told_numbers, told_quad}
 
 abbrev size : ApartValue → ℕ
 size apart = length apart.pairs
 
 -- buckets of the same numbers and sizes
-same_kept : (xs ys : List ApartValue) (count : ℕ) → numbers xs ≡ numbers ys → map size xs ≡ map size ys → IsKeptApart xs count → All (IsApart count) ys → IsKeptApart ys count
+same_kept : (xs ys : List ApartValue) (count : ℕ) → map number_at xs ≡ map number_at ys → map size xs ≡ map size ys → IsKeptApart xs count → All (IsApart count) ys → IsKeptApart ys count
 same_kept xs ys count same sizes is apart =
     let len : length xs ≡ length ys = sym (length-map xs size) ∙ ap length sizes ∙ length-map ys size in
     let pairs : pair_count xs ≡ pair_count ys = sym (sum-map size xs) ∙ ap sum sizes ∙ sum-map size ys in
     record {
       few = omega (arith, len, is.few);
       bounded = omega (arith, pairs, is.bounded);
-      separate = separate_same xs ys same is.separate;
+      separate = apart_same number_at xs ys same is.separate;
       apart = apart;
     }
 
@@ -45,7 +44,7 @@ told_apart trigger place count apart is =
     let low : (k : BucketValue) → P k → P (with_told trigger place k) = λ k le. rw (told_quad trigger place k) le in
     record {
       some = let len = length-map apart.pairs (with_told trigger place) in omega (arith, len, is.some);
-      different = apart_same apart.pairs (map (with_told trigger place) apart.pairs) (sym (told_numbers trigger place apart.pairs)) is.different;
+      different = apart_same number_of apart.pairs (map (with_told trigger place) apart.pairs) (sym (told_numbers trigger place apart.pairs)) is.different;
       counted = All-map P (with_told trigger place) apart.pairs (All-weaker P (λ k. P (with_told trigger place k)) low apart.pairs is.counted);
     }
 

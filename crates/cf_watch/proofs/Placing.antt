@@ -11,8 +11,7 @@ use Rattle.std.proofs.lemmas.List.Sums.{sum_by-remove, sum_by_push}
 use Rattle.std.specs.List.{list_any, position, position_from, remove}
 use Rattle.cf_watch.specs.Kept.{BucketValue, begun, is_kept}
 use Rattle.cf_watch.specs.Pairs.{ApartValue, AreSeparate, IsApart, IsKeptApart, begun_apart, forgotten_at, has_bucket, has_pair, if_of, is_at, is_elsewhere, most_apart, most_pairs, no_bucket, pair_count, placing, taking_apart, with_key, without}
-use Rattle.cf_watch.proofs.Distinct.{apart_push, apart_same, numbers}
-use Rattle.cf_watch.proofs.Separate.{elsewhere_lack, one_of, separate_push}
+use Rattle.cf_watch.proofs.Distinct.{apart_push, apart_same, number_at, number_of, numbers, one_of, others_lack}
 use Rattle.cf_watch.proofs.Taking.{more_counted}
 
 -- a record of a kept bucket
@@ -20,7 +19,7 @@ pub taken_at : (kept : List ApartValue) (i b k n : ℕ) (d : ApartValue) → Are
     → remove kept i ++ with_key k n (get_or kept i d) ∷ [] ≡ placing kept b k n
 taken_at kept i b k n d separate lt is =
     let found : has_bucket kept b ≡ true = list_any_at (is_at b) kept i d lt (eq-eqb (get_or kept i d).bucket b is) in
-    let one = one_of kept i b d separate lt is in
+    let one = one_of number_at kept i b d separate lt is in
     rw (found, one.0, one.1) refl
 
 -- a record of another one
@@ -102,7 +101,7 @@ not-false false is = absurd (false≢true (sym is))
 
 -- the bucket is not among the others
 pub gone : (kept : List ApartValue) (i b : ℕ) (d : ApartValue) → AreSeparate kept → i < length kept → (get_or kept i d).bucket ≡ b → has_bucket (remove kept i) b ≡ false
-gone kept i b d separate lt is = ap (λ ks. has_bucket ks b) (sym (one_of kept i b d separate lt is).0) ∙ elsewhere_lack kept b
+gone kept i b d separate lt is = ap (λ ks. has_bucket ks b) (sym (one_of number_at kept i b d separate lt is).0) ∙ others_lack number_at kept b
 
 -- what is left is smaller by its pairs
 pub left_size : (kept : List ApartValue) (i : ℕ) (d : ApartValue) → i < length kept → pair_count (remove kept i) + length (get_or kept i d).pairs ≡ pair_count kept
@@ -216,14 +215,14 @@ key_apart : (apart : ApartValue) (k n count : ℕ) → IsApart count apart → I
 key_apart apart k n count is = elim (cases_Bool (is_kept apart.pairs k)) [
   | inl found ↦ rw found (record {
     some = let len = length-map apart.pairs (if_of k n) in omega (arith, len, is.some);
-    different = apart_same apart.pairs (map (if_of k n) apart.pairs) (key_numbers k n apart.pairs) is.different;
+    different = apart_same number_of apart.pairs (map (if_of k n) apart.pairs) (key_numbers k n apart.pairs) is.different;
     counted = All-map (IsCounted (count + 1)) (if_of k n) apart.pairs
         (All-weaker (IsCounted count) (λ pair. IsCounted (count + 1) (if_of k n pair)) (λ pair le. key_counted k n count pair le) apart.pairs is.counted);
   })
   | inr none ↦ elim (cases_lt (length apart.pairs) most_pairs) [
     | inl few ↦ rw (none, lt-leb most_pairs (length apart.pairs) few) (record {
       some = let len = length_push apart.pairs (begun k n) in omega (arith, len);
-      different = apart_push apart.pairs (begun k n) is.different none;
+      different = apart_push number_of apart.pairs (begun k n) is.different none;
       counted = All-push (IsCounted (count + 1)) apart.pairs (begun k n) (later count apart is).counted (omega arith);
     })
     | inr full ↦ rw (none, le-leb most_pairs (length apart.pairs) full) (record { some = is.some; different = is.different; counted = (later count apart is).counted })
@@ -293,7 +292,7 @@ taken_kept kept count i b k n left lt is =
     rw (sym (taken_at kept i b k n no_bucket left.0.separate lt is)) (record {
       few = let len = length_push (remove kept i) new in let before = length-remove kept i lt in omega (arith, len, before, left.0.few);
       bounded = let sum = sum_by_push (λ (a : ApartValue). length a.pairs) (remove kept i) new in omega (arith, sum, taken_size kept count i b k n left lt is);
-      separate = separate_push (remove kept i) new rest.separate (rw number (gone kept i b no_bucket left.0.separate lt is));
+      separate = apart_push number_at (remove kept i) new rest.separate (rw number (gone kept i b no_bucket left.0.separate lt is));
       apart = All-push (IsApart (count + 1)) (remove kept i) new (All-weaker (IsApart count) (IsApart (count + 1)) (λ a was. later count a was) (remove kept i) rest.apart)
           (key_apart apart k n count (All-get_or (IsApart count) kept i no_bucket lt left.0.apart));
     })
@@ -310,7 +309,7 @@ begun_kept kept count b k n left none =
     rw (sym (begun_at kept b k n none)) (record {
       few = let len = length_push kept new in omega (arith, len, short);
       bounded = let sum = sum_by_push (λ (a : ApartValue). length a.pairs) kept new in omega (arith, sum, few);
-      separate = separate_push kept new left.0.separate none;
+      separate = apart_push number_at kept new left.0.separate none;
       apart = All-push (IsApart (count + 1)) kept new (All-weaker (IsApart count) (IsApart (count + 1)) (λ a was. later count a was) kept left.0.apart) (record {
         some = omega arith;
         different = (refl, tt);

@@ -8,7 +8,7 @@ use Rattle.std.proofs.lemmas.List.Folds.{Any-from_list_any, list_any_at}
 use Rattle.std.specs.List.{remove}
 use Rattle.cf_fold.specs.Quads.{QuadValue, plus}
 use Rattle.cf_watch.specs.Kept.{AreApart, BucketValue, IsKept, begun, is_kept, is_of, is_other, most_kept, taking, with_record, with_room}
-use Rattle.cf_watch.proofs.Distinct.{apart_push, apart_rest, one_of, other_apart, others_lack, rest_fewer}
+use Rattle.cf_watch.proofs.Distinct.{apart_push, apart_rest, number_of, one_of, other_apart, others_lack, rest_fewer}
 
 -- a bucket that was changed at its place and then moved to the end
 pub moved : {X : Type 0} → (kept : List X) (i : ℕ) (k d : X) → i < length kept
@@ -22,7 +22,7 @@ pub taken_at : (kept : List BucketValue) (i b n : ℕ) (d : BucketValue) → Are
     → remove kept i ++ with_record n (get_or kept i d) ∷ [] ≡ taking kept b n
 taken_at kept i b n d apart lt is =
     let found : is_kept kept b ≡ true = list_any_at (is_of b) kept i d lt (eq-eqb (get_or kept i d).bucket b is) in
-    let one = one_of kept i b d apart lt is in
+    let one = one_of number_of kept i b d apart lt is in
     rw (found, one.0, one.1) refl
 
 -- a record of another one
@@ -45,15 +45,15 @@ later_counted kept count counted = All-weaker (IsCounted count) (IsCounted (coun
 kept_at : (kept : List BucketValue) (count i b n : ℕ) (d : BucketValue) → IsKept kept count → i < length kept → (get_or kept i d).bucket ≡ b
     → IsKept (taking kept b n) (count + 1)
 kept_at kept count i b n d is lt of =
-    let one = one_of kept i b d is.apart lt of in
+    let one = one_of number_of kept i b d is.apart lt of in
     let k : BucketValue = with_record n (get_or kept i d) in
     let same : filter (is_other b) kept ++ k ∷ [] ≡ taking kept b n = ap (λ ks. ks ++ k ∷ []) one.0 ∙ taken_at kept i b n d is.apart lt of in
-    let lacks : is_kept (filter (is_other b) kept) k.bucket ≡ false = rw of (others_lack kept b) in
+    let lacks : is_kept (filter (is_other b) kept) k.bucket ≡ false = rw of (others_lack number_of kept b) in
     let fewer : length (filter (is_other b) kept) + 1 ≡ length kept = ap (λ ks. length ks + 1) one.0 ∙ length-remove kept i lt in
     let was : (get_or kept i d).quad.count ≤ count = All-get_or (IsCounted count) kept i d lt is.counted in
     rw (sym same) (record {
       few = let len = length-append (filter (is_other b) kept) (k ∷ []) in omega (arith, len, fewer, is.few);
-      apart = apart_push (filter (is_other b) kept) k (other_apart kept b is.apart) lacks;
+      apart = apart_push number_of (filter (is_other b) kept) k (other_apart number_of kept b is.apart) lacks;
       counted = All-push (IsCounted (count + 1)) (filter (is_other b) kept) k (All-filter (is_other b) (IsCounted (count + 1)) kept (later_counted kept count is.counted))
           (more_counted (get_or kept i d).quad n count was);
     })
@@ -62,12 +62,12 @@ room_kept : (kept : List BucketValue) (count b n : ℕ) → IsKept kept count �
 room_kept kept count b n is none = elim (cases_lt (length kept) most_kept) [
   | inl lt ↦ rw (lt-leb most_kept (length kept) lt) (record {
     few = let len = length-append kept (begun b n ∷ []) in omega (arith, len, lt);
-    apart = apart_push kept (begun b n) is.apart none;
+    apart = apart_push number_of kept (begun b n) is.apart none;
     counted = All-push (IsCounted (count + 1)) kept (begun b n) (later_counted kept count is.counted) (omega arith);
   })
   | inr le ↦ rw (le-leb most_kept (length kept) le) (record {
     few = let len = length-append (drop 1 kept) (begun b n ∷ []) in let rest = length-drop 1 kept in omega (arith, len, rest, le, is.few);
-    apart = apart_push (drop 1 kept) (begun b n) (apart_rest kept is.apart) (rest_fewer kept b none);
+    apart = apart_push number_of (drop 1 kept) (begun b n) (apart_rest number_of kept is.apart) (rest_fewer number_of kept b none);
     counted = All-push (IsCounted (count + 1)) (drop 1 kept) (begun b n) (All-drop (IsCounted (count + 1)) 1 kept (later_counted kept count is.counted)) (omega arith);
   })
 ]

@@ -8,7 +8,7 @@ use Rattle.std.specs.Option.{MatchOption, is_some}
 use Rattle.cf_fold.specs.declared.trigger.Trigger.{Trigger}
 use Rattle.cf_watch.specs.Kept.{BucketValue, IsKept, is_kept, most_kept}
 use Rattle.cf_watch.specs.Marks.{forgets_untold, grows, is_bucket_untold, is_first_untold, is_untold, meets, no_trigger, settled, settled_count, telling, with_told}
-use Rattle.cf_watch.proofs.Distinct.{apart_same, numbers}
+use Rattle.cf_watch.proofs.Distinct.{apart_same, number_of, numbers}
 
 -- one more of them is changed in its place
 pub told_more : {X : Type 0} → (f : X → X) (xs ys : List X) (i : ℕ) (d x : X) → i < length xs → ys ≡ map f (take i xs) ++ drop i xs
@@ -74,7 +74,7 @@ kept_telling trigger place kept count is =
           ∙ ap (λ m. m + length (drop n kept)) (length-map (take n kept) (with_told trigger place))
           ∙ sym (length-append (take n kept) (drop n kept))
           ∙ ap length (take-append-drop n kept) in omega (arith, len, is.few);
-      apart = apart_same kept (telling trigger place kept) (numbers_first trigger place n kept) is.apart;
+      apart = apart_same number_of kept (telling trigger place kept) (numbers_first trigger place n kept) is.apart;
       counted = All-append P (map (with_told trigger place) (take n kept)) (drop n kept)
           (All-map P (with_told trigger place) (take n kept) (All-weaker P (λ k. P (with_told trigger place k)) low (take n kept) (All-take P n kept is.counted)))
           (All-drop P n kept is.counted);

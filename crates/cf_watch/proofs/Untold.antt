@@ -1,13 +1,13 @@
 -- If all keys with an unreported mark are at some places, then it is enough to look there.
-use Rattle.std.proofs.Common.{◌≡◌, ℕ, zero, suc, ◌+◌, ◌<◌, ◌≤◌, Bool, true, false, ◌||◌, ◌==◌, List, [], ◌∷◌, length, drop, get_or, set, map, filter, fold, refl, sym, ap, ◌∙◌, inl, inr, arith}
-use Rattle.std.proofs.lemmas.Bool.{cases_Bool, cases_eq, cases_order, eq-eqb, false≢true, le-ltb, lt-ltb, ne_eqb, or_from}
+use Rattle.std.proofs.Common.{◌≡◌, ℕ, zero, suc, ◌+◌, ◌<◌, ◌≤◌, Bool, true, false, ◌==◌, List, [], ◌∷◌, length, drop, get_or, set, map, filter, fold, refl, sym, ap, ◌∙◌, inl, inr, arith}
+use Rattle.std.proofs.lemmas.Bool.{cases_Bool, cases_eq, cases_order, eq-eqb, false≢true, le-ltb, lt-ltb, ne_eqb}
 use Rattle.std.proofs.lemmas.List.{drop_all, drop_more, get_or-set_other, get_or-set_same, length-set, map-set, set-get_or}
 use Rattle.std.proofs.lemmas.List.Folds.{list_any_at}
 use Rattle.std.specs.List.{list_any}
 use Rattle.cf_fold.specs.declared.trigger.Trigger.{Trigger}
 use Rattle.cf_plain.specs.Groups.{key_of_mark}
 use Rattle.cf_plain.specs.declared.answer.Fired.{Fired}
-use Rattle.cf_watch.specs.Kept.{AreApart, BucketValue, begun, is_kept, is_of}
+use Rattle.cf_watch.specs.Kept.{AreApart, BucketValue, begun, is_of}
 use Rattle.cf_watch.specs.Marks.{is_untold, put_mark, with_told}
 use Rattle.cf_watch.specs.PairMarks.{pair_mark}
 use Rattle.cf_watch.specs.Notes.{AreUntoldAt, is_among, pair_at}

@@ -21,7 +21,7 @@ use Rattle.cf_watch.specs.Kept.{BucketValue, begun, is_full, is_kept, is_of, is_
 use Rattle.cf_watch.specs.Laws.{Step, took, told, after_step, after_steps, shown_mark, value_in, values_of}
 use Rattle.cf_watch.specs.Marks.{by_bucket, mark_in, marks_on, meets, put_mark, settled_count, telling}
 use Rattle.cf_watch.proofs.Keys.{AreLow, key_low, low_ascending, plain_key, plain_keys}
-use Rattle.cf_watch.proofs.Distinct.{kept_same, numbers}
+use Rattle.cf_watch.proofs.Distinct.{kept_same, number_of, numbers}
 use Rattle.cf_watch.proofs.Since.{all_since}
 use Rattle.cf_watch.proofs.Told.{numbers_first}
 use Rattle.cf_watch.proofs.Totals.{row_step, rows_are_steps, selected}
@@ -160,7 +160,7 @@ told_all : (kept : List BucketValue) (bs : List ℕ) (trigger : Trigger) (place 
 told_all kept bs trigger place is =
     let same : numbers kept ≡ numbers (telling trigger place kept) = numbers_first trigger place (settled_count trigger false (length kept)) kept in
     record {
-      members = λ q. sym (kept_same kept (telling trigger place kept) q same) ∙ is.members q;
+      members = λ q. sym (kept_same number_of kept (telling trigger place kept) q same) ∙ is.members q;
       size = sym (length-map (telling trigger place kept) (λ k. k.bucket)) ∙ ap length (sym same) ∙ length-map kept (λ k. k.bucket) ∙ is.size;
     }
 

@@ -78,10 +78,14 @@ with_row shape lane kept row = if selected_by shape lane row then with_one kept 
 abbrev pub kept_after : ShapeValue → ℕ → List RowValue → KeptValue
 kept_after shape lane rows = fold (with_row shape lane) nothing_kept rows
 
+-- each number is there once
+abbrev pub AreDistinct : {X : Type 0} → (X → ℕ) → List X → Type 0
+AreDistinct number [] = Unit {0}
+AreDistinct number (x ∷ xs) = (list_any (λ y. number y == number x) xs ≡ false) × AreDistinct number xs
+
 -- each bucket is kept once
 abbrev pub AreApart : List BucketValue → Type 0
-AreApart [] = Unit {0}
-AreApart (k ∷ ks) = (is_kept ks k.bucket ≡ false) × AreApart ks
+AreApart kept = AreDistinct (λ k. k.bucket) kept
 
 -- what is true of the kept buckets of an aggregate of which so many records came
 pub record IsKept (kept : List BucketValue) (count : ℕ) : Type 0 where

@@ -6,7 +6,7 @@ use Rattle.std.specs.Option.{MatchOption, unwrap_or}
 use Rattle.std.specs.Ordering.{nat_cmp}
 use Rattle.cf_row.specs.Row.{RowValue}
 use Rattle.cf_shape.specs.Lanes.{ShapeValue, by_of, key_of, measure_of, selected_by}
-use Rattle.cf_watch.specs.Kept.{AreApart, BucketValue, begun, is_kept, is_of, with_record}
+use Rattle.cf_watch.specs.Kept.{AreApart, AreDistinct, BucketValue, begun, is_kept, is_of, with_record}
 
 -- how many buckets are kept of an aggregate by key
 abbrev pub most_apart : ℕ
@@ -124,8 +124,7 @@ apart_after shape lane rows = fold (with_row_apart shape lane) nothing_apart row
 
 -- each bucket is kept once
 abbrev pub AreSeparate : List ApartValue → Type 0
-AreSeparate [] = Unit {0}
-AreSeparate (a ∷ rest) = (has_bucket rest a.bucket ≡ false) × AreSeparate rest
+AreSeparate kept = AreDistinct (λ a. a.bucket) kept
 
 -- each key is kept once, and has its place
 pub record IsIndexed (places : BTreeMap ℕ ℕ) (pairs : List BucketValue) : Type 0 where

@@ -1,8 +1,7 @@
-use Rattle.std.proofs.Common.{◌≡◌, ◌<◌, ◌≤◌, ◌∙◌, ℕ, List, ap, arith, false, length, get_or, map, refl}
+use Rattle.std.proofs.Common.{◌≡◌, ◌<◌, ◌∙◌, ℕ, List, ap, arith, length, get_or, refl}
 use Rattle.std.proofs.lemmas.List.{get_or_default}
-use Rattle.std.specs.List.{list_any}
 use Rattle.cf_watch.specs.Kept.{BucketValue, begun}
-use Rattle.cf_watch.specs.Marks.{is_untold, with_told}
+use Rattle.cf_watch.specs.Marks.{with_told}
 use Rattle.cf_watch.specs.Notes.{pair_at}
 use Rattle.cf_watch.proofs.Untold.{told_all_there, told_at, untold_left}
 use Rattle.cf_watch.proofs.pairs.tell_at.Goals as goal

@@ -1,4 +1,4 @@
-use Rattle.std.proofs.Common.{◌≡◌, sym, subst}
+use Rattle.std.proofs.Common.{sym, subst}
 use Rattle.cf_watch.specs.Notes.{AreNotes, NotesValue}
 use Rattle.cf_watch.proofs.Noted.{notes_first, notes_next}
 use Rattle.cf_watch.proofs.notes.Notes.tell.Goals as goal
