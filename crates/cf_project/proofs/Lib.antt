@@ -1,0 +1,6 @@
+pub mod Keeping
+pub mod Schemas
+pub mod Meant
+pub mod Found
+pub mod Named
+pub mod Made
