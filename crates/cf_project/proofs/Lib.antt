@@ -4,3 +4,4 @@ pub mod Meant
 pub mod Found
 pub mod Named
 pub mod Made
+pub mod Whole

@@ -1,5 +1,6 @@
 -- Where all is kept that a shape and a question name, what is left means the same.
 use Rattle.std.specs.Prelude.{◌≡◌, ℕ, Bool, true, List, map, All}
+use Rattle.std.specs.List.{list_all}
 use Rattle.cf_row.specs.Row.{Fits, RowValue}
 use Rattle.cf_row.specs.Expr.{holds_of}
 use Rattle.cf_row.specs.declared.expr.Atom.{Atom}
@@ -24,6 +25,11 @@ KeptShapesAreShapes = (kept : List Bool) (shape : ShapeValue) → KeepsShape kep
 -- What is left of a row that fits, fits.
 abbrev pub KeptRowsFit : Type 0
 KeptRowsFit = (kept : List Bool) (shape : ShapeValue) (row : RowValue) → Fits shape.schema row → Fits (shape_kept kept shape).schema (row_kept kept row)
+
+-- Where all is kept, nothing changes.
+abbrev pub NothingIsLost : Type 0
+NothingIsLost = (kept : List Bool) (shape : ShapeValue) → KeepsShape kept shape → list_all (λ mark. mark) kept ≡ true
+    → (shape_kept kept shape ≡ shape) × ((row : RowValue) → Fits shape.schema row → row_kept kept row ≡ row)
 
 -- An expression holds of the same rows.
 abbrev pub ExpressionsHoldAlike : Type 0

@@ -1,5 +1,5 @@
 // Laws of what is kept.
-ghost use Rattle.cf_project.specs.Laws.{AsksAreAlike, ExpressionsHoldAlike, KeptRowsFit, KeptShapesAreShapes, LanesAreAlike, NamedAreKept, NodesAreAlike, TriggersAreAlike};
+ghost use Rattle.cf_project.specs.Laws.{AsksAreAlike, ExpressionsHoldAlike, KeptRowsFit, KeptShapesAreShapes, LanesAreAlike, NamedAreKept, NodesAreAlike, NothingIsLost, TriggersAreAlike};
 
 /// The attributes that a shape and its questions name are all that these need.
 pub fn named_are_kept()
@@ -10,6 +10,11 @@ pub fn named_are_kept()
 pub fn kept_are_lawful()
     ensures shapes { KeptShapesAreShapes }
     ensures rows { KeptRowsFit }
+{}
+
+/// Where all is kept, the shape and its rows stay as they are.
+pub fn nothing_is_lost()
+    ensures { NothingIsLost }
 {}
 
 /// On what is left of rows, an expression holds of the same rows, a lane selects the same ones, by the same keys, measures the same of them
