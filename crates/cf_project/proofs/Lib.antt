@@ -1,0 +1,7 @@
+pub mod Keeping
+pub mod Schemas
+pub mod Meant
+pub mod Found
+pub mod Named
+pub mod Made
+pub mod Whole

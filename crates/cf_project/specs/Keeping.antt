@@ -1,0 +1,18 @@
+-- Some items of a list are kept: a mark for each place says whether its item is.
+use Rattle.std.specs.Prelude.{ℕ, zero, suc, Bool, false, List, [], ◌∷◌, slice_index_or, if◌then◌else◌}
+
+-- the items that are kept, in order; an item without a mark is not
+abbrev pub keep : {X : Type 0} → List Bool → List X → List X
+keep [] xs = []
+keep (mark ∷ marks) [] = []
+keep (mark ∷ marks) (x ∷ xs) = if mark then x ∷ keep marks xs else keep marks xs
+
+-- the new place of a kept item: as many kept ones are before it
+abbrev pub new_place : List Bool → ℕ → ℕ
+new_place [] place = 0
+new_place (mark ∷ marks) zero = 0
+new_place (mark ∷ marks) (suc place) = if mark then suc (new_place marks place) else new_place marks place
+
+-- the item at a place is kept
+abbrev pub is_kept : List Bool → ℕ → Bool
+is_kept marks place = slice_index_or marks place false

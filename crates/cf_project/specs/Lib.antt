@@ -1,0 +1,4 @@
+pub mod Keeping
+pub mod Named
+pub mod Projected
+pub mod Laws
