@@ -3,6 +3,7 @@ use Rattle.std.proofs.Common.{◌≡◌, ℕ, suc, zero, ◌≤◌, ◌^◌, tru
 use Rattle.std.proofs.lemmas.List.{length-map}
 use Rattle.std.specs.List.{list_all}
 use Rattle.std.proofs.lemmas.Bool.{and_from, and_parts, lt-ltb, ltb-true}
+use Rattle.cf_row.specs.declared.schema.TheConstants.{MOST_ATTRS}
 use Rattle.cf_row.specs.declared.schema.Attr.{Attr}
 use Rattle.cf_row.specs.declared.schema.Kind.{Kind}
 use Rattle.cf_row.specs.declared.schema.Kind.TheVariants.{U8, U16, U32, U64, Bytes}
@@ -42,7 +43,7 @@ all_wide (a ∷ attrs) (v ∷ vs) good fits =
 
 -- words that spell values of a schema are kept as they are
 pub words_kept : (attrs : List Attr) (vs : List Value) (words : List ℕ) → list_all (λ attr. has_good_size attr.kind) attrs ≡ true
-    → length attrs ≤ 32 → values_fit attrs vs ≡ true → words ≡ values_words vs
+    → length attrs ≤ MOST_ATTRS → values_fit attrs vs ≡ true → words ≡ values_words vs
     → AreKept (map (λ attr. len_of attr.kind) attrs) words × (values_kept (map (λ attr. len_of attr.kind) attrs) words ≡ vs)
 words_kept attrs vs words good few fits spell =
     packed_kept (map (λ attr. len_of attr.kind) attrs) words vs (omega (arith, few, length-map attrs (λ (attr : Attr). len_of attr.kind))) spell
