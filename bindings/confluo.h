@@ -100,7 +100,7 @@
 
 /* The version of this text, counted in the same way: that of the release it comes with. A later one may ask for changes in the source of a
 ** program, and CHANGELOG.md names them; what was built with an earlier one goes on while the soname is the same. */
-#define CONFLUO_HEADER_VERSION 20000
+#define CONFLUO_HEADER_VERSION 21000
 
 /* A log, a writer and a reader. */
 typedef struct confluo_log confluo_log;
