@@ -158,13 +158,21 @@ def body(reader, question, answer):
         found = sorted(reader.row(it).number for it in answer.words)
     elif answer.kind == confluo.Kind.GROUPS:
         found = [f"{key}=" + "/".join(map(str, quad)) for key, *quad in answer.rows]
+    elif answer.kind == confluo.Kind.KEYED_GROUPS:
+        found = [f"{bucket}/{key}=" + "/".join(map(str, quad)) for bucket, key, *quad in answer.rows]
+    elif answer.kind == confluo.Kind.KEYED_MARKS:
+        found = [f"{bucket}/{key}={value}" for bucket, key, value in answer.rows]
     else:
         found = [f"{key}={value}" for key, value in answer.rows]
     return " ".join([f"{question.kind} {len(found)}:", *map(str, found)])
 
 
 def marks(reader, trigger):
-    """The buckets in which a trigger fires, by the groups of its aggregate."""
+    """The buckets in which a trigger fires, by the groups of its aggregate, or by a question if that has a key beside them."""
+    if any(it.name == trigger.aggregate and it.kind == "aggregate by" for it in reader.names.lanes):
+        for bucket, key, value in reader.ask_text(f"ask marks_of_it fired {trigger.name}").rows:
+            yield f"alert {trigger.name} {bucket}/{key} {value}"
+        return
     compare = {"==": int.__eq__, "!=": int.__ne__, "<": int.__lt__, "<=": int.__le__, ">": int.__gt__, ">=": int.__ge__}
     for bucket, *quad in reader.groups(trigger.aggregate).rows:
         value = confluo.Quad(*quad)._asdict()[trigger.part]
