@@ -107,14 +107,14 @@ read_at (x ∷ xs) ws (suc i) lt good fits =
 pub kept_at : (lens ws : List ℕ) (i : ℕ) → i < length lens → AreKept lens ws → IsReadAt lens ws i (word_count (attrs_of (take i lens)))
 kept_at lens ws i lt kept = read_at lens ws i lt kept.sized kept.fits
 
-one_word : (k : Kind) → 1 ≤ words_of_kind k
+pub one_word : (k : Kind) → 1 ≤ words_of_kind k
 one_word U8 = omega arith
 one_word U16 = omega arith
 one_word U32 = omega arith
 one_word U64 = omega arith
 one_word (Bytes n) = grind arith
 
-many_words : (lens : List ℕ) → length lens ≤ word_count (attrs_of lens)
+pub many_words : (lens : List ℕ) → length lens ≤ word_count (attrs_of lens)
 many_words [] = omega arith
 many_words (x ∷ xs) = omega (arith, count_cons (record { name = []; kind = kind_of x }) (attrs_of xs), one_word (kind_of x), many_words xs)
 

@@ -6,3 +6,5 @@ pub mod Readable
 pub mod Written
 pub mod Kept
 pub mod Lawful
+pub mod Keeping
+mod Fronts

@@ -48,6 +48,11 @@ abbrev pub words_in : Words → List ℕ
 words_in (Few words count) = take count words
 words_in (Many words) = words.items
 
+-- the words lie within the row, and are so many
+abbrev pub AreWithin : ℕ → Words → Type 0
+AreWithin n (Few words count) = count ≡ n
+AreWithin n (Many words) = ⊥
+
 -- the values that a row keeps, as a list
 abbrev pub values_of : Values → List Value
 values_of (Listed values) = values.items

@@ -1,11 +1,12 @@
 // How a row keeps its values: as a list, or as the words that spell them.
-ghost use Rattle.std.specs.Prelude.{◌≡◌, ◌<◌, ◌≤◌, ◌++◌, length, map, take, IfOk, IfSome, IfNone, slice_index_or, true, false, IsOk};
+ghost use Rattle.std.specs.Prelude.{◌≡◌, ◌<◌, ◌≤◌, ◌++◌, length, map, take, IfOk, IfSome, IfNone, slice_index_or, true, false, IsOk, IsTrue, OnErr, OnOk};
+ghost use Rattle.cf_row.specs.Keeping.{keep};
 ghost use Rattle.std.specs.List.{list_all};
 ghost use Rattle.cf_row.specs.declared.row.Value.TheVariants.{Num};
 ghost use Rattle.cf_row.specs.Row.{is_of_kind as is_of_kind_of};
 ghost use Rattle.cf_row.specs.Schema.{has_good_size};
 ghost use Rattle.cf_row.specs.Words.{word_count, words_fit, values_read, values_words};
-ghost use Rattle.cf_row.specs.Kept.{len_of as len_of_kind, kind_of as kind_of_len, attrs_of, values_kept, AreKept, can_be_kept, lie_within, values_of, words_in};
+ghost use Rattle.cf_row.specs.Kept.{AreWithin, len_of as len_of_kind, kind_of as kind_of_len, attrs_of, values_kept, AreKept, can_be_kept, lie_within, values_of, words_in};
 ghost use Rattle.cf_row.specs.declared.schema.TheConstants.{MOST_ATTRS};
 
 use crate::row::is_of_kind;
@@ -53,6 +54,36 @@ impl Values {
         }
     }
 
+    // The values that are marked.
+    fn marked(&self, alloc: Global, kept: &[bool]) -> Result<Vec<Value>, Memory>
+        requires { length kept.now ≡ length (values_of self.now) }
+        ensures { IfOk result (λ left. left.items ≡ keep kept.now (values_of self.now)) }
+    {
+        let mut left = Vec::with_capacity(alloc, kept.len())?;
+        for place in 0..kept.len() {
+            if kept[place] {
+                left.push(self.at(place))?;
+            }
+        }
+        Ok(left)
+    }
+
+    // Leaves the values that are marked, in order. Where each has one word within the row, they move and no memory is taken.
+    pub(crate) fn keep(&mut self, alloc: Global, kept: &[bool]) -> Result<(), Memory>
+        requires { length kept.now ≡ length (values_of self.old) }
+        ensures left { OnOk result (values_of self.new ≡ keep kept.now (values_of self.old)) }
+        ensures stays { OnErr result (self.new ≡ self.old) }
+    {
+        if let Values::Spelled(spelling) = self {
+            if spelling.keep(kept) {
+                return Ok(());
+            }
+        }
+        let left = self.marked(alloc, kept)?;
+        *self = Values::of(alloc, &left)?;
+        Ok(())
+    }
+
     // Equal values, without a block of memory where they lie within a row.
     pub(crate) fn copy(&self, alloc: Global) -> Result<Values, Memory>
         ensures same { IfOk result (λ values. values_of values ≡ values_of self.now) }
@@ -98,6 +129,28 @@ impl Words {
         }
     }
 
+    // Whether they lie within the row and are so many.
+    fn are_within(&self, count: u8) -> bool
+        ensures within { IsTrue result → AreWithin count self.now }
+    {
+        matches!(self, Words::Few(_, few) if *few == count)
+    }
+
+    // Leaves the words that are marked, of which there are so many.
+    fn keep(&mut self, kept: &[bool], left: u8)
+        requires few { length kept.now ≤ MOST_ATTRS }
+        requires within { AreWithin (length kept.now) self.old }
+        requires left { left ≡ length (keep kept.now (words_in self.old)) }
+        ensures { words_in self.new ≡ keep kept.now (words_in self.old) }
+    {
+        if let Words::Few(words, _) = self {
+            keep_front(words, kept);
+        }
+        if let Words::Few(_, count) = self {
+            *count = left;
+        }
+    }
+
     fn copy(&self, alloc: Global) -> Result<Words, Memory>
         ensures words { IfOk result (λ kept. words_in kept ≡ words_in self.now) }
         ensures free { length (words_in self.now) ≤ MOST_ATTRS → IsOk result }
@@ -107,6 +160,22 @@ impl Words {
             Words::Many(words) => Words::new(alloc, words),
         }
     }
+}
+
+// Moves the marked ones of the first items to the front, in order. The answer is how many these are.
+fn keep_front<T: Copy>(items: &mut [T], kept: &[bool]) -> usize
+    requires { length kept.now ≤ length items.old }
+    ensures kept { take result items.new ≡ keep kept.now items.old }
+    ensures count { result ≡ length (keep kept.now items.old) }
+{
+    let mut count = 0;
+    for place in 0..kept.len() {
+        if kept[place] {
+            items[count] = items[place];
+            count += 1;
+        }
+    }
+    count
 }
 
 // The first words, all of them where there are fewer.
@@ -197,6 +266,21 @@ impl Spelling {
             count: values.len() as u8,
             words: Words::Few(words, at as u8),
         })
+    }
+
+    // Leaves the values that are marked, if each value has one word within the row. The answer is whether that is so.
+    fn keep(&mut self, kept: &[bool]) -> bool
+        requires { length kept.now ≡ length self.old }
+        ensures left { IsTrue result → self.new ≡ keep kept.now self.old }
+        ensures stays { result ≡ false → self.new ≡ self.old }
+    {
+        if !self.words.are_within(self.count) {
+            return false;
+        }
+        let left = keep_front(&mut self.lens, kept) as u8;
+        self.words.keep(kept, left);
+        self.count = left;
+        true
     }
 
     // The words that spell the values.
