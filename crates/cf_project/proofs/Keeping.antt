@@ -1,15 +1,11 @@
 -- What stands where among the items that are kept.
-use Rattle.std.proofs.Common.{◌≡◌, ◌∙◌, ℕ, zero, suc, ◌+◌, ◌<◌, ◌≤◌, Bool, true, false, ◌||◌, cond, List, [], ◌∷◌, ◌++◌, length, take, get_or, map, filter, slice_get, refl, ap, ap₂, sym, arith, inl, inr, add-one}
+use Rattle.std.proofs.Common.{◌≡◌, ◌∙◌, ℕ, zero, suc, ◌+◌, ◌<◌, ◌≤◌, Bool, true, false, ◌||◌, cond, List, [], ◌∷◌, ◌++◌, length, take, drop, get_or, map, filter, slice_get, refl, ap, ap₂, sym, arith, inl, inr, add-one}
 use Rattle.std.specs.List.{list_all, list_any, range_with_len}
 use Rattle.std.proofs.lemmas.Bool.{cases_Bool}
-use Rattle.std.proofs.lemmas.List.{map_push, take_all, take_more}
+use Rattle.std.proofs.lemmas.List.{map_push, take_more}
 use Rattle.cf_lemmas.proofs.Truths.{both}
+pub use Rattle.cf_row.proofs.Keeping.{keep_all, keep_end, keep_fewer, keep_more, keep_none}
 use Rattle.cf_project.specs.Keeping.{is_kept, keep, new_place}
-
--- nothing is kept of nothing
-pub keep_none : {X : Type 0} (marks : List Bool) → keep {X = X} marks [] ≡ []
-keep_none [] = refl
-keep_none (mark ∷ marks) = refl
 
 -- an item that is kept stands at its new place
 pub keep_at : {X : Type 0} (marks : List Bool) (xs : List X) (place : ℕ) (d : X) → is_kept marks place ≡ true
@@ -29,19 +25,6 @@ keep_get (true ∷ marks) (x ∷ xs) zero kept = refl
 keep_get (true ∷ marks) (x ∷ xs) (suc place) kept = keep_get marks xs place kept
 keep_get (false ∷ marks) (x ∷ xs) zero kept = absurd (cc kept)
 keep_get (false ∷ marks) (x ∷ xs) (suc place) kept = keep_get marks xs place kept
-
-pub keep_fewer : {X : Type 0} (marks : List Bool) (xs : List X) → length (keep marks xs) ≤ length xs
-keep_fewer [] xs = omega arith
-keep_fewer (mark ∷ marks) [] = omega arith
-keep_fewer (true ∷ marks) (x ∷ xs) = omega (arith, keep_fewer marks xs)
-keep_fewer (false ∷ marks) (x ∷ xs) = omega (arith, keep_fewer marks xs)
-
-pub keep_all : {X : Type 0} (p : X → Bool) (marks : List Bool) (xs : List X) → list_all p xs ≡ true → list_all p (keep marks xs) ≡ true
-keep_all p [] xs all = refl
-keep_all p (mark ∷ marks) [] all = refl
-keep_all p (true ∷ marks) (x ∷ xs) all =
-    let parts = both (p x) (list_all p xs) all in rw (parts.0) (keep_all p marks xs parts.1)
-keep_all p (false ∷ marks) (x ∷ xs) all = keep_all p marks xs (both (p x) (list_all p xs) all).1
 
 -- neither of two tests is passed
 pub neither : (a b : Bool) → (a || b) ≡ false → (a ≡ false) × (b ≡ false)
@@ -69,24 +52,6 @@ through g f h p q same passes (x ∷ xs) = elim (cases_Bool (p x)) [
   | inl is ↦ rw (passes x, is, same x) (ap (λ zs. f x ∷ zs) (through g f h p q same passes xs))
   | inr is ↦ rw (passes x, is) (through g f h p q same passes xs)
 ]
-
-keep_next : {X : Type 0} (marks : List Bool) (xs : List X) (i : ℕ) (m : Bool) (d : X) → i < length marks → i < length xs
-    → keep (take (suc i) marks) (take (suc i) xs) ≡ keep (take i marks) (take i xs) ++ cond (get_or marks i m) (get_or xs i d ∷ []) []
-keep_next [] xs i m d low high = absurd (omega (arith, low))
-keep_next (mark ∷ marks) [] i m d low high = absurd (omega (arith, high))
-keep_next (true ∷ marks) (x ∷ xs) zero m d low high = ap (λ ys. x ∷ ys) (keep_none (take 0 marks))
-keep_next (false ∷ marks) (x ∷ xs) zero m d low high = keep_none (take 0 marks)
-keep_next (true ∷ marks) (x ∷ xs) (suc i) m d low high = ap (λ ys. x ∷ ys) (keep_next marks xs i m d (omega (arith, low)) (omega (arith, high)))
-keep_next (false ∷ marks) (x ∷ xs) (suc i) m d low high = keep_next marks xs i m d (omega (arith, low)) (omega (arith, high))
-
--- one item more is looked at
-pub keep_more : {X : Type 0} (marks : List Bool) (xs : List X) (i : ℕ) (m : Bool) (d : X) → i < length marks → i < length xs
-    → keep (take (i + 1) marks) (take (i + 1) xs) ≡ keep (take i marks) (take i xs) ++ cond (get_or marks i m) (get_or xs i d ∷ []) []
-keep_more marks xs i m d low high = rw (add-one i) (keep_next marks xs i m d low high)
-
-pub keep_end : {X : Type 0} (marks : List Bool) (xs : List X) (n : ℕ) → length marks ≡ length xs → length marks ≤ n → keep (take n marks) (take n xs) ≡ keep marks xs
-keep_end marks xs n same high =
-    ap₂ (λ ms ys. keep ms ys) (take_all n marks high) (take_all n xs (omega (arith, same, high)))
 
 pub place_none : (marks : List Bool) → new_place marks 0 ≡ 0
 place_none [] = refl
@@ -139,3 +104,10 @@ pub made_more : {X Y : Type 0} (f : X → Y) (xs : List X) (ys zs : List Y) (i :
     → y ≡ f (get_or xs i d) → zs ≡ ys ++ y ∷ [] → zs ≡ map f (take (i + 1) xs)
 made_more f xs ys zs i d y is lt one more = more
     ∙ (ap₂ (λ made a. made ++ a ∷ []) is one ∙ (sym (map_push f (take i xs) (get_or xs i d)) ∙ ap (map f) (sym (take_more xs i d lt))))
+
+-- of a list of which the first items are mapped, the next one is as it was
+pub over_at : {X : Type 0} (f : X → X) (xs : List X) (place : ℕ) (d : X) → get_or (map f (take place xs) ++ drop place xs) place d ≡ get_or xs place d
+over_at f [] zero d = refl
+over_at f [] (suc place) d = refl
+over_at f (x ∷ xs) zero d = refl
+over_at f (x ∷ xs) (suc place) d = over_at f xs place d

@@ -3,5 +3,5 @@ pub mod Schemas
 pub mod Meant
 pub mod Found
 pub mod Named
-pub mod Made
 pub mod Whole
+pub mod LeftSetups

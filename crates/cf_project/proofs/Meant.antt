@@ -101,7 +101,7 @@ module _ (kept : List Bool) where
         ap₂ (λ (a b : Bool). a && b) (ap₂ (λ (a b : Bool). a && b) (of_schema_same lane.select front.0) (key_lawful_same lane.key front.1))
         (measure_lawful_same lane.measure parts.1)
 
-    lanes_lawful_same : (lanes : List Lane) → list_all (keeps_lane kept) lanes ≡ true
+    pub lanes_lawful_same : (lanes : List Lane) → list_all (keeps_lane kept) lanes ≡ true
         → list_all (is_lawful_lane (keep kept attrs)) (map (lane_kept kept) lanes) ≡ list_all (is_lawful_lane attrs) lanes
     lanes_lawful_same [] is = refl
     lanes_lawful_same (lane ∷ lanes) is =
@@ -183,7 +183,7 @@ module _ (kept : List Bool) where
         ap₂ (λ (b : Bool) (ns : List Node). cond b ns []) (selects_same lane row)
         (ap₂ (λ (l k : ℕ). path_of lane l k) (levels_same lane) (key_same lane row))
 
-    nodes_for_same : (row : RowValue) → nodes_for less (row_kept kept row) ≡ nodes_for shape row
+    pub nodes_for_same : (row : RowValue) → nodes_for less (row_kept kept row) ≡ nodes_for shape row
     nodes_for_same row =
         ap₂ (λ (f : ℕ → List Node) (n : ℕ). flat_map f (range_with_len 0 n)) (fun_ext (nodes_in_same row)) (length-map shape.lanes (lane_kept kept))
 

@@ -1,11 +1,6 @@
--- Some items of a list are kept: a mark for each place says whether its item is.
+-- Where the items that are kept of a list stand (cf_row, specs/Keeping).
 use Rattle.std.specs.Prelude.{ℕ, zero, suc, Bool, false, List, [], ◌∷◌, slice_index_or, if◌then◌else◌}
-
--- the items that are kept, in order; an item without a mark is not
-abbrev pub keep : {X : Type 0} → List Bool → List X → List X
-keep [] xs = []
-keep (mark ∷ marks) [] = []
-keep (mark ∷ marks) (x ∷ xs) = if mark then x ∷ keep marks xs else keep marks xs
+pub use Rattle.cf_row.specs.Keeping.{keep}
 
 -- the new place of a kept item: as many kept ones are before it
 abbrev pub new_place : List Bool → ℕ → ℕ

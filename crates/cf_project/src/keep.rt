@@ -7,7 +7,7 @@ ghost use Rattle.cf_project.specs.Named.{KeepsShape};
 ghost use Rattle.cf_project.specs.Projected.{ask_kept, atom_kept, expr_kept, key_kept, lane_kept, measure_kept, row_kept, shape_kept};
 
 use cf_plain::Ask;
-use cf_row::{Atom, Attr, Conjunction, Expr, Memory, Row, Schema, Value};
+use cf_row::{Atom, Attr, Conjunction, Expr, Memory, Row, Schema};
 use cf_shape::{Key, Lane, Shape};
 use std::alloc::{AllocError, Global};
 
@@ -92,7 +92,7 @@ fn kept_lane(alloc: Global, kept: &[bool], lane: &Lane) -> Result<Lane, Memory>
     })
 }
 
-fn kept_lanes(alloc: Global, kept: &[bool], lanes: &[Lane]) -> Result<Vec<Lane>, Memory>
+pub(crate) fn kept_lanes(alloc: Global, kept: &[bool], lanes: &[Lane]) -> Result<Vec<Lane>, Memory>
     requires { length kept.now ≤ MOST_ATTRS }
     ensures { IfOk result (λ left. left.items ≡ map (lane_kept kept.now) lanes.now) }
 {
@@ -104,7 +104,7 @@ fn kept_lanes(alloc: Global, kept: &[bool], lanes: &[Lane]) -> Result<Vec<Lane>,
 }
 
 // The attributes that are kept.
-fn kept_attrs(alloc: Global, kept: &[bool], attrs: &[Attr]) -> Result<Vec<Attr>, Memory>
+pub(crate) fn kept_attrs(alloc: Global, kept: &[bool], attrs: &[Attr]) -> Result<Vec<Attr>, Memory>
     requires { length kept.now ≡ length attrs.now }
     ensures { IfOk result (λ left. left.items ≡ keep kept.now attrs.now) }
 {
@@ -168,60 +168,28 @@ pub fn kept_asks(alloc: Global, kept: &[bool], asks: &[Ask]) -> Result<Vec<Ask>,
     Ok(left)
 }
 
-// Puts the values that are kept in place of those that the list has.
-fn put_values(
-    kept: &[bool],
-    schema: &Schema,
-    row: &Row,
-    left: &mut Vec<Value>,
-) -> Result<(), Memory>
-    requires marks { length kept.now ≡ length schema.now }
-    requires few { length kept.now ≤ MOST_ATTRS }
-    requires fits { Fits schema.now row.now }
-    ensures { OnOk result (left.new.items ≡ keep kept.now row.now.values) }
+// Leaves of each row the values that are kept. If it is refused for memory, some rows are as they were.
+fn keep_rows(alloc: Global, kept: &[bool], rows: &mut [Row]) -> Result<(), Memory>
+    requires { All (λ row. length kept.now ≡ length row.values) rows.old }
+    ensures { OnOk result (rows.new ≡ map (row_kept kept.now) rows.old) }
 {
-    left.clear();
-    for place in 0..kept.len() {
-        if kept[place] {
-            left.push(row.get(schema, place as u8))?;
-        }
+    for place in 0..rows.len() {
+        rows[place].keep(alloc, kept)?;
     }
     Ok(())
 }
 
-// What is left of a row. The list is room for its values.
-fn kept_row(
-    alloc: Global,
-    kept: &[bool],
-    schema: &Schema,
-    row: &Row,
-    values: &mut Vec<Value>,
-) -> Result<Row, Memory>
-    requires marks { length kept.now ≡ length schema.now }
-    requires few { length kept.now ≤ MOST_ATTRS }
-    requires fits { Fits schema.now row.now }
-    ensures { IfOk result (λ left. left ≡ row_kept kept.now row.now) }
-{
-    put_values(kept, schema, row, values)?;
-    Row::packed(alloc, row.num(), values)
-}
-
-/// What is left of rows.
+/// What is left of rows. If each value of a row has one word, as those of a packet have, it is made in place, without memory.
 pub fn kept_rows(
     alloc: Global,
     kept: &[bool],
-    schema: &Schema,
-    rows: &[Row],
+    _schema: &Schema,
+    mut rows: Vec<Row>,
 ) -> Result<Vec<Row>, Memory>
-    requires marks { length kept.now ≡ length schema.now }
-    requires fit { All (Fits schema.now) rows.now }
-    ensures { IfOk result (λ left. left.items ≡ map (row_kept kept.now) rows.now) }
+    requires marks { length kept.now ≡ length _schema.now }
+    requires fit { All (Fits _schema.now) rows.items }
+    ensures { IfOk result (λ left. left.items ≡ map (row_kept kept.now) rows.items) }
 {
-    let _lawful = schema.attrs();
-    let mut values = Vec::with_capacity(alloc, kept.len())?;
-    let mut left = Vec::with_capacity(alloc, rows.len())?;
-    for row in rows {
-        left.push(kept_row(alloc, kept, schema, row, &mut values)?)?;
-    }
-    Ok(left)
+    keep_rows(alloc, kept, rows.as_mut_slice())?;
+    Ok(rows)
 }

@@ -4,6 +4,6 @@ mod Lawful
 mod LineReads
 mod RuleLaws
 pub mod SetupReads
-mod Shapes
+pub mod Shapes
 mod Taken
 mod Whole

@@ -146,6 +146,26 @@ impl Setup {
     {
         &self.ask_names
     }
+
+    /// The setup over another schema, with its lanes and asks as they are there. All else stays.
+    pub fn over(self, schema: Schema, lanes: Vec<Lane>, asks: Vec<Ask>) -> Setup
+        requires { IsSetup (record self { schema = schema; lanes = lanes.items; asks = asks.items }) }
+        ensures { result ≡ record self { schema = schema; lanes = lanes.items; asks = asks.items } }
+    {
+        Setup {
+            source: self.source,
+            schema_line: self.schema_line,
+            schema,
+            width: self.width,
+            lanes,
+            triggers: self.triggers,
+            asks,
+            lives: self.lives,
+            lane_names: self.lane_names,
+            trigger_names: self.trigger_names,
+            ask_names: self.ask_names,
+        }
+    }
 }
 
 // The shape of these lawful parts.

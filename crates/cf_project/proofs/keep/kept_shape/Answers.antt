@@ -7,7 +7,7 @@ use Rattle.cf_shape.specs.declared.shape.ShapeFault.{ShapeFault}
 use Rattle.cf_shape.specs.declared.lane.Lane.{Lane}
 use Rattle.cf_project.specs.Keeping.{keep}
 use Rattle.cf_project.specs.Projected.{lane_kept, shape_kept}
-use Rattle.cf_project.proofs.Made.{lanes_belong, no_fault}
+use Rattle.cf_setup.proofs.Shapes.{lanes_belong, no_fault}
 use Rattle.cf_project.proofs.Meant.{shape_lawful}
 use Rattle.cf_project.proofs.Schemas.{schema_kept}
 use Rattle.cf_project.proofs.keep.kept_shape.Goals as goal
