@@ -1,5 +1,5 @@
 -- A reader of one of the two formats, over a stream.
-use Rattle.std.proofs.Common.{◌≡◌, ◌==◌, if◌then◌else◌, ℕ, ◌+◌, ◌*◌, ◌≤◌, List, [], ◌++◌, length, length-append, Bool, true, false, Option, Some, None, Result, refl, subst, sym, ap, ◌∙◌, arith}
+use Rattle.std.proofs.Common.{◌≡◌, ◌==◌, if◌then◌else◌, ℕ, ◌+◌, ◌*◌, ◌-◌, ◌^◌, ◌≤◌, List, [], ◌++◌, length, length-append, length-take, Bool, true, false, Option, Some, None, Result, refl, subst, sym, ap, ◌∙◌, arith}
 use Rattle.cf_pcap.specs.declared.scope.Scope.{Scope}
 use Rattle.cf_pcap.specs.declared.fault.PcapFault.{PcapFault}
 use Rattle.cf_pcap.specs.Capture.{FrameValue, HasPcapFault}
@@ -16,13 +16,15 @@ use Rattle.cf_pcapng.specs.Reader as blocks
 use Rattle.cf_pcapng.specs.Rules.{HasFaultOf, blocks as blocks_kind}
 use Rattle.cf_pcapng.specs.Truncated as blocks_cut
 use Rattle.cf_pcapng.proofs.Steps as blocks_steps
-use Rattle.cf_pcap.specs.Format.{Format}
+use Rattle.cf_pcap.specs.Format.{Format, items_of}
 use Rattle.cf_pcap.specs.Limits.{number_of}
-use Rattle.cf_pcap.specs.Streams.{IsStepper, AreGiven, IsFed}
+use Rattle.cf_pcap.specs.Streams.{IsStepper, AreGiven, IsFed, early}
+use Rattle.cf_pcap.specs.declared.limit.Length.{Length}
+use Rattle.cf_pcap.specs.declared.limit.Length.TheVariants.{Limited, Any}
 use Rattle.cf_pcap.proofs.Given.{given_of, one_given}
 use Rattle.cf_pcap.proofs.Limits.{none_short}
 use Rattle.cf_pcap.proofs.Seen.{early_short}
-use Rattle.cf_pcap.proofs.FormatUnits.{reads_nothing, wants_none}
+use Rattle.cf_pcap.proofs.FormatUnits.{reads_nothing, sizes, wants_none}
 use Rattle.cf_intake.specs.Faults.{IsTold, code_of, record_of, refusal_by, halt_by, halt_of}
 use Rattle.cf_intake.specs.Parts.{IsBad}
 use Rattle.cf_intake.specs.Reading.{AddsFew, AreFramesTo, HasFaultUncut, IsCutAt, IsReaderAt}
@@ -30,6 +32,7 @@ use Rattle.cf_intake.specs.Rows.{AreFramesBefore}
 use Rattle.cf_intake.specs.declared.faults.Fault.{Fault}
 use Rattle.cf_intake.specs.declared.faults.Fault.TheVariants as faults
 use Rattle.cf_intake.specs.declared.refusal.Refusal.TheVariants.{Capture}
+use Rattle.cf_intake.specs.declared.reader.Reader.{Reader}
 use Rattle.cf_intake.specs.declared.reader.Reader.TheVariants.{Pcap, PcapNg}
 
 -- of a stream of no bytes no item is given
@@ -44,6 +47,26 @@ records_begin reader state = (state, nothing_given (pcap reader.scope) (records_
 
 pub blocks_begin : (reader : blocks.PcapNgValue) → blocks.IsStateOf reader [] → IsReaderAt (PcapNg reader) [] []
 blocks_begin reader state = (state, nothing_given (pcapng reader.scope) (blocks_steps.stepper reader.scope))
+
+-- Each frame that a reader has given takes 16 bytes of the stream at least.
+
+early_fits : (longest : Length) (stream : List ℕ) → length (early longest stream) ≤ length stream
+unfolding early
+early_fits Limited stream = let size = length-take (2 ^ 32 - 1) stream in omega (arith, size)
+early_fits Any stream = omega arith
+
+given_few : {S I F : Type 0} (f : Format S I F) → IsStepper f → (stream : List ℕ) (items : List I) → AreGiven f stream items
+    → 16 * length items ≤ length stream
+given_few f is stream items given =
+    let most : 16 * length (items_of given.read.parts) + length given.rest ≤ length (early f.length stream) =
+    sizes f is f.start given.read.parts (early f.length stream) given.last given.rest given.read.units in
+    let same : length items ≡ length (items_of given.read.parts) = ap length given.read.items_are in
+    let fits : length (early f.length stream) ≤ length stream = early_fits f.length stream in
+    omega (arith, most, same, fits)
+
+pub frames_few : (reader : Reader) (stream : List ℕ) (frames : List FrameValue) → IsReaderAt reader stream frames → 16 * length frames ≤ length stream
+frames_few (Pcap reader) stream frames at = given_few (pcap reader.scope) (records_steps.stepper reader.scope) stream frames at.1
+frames_few (PcapNg reader) stream frames at = given_few (pcapng reader.scope) (blocks_steps.stepper reader.scope) stream frames at.1
 
 -- It gives those of one more piece.
 

@@ -43,7 +43,7 @@ fn begin_reader(
 ) -> Result<(Reader, Vec<Frame>), Memory>
     requires { 4 ≤ length held.now }
     ensures begun { IfOk result (λ begun. IsUnderWay schema begun.0 held.now (packet_rows schema begun.1.items)) }
-    ensures few { IfOk result (λ begun. 16 * length begun.1.items ≤ length held.now + 15) }
+    ensures few { IfOk result (λ begun. 16 * length begun.1.items ≤ length held.now) }
 {
     let mut reader = Reader::of(alloc, held, Scope::unlimited(links_of(schema)))?;
     let mut frames = Vec::new(alloc);
@@ -63,7 +63,7 @@ fn first_frames(
     ensures read { IfOk result (λ given. (bytes : List ℕ) (rows : List RowValue) → AreReadBy schema None held.old.items bytes rows
         → AreReadBy schema reader.new held.new.items (bytes ++ piece.now) (rows ++ packet_rows schema given.items)) }
     ensures few { IfOk result (λ given. (bytes : List ℕ) (rows : List RowValue) → AreReadBy schema None held.old.items bytes rows
-        → 16 * length given.items ≤ length piece.now + 18) }
+        → 16 * length given.items ≤ length piece.now + 15) }
 {
     held.extend_from_slice(piece)?;
     if held.len() < FORMAT {
@@ -97,7 +97,7 @@ fn next_frames(
     ensures read { IfOk result (λ given. (bytes : List ℕ) (rows : List RowValue) → AreReadBy schema reader.old held.old.items bytes rows
         → AreReadBy schema reader.new held.new.items (bytes ++ piece.now) (rows ++ packet_rows schema given.items)) }
     ensures few { IfOk result (λ given. (bytes : List ℕ) (rows : List RowValue) → AreReadBy schema reader.old held.old.items bytes rows
-        → 16 * length given.items ≤ length piece.now + 18) }
+        → 16 * length given.items ≤ length piece.now + 15) }
 {
     match reader {
         Some(reader) => feed_frames(alloc, reader, piece),
@@ -128,7 +128,7 @@ impl Reads {
         ensures files { F.files shelf.new ≡ F.files shelf.old }
         ensures read { IfOk result (λ given. HasNext self.old self.new (view_by (F.rest shelf.old) (F.moved shelf.old))
             (view_by (F.rest shelf.new) (F.moved shelf.new)) (option_map (λ frames. packet_rows self.old.schema frames.items) given)) }
-        ensures few { IfOk result (λ given. IfSome given (λ frames. WhileReading self.old (length frames.items ≤ 4097))) }
+        ensures few { IfOk result (λ given. IfSome given (λ frames. WhileReading self.old (length frames.items ≤ 4096))) }
         ensures schema { self.new.schema ≡ self.old.schema }
         ensures stopped { result ≡ Err stops.Memory → WhileReading self.old ((piece : List ℕ) × MovesPiece (view_by (F.rest shelf.old) (F.moved shelf.old))
             (view_by (F.rest shelf.new) (F.moved shelf.new)) piece) }
@@ -156,7 +156,7 @@ impl Reads {
         ensures files { F.files shelf.new ≡ F.files shelf.old }
         ensures read { IfOk result (λ given. HasNext self.old self.new (view_by (F.rest shelf.old) (F.moved shelf.old))
             (view_by (F.rest shelf.new) (F.moved shelf.new)) (option_map (λ rows. rows.items) given)) }
-        ensures few { IfOk result (λ given. IfSome given (λ rows. WhileReading self.old (length rows.items ≤ 4097))) }
+        ensures few { IfOk result (λ given. IfSome given (λ rows. WhileReading self.old (length rows.items ≤ 4096))) }
         ensures fit { IfOk result (λ given. IfSome given (λ rows. All (Fits (attrs_by self.old.schema)) rows.items)) }
         ensures schema { self.new.schema ≡ self.old.schema }
         ensures numbered { IfOk result (λ given. IfSome given (λ rows. (bytes : List ℕ) (before : List RowValue) → HaveRead self.old bytes before
@@ -183,7 +183,7 @@ impl Reads {
         ensures files { F.files shelf.new ≡ F.files shelf.old }
         ensures read { IfOk result (λ given. HasNextFrom first self.old self.new (view_by (F.rest shelf.old) (F.moved shelf.old))
             (view_by (F.rest shelf.new) (F.moved shelf.new)) (option_map (λ rows. rows.items) given)) }
-        ensures few { IfOk result (λ given. IfSome given (λ rows. WhileReading self.old (length rows.items ≤ 4097))) }
+        ensures few { IfOk result (λ given. IfSome given (λ rows. WhileReading self.old (length rows.items ≤ 4096))) }
         ensures fit { IfOk result (λ given. IfSome given (λ rows. All (Fits (attrs_by self.old.schema)) rows.items)) }
         ensures schema { self.new.schema ≡ self.old.schema }
         ensures cause { HasStopCause (F.faults shelf.old) (F.faults shelf.new) result }

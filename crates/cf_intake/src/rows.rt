@@ -9,7 +9,7 @@ ghost use Rattle.cf_intake.specs.Reads.{numbered_on};
 ghost use Rattle.cf_intake.specs.Rows.{packet_rows, row_by};
 
 use crate::refusal::Halt;
-use cf_headers::{packet_row, packet6_row};
+use cf_headers::{FrameInfo, packet_row_of_bytes, packet6_row_of_bytes};
 use cf_pcap::Frame;
 use cf_records::read_first;
 use cf_row::{Memory, PacketSchema, Row, Schema};
@@ -53,13 +53,14 @@ pub fn format_of<'a>(setup: &'a Setup) -> Format<'a>
 }
 
 // The row of a frame, by that schema.
-fn row_of(alloc: Global, frame: &Frame, schema: PacketSchema) -> Result<Row, Memory>
-    ensures row { IfOk result (λ row. row ≡ row_by schema frame.now) }
-    ensures fits { IfOk result (Fits (attrs_by schema)) }
+fn row_of(frame: &Frame, schema: PacketSchema) -> Row
+    ensures row { result ≡ row_by schema frame.now }
+    ensures fits { Fits (attrs_by schema) result }
 {
+    let info = FrameInfo::of(frame);
     match schema {
-        PacketSchema::Packet => packet_row(alloc, frame),
-        PacketSchema::Packet6 => packet6_row(alloc, frame),
+        PacketSchema::Packet => packet_row_of_bytes(info, &frame.bytes),
+        PacketSchema::Packet6 => packet6_row_of_bytes(info, &frame.bytes),
     }
 }
 
@@ -74,7 +75,7 @@ pub(crate) fn rows_of(
 {
     let mut rows = Vec::with_capacity(alloc, frames.len())?;
     for frame in frames {
-        rows.push(row_of(alloc, frame, schema)?)?;
+        rows.push(row_of(frame, schema))?;
     }
     Ok(rows)
 }
@@ -93,7 +94,7 @@ pub(crate) fn numbered_rows(
     let mut num = first;
     for frame in frames {
         let frame = Frame { num, ..frame };
-        rows.push(row_of(alloc, &frame, schema)?)?;
+        rows.push(row_of(&frame, schema))?;
         num = num.saturating_add(1);
     }
     Ok(rows)

@@ -143,7 +143,7 @@ impl<'a> Series<'a> {
         ensures files { F.files shelf.new ≡ F.files shelf.old }
         ensures read { (rows : List RowValue) → IsSeriesAt (reading self.old reads) (F.files shelf.old) (F.rest shelf.old) rows
             → SeriesComesTo self.new (F.files shelf.old) (F.rest shelf.new) rows (result_rows result) }
-        ensures few { IfOk result (λ given. IfSome given (λ rows. length rows.items ≤ 4097)) }
+        ensures few { IfOk result (λ given. IfSome given (λ rows. length rows.items ≤ 4096)) }
         ensures fit { IfOk result (λ given. IfSome given (λ rows. All (Fits (attrs_by reads.schema)) rows.items)) }
         ensures cause { HasHaltCause (F.faults shelf.old) (F.faults shelf.new) result }
     {
@@ -166,7 +166,7 @@ impl<'a> Series<'a> {
         ensures files { F.files shelf.new ≡ F.files shelf.old }
         ensures read { (rows : List RowValue) → IsSeriesAt self.old (F.files shelf.old) (F.rest shelf.old) rows
             → SeriesComesTo self.new (F.files shelf.old) (F.rest shelf.new) rows (result_rows result) }
-        ensures few { IfOk result (λ given. IfSome given (λ rows. length rows.items ≤ 4097)) }
+        ensures few { IfOk result (λ given. IfSome given (λ rows. length rows.items ≤ 4096)) }
         ensures fit { IfOk result (λ given. IfSome given (λ rows. All (Fits (attrs_by self.old.schema)) rows.items)) }
         ensures cause { HasHaltCause (F.faults shelf.old) (F.faults shelf.new) result }
     {

@@ -13,11 +13,11 @@ loop-frame-preserved c =
     let up = c.saturating_add-num.ensures in
     let many = length-append c.loop-frame.yielded (c.in-Some.frame ∷ []) in
     record {
-      rows = more_numbered c.args.schema c.args.first c.loop-frame.num c.loop-frame.yielded c.in-Some.frame c.in_ok-row_of.field-0 c.loop-frame.rows.items
+      rows = more_numbered c.args.schema c.args.first c.loop-frame.num c.loop-frame.yielded c.in-Some.frame c.row_of.result c.loop-frame.rows.items
           c.push.new.self.items v.rows num
-          (c.in_ok-row_of.ensures.row
+          (c.row_of.ensures.row
           ∙ ap (λ (f : FrameValue). row_by c.args.schema (record f { num = c.loop-frame.num })) c.frame.view_is) c.in_ok-push.ensures.items;
       num = omega (arith, num, up, many);
-      fit = all_fit (attrs_by c.args.schema) c.loop-frame.rows.items c.push.new.self.items c.in_ok-row_of.field-0 v.fit c.in_ok-row_of.ensures.fits
+      fit = all_fit (attrs_by c.args.schema) c.loop-frame.rows.items c.push.new.self.items c.row_of.result v.fit c.row_of.ensures.fits
           c.in_ok-push.ensures.items;
     }
