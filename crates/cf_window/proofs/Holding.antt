@@ -45,11 +45,11 @@ flat_from f a (suc n) =
 abbrev pub counted : ShapeValue → RowValue → ℕ → ℕ
 counted shape row lanes = length (flat_map (nodes_in shape row) (range_with_len 0 lanes))
 
-length_range : (a n : ℕ) → length (range_with_len a n) ≡ n
+pub length_range : (a n : ℕ) → length (range_with_len a n) ≡ n
 length_range a zero = refl
 length_range a (suc n) = ap suc (length_range (a + 1) n)
 
-path_long : (lane levels key : ℕ) → length (path_of lane levels key) ≡ levels - 1
+pub path_long : (lane levels key : ℕ) → length (path_of lane levels key) ≡ levels - 1
 path_long lane levels key = length-map (range_with_len 1 (levels - 1)) _ ∙ length_range 1 (levels - 1)
 
 pub counted_in : (shape : ShapeValue) (row : RowValue) (lane : ℕ) → selected_by shape lane row ≡ true

@@ -1,5 +1,6 @@
 pub mod Taken
 pub mod Holding
+pub mod Fewer
 pub mod Finding
 pub mod Dropping
 pub mod Rows

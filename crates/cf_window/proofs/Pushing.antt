@@ -1,5 +1,5 @@
 -- A row is pushed where the oldest segment was dropped for it.
-use Rattle.std.proofs.Common.{◌≡◌, ◌∙◌, ◌+◌, ◌-◌, ◌^◌, ◌<◌, [], length, drop, slice_index_or}
+use Rattle.std.proofs.Common.{◌+◌, [], length, drop, slice_index_or}
 use Rattle.cf_window.specs.Held.{WindowValue}
 
 abbrev pub dropped : WindowValue → WindowValue

@@ -1,5 +1,5 @@
 -- A segment: a log with one writer that takes rows until it has no place or lacks a node.
-use Rattle.std.specs.Prelude.{◌≡◌, Bool, true, false, List, [], ◌∷◌, ◌++◌}
+use Rattle.std.specs.Prelude.{◌≡◌, ◌⊎◌, ℕ, ◌*◌, ◌≤◌, Bool, true, false, List, [], ◌∷◌, ◌++◌, length}
 use Rattle.cf_row.specs.Row.{RowValue}
 use Rattle.cf_shape.specs.Lanes.{ShapeValue}
 use Rattle.cf_segments.specs.Needed.{HasNodes}
@@ -19,8 +19,22 @@ pub record IsWindowSegment (log : LogValue) (pass : PassValue) (is_spent : Bool)
   pub alone : IsAlone log pass
   pub nodes : is_spent ≡ false → HasNodes log.shape (rows_in (pass.view).seen) pass.view
 
-abbrev pub segment_value : LogValue → PassValue → Bool → WindowSegmentValue
-segment_value log pass is_spent = record { shape = log.shape; rows = rows_in (pass.view).seen; is_spent = is_spent }
+-- the shape with so many nodes
+abbrev pub with_nodes : ShapeValue → ℕ → ShapeValue
+with_nodes shape nodes = record shape { nodes = nodes }
+
+-- how many nodes the paths of a row have at most: 15 in each lane, whose keys have at most 16 nibbles
+abbrev pub most_nodes : ShapeValue → ℕ
+most_nodes shape = length shape.lanes * 15
+
+-- A log of that shape has so many nodes, or fewer, but as many as all rows for which it has places can need.
+pub record HasEnough (log : ShapeValue) (nodes : ℕ) : Type 0 where
+  pub fewer : log.nodes ≤ nodes
+  pub enough : (log.nodes ≡ nodes) ⊎ (log.capacity * most_nodes log ≤ log.nodes)
+
+-- a segment whose rows may need so many nodes
+abbrev pub segment_value : LogValue → ℕ → PassValue → Bool → WindowSegmentValue
+segment_value log nodes pass is_spent = record { shape = with_nodes log.shape nodes; rows = rows_in (pass.view).seen; is_spent = is_spent }
 
 -- rows, and one more where it was taken
 abbrev pub with_row : List RowValue → RowValue → Bool → List RowValue

@@ -1,25 +1,28 @@
 // A segment of a window.
-ghost use Rattle.std.specs.Prelude.{◌≡◌, ◌<◌, ◌≤◌, ◌++◌, ◌∷◌, [], not, length, true, false, IfOk, IsTrue, if◌then◌else◌};
+ghost use Rattle.std.specs.Prelude.{◌≡◌, ◌*◌, ◌<◌, ◌≤◌, ◌++◌, ◌∷◌, [], not, length, true, false, IfOk, IsTrue, if◌then◌else◌};
 ghost use Rattle.cf_row.specs.Row.{Fits};
 ghost use Rattle.cf_plain.specs.Asks.{Suits, rows_in};
 ghost use Rattle.cf_plain.specs.Segments.{finding_in};
-ghost use Rattle.cf_window.specs.Segments.{IsWindowSegment, with_row};
+ghost use Rattle.cf_window.specs.Segments.{HasEnough, IsWindowSegment, most_nodes, with_nodes, with_row};
 ghost use Rattle.cf_window.specs.Windows.{takes};
 
 use cf_append::{append, settle};
 use cf_plain::{Ask, Finding};
 use cf_query::{finding, tail};
 use cf_row::{Memory, Row};
-use cf_shape::Shape;
+use cf_shape::{Shape, belongs, copy_lanes};
 use cf_table::{MultiLog, Pass, Root, Steps, WriterPass};
 use std::alloc::Global;
 use std::marker::{Brand, Model};
 use std::sync::ledger::{Blank, Ledger};
 
-/// A log of one writer, which takes rows until one has no place in it or lacks a node.
+/// A log of one writer, which takes rows until one has no place in it or lacks a node. It is opened with no more nodes than all rows for
+/// which it has places can need: a table of many nodes takes long to make.
 #[derive(Drop)]
 pub struct WindowSegment {
     log: MultiLog,
+    // How many nodes its rows may need.
+    nodes: u32,
     // its one book is dealt to the pass
     _root: Root,
     pass: WriterPass,
@@ -27,13 +30,42 @@ pub struct WindowSegment {
 }
 
 impl Model for WindowSegment {
-    ghost use Rattle.cf_window.specs.Segments.{WindowSegmentValue, IsWindowSegment, segment_value};
+    ghost use Rattle.cf_window.specs.Segments.{HasEnough, WindowSegmentValue, IsWindowSegment, segment_value};
 
     ghost Value = { WindowSegmentValue };
 
-    ghost view = { λ s. segment_value s.log s.pass s.is_spent };
+    ghost view = { λ s. segment_value s.log s.nodes s.pass s.is_spent };
 
-    ghost invariant = { λ s. IsWindowSegment s.log s.pass s.is_spent };
+    ghost invariant = { λ s. IsWindowSegment s.log s.pass s.is_spent × HasEnough s.log.shape s.nodes };
+}
+
+// How many nodes the path of a row in a lane has at most.
+const MOST_ON_PATH: u32 = 15;
+
+// How many nodes all rows of a segment need at most.
+fn enough_nodes(shape: &Shape) -> u32
+    ensures { result ≡ shape.now.capacity * most_nodes shape.now }
+{
+    let lanes = shape.lanes().len() as u32;
+    shape.capacity() * (lanes * MOST_ON_PATH)
+}
+
+// The shape with no more nodes than all rows of a segment can need.
+fn log_shape(alloc: Global, shape: &Shape) -> Result<Shape, Memory>
+    ensures { IfOk result (λ log. (with_nodes log shape.now.nodes ≡ shape.now) × HasEnough log shape.now.nodes) }
+{
+    let schema = shape.schema().copy(alloc)?;
+    let lanes = copy_lanes(alloc, shape.lanes())?;
+    let nodes = enough_nodes(shape);
+    if nodes >= shape.nodes() || !belongs(&schema, &lanes) {
+        return shape.copy(alloc);
+    }
+    let (capacity, writers, width) = (shape.capacity(), shape.writers(), shape.width());
+    match Shape::new(schema, lanes, capacity, writers, nodes, width) {
+        Ok(log) => Ok(log),
+        // Fewer nodes are refused nowhere, and all are as good.
+        Err(_) => shape.copy(alloc),
+    }
 }
 
 // Appends the row, where it has a place and lacks no node, and moves the read tail on.
@@ -97,22 +129,17 @@ impl WindowSegment {
         requires one { shape.writers ≡ 1 }
         ensures { IfOk result (λ segment. segment ≡ record { shape = shape; rows = []; is_spent = false }) }
     {
-        let (log, mut root) = MultiLog::open(alloc, shape)?;
+        let nodes = shape.nodes();
+        let (log, mut root) = MultiLog::open(alloc, log_shape(alloc, &shape)?)?;
         let mut passes = log.deal(alloc, &mut root)?;
         let pass = passes.swap_remove(0);
         Ok(WindowSegment {
             log,
+            nodes,
             _root: root,
             pass,
             is_spent: false,
         })
-    }
-
-    /// The shape of its log.
-    pub fn shape(&self) -> &Shape
-        ensures { result.now ≡ self.now.shape }
-    {
-        self.log.shape()
     }
 
     /// Takes the row as its last one, where it has a place for it and the nodes that the row needs. Else its rows stay as they are,
