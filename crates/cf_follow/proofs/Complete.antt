@@ -1,5 +1,5 @@
 -- A lawful capture is followed to its end.
-use Rattle.std.proofs.Common.{◌≡◌, ◌∙◌, ◌⊎◌, ℕ, ◌+◌, ◌<◌, ◌≤◌, inl, inr, List, [], ◌∷◌, ◌++◌, length, take, All, Bool, true, not, slice_index_or, Option, Some, None, IfSome, refl, sym, ap, subst, arith, length-append, append-nil, append_assoc}
+use Rattle.std.proofs.Common.{◌≡◌, ◌∙◌, ◌⊎◌, ℕ, ◌+◌, inl, inr, List, [], ◌∷◌, ◌++◌, length, take, All, Bool, true, not, slice_index_or, Option, Some, None, IfSome, refl, sym, ap, subst, arith, length-append, append-nil, append_assoc}
 use Rattle.std.specs.Io.KnownBytes.{Consumes, IsAtEnd}
 use Rattle.std.proofs.KnownBytes.{Consumes-trans}
 use Rattle.cf_outside.specs.Files.{ShelfView}
@@ -13,7 +13,7 @@ use Rattle.cf_intake.specs.Reads.{AreRowsGiven, FindsEnd}
 use Rattle.cf_intake.proofs.Capturing.{packets_never}
 use Rattle.cf_rounds.specs.Held.{RoundsValue}
 use Rattle.cf_window.specs.Watched.{bytes_in_all}
-use Rattle.cf_window.specs.Windows.{is_small, rows_in_all, window}
+use Rattle.cf_window.specs.Windows.{is_small, rows_in_all}
 use Rattle.cf_window.proofs.Rows.{rows_one}
 use Rattle.cf_follow.specs.Completed.{IsWatchable, Yields}
 use Rattle.cf_follow.specs.Followed.{AreRead, IsDueOfStream, IsFollowed, IsTurnedAway}

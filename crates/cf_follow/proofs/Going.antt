@@ -1,16 +1,20 @@
 -- The following of a capture goes on, or ends.
-use Rattle.std.proofs.Common.{◌≡◌, ◌∙◌, ◌⊎◌, inl, inr, ℕ, ◌+◌, ◌<◌, ◌≤◌, List, [], ◌∷◌, ◌++◌, length, suc, zero, fold, Bool, true, false, Option, Some, None, IsNone, Ok, Err, refl, sym, ap, ap₂, subst, arith, append-nil, append_assoc}
+use Rattle.std.proofs.Common.{◌≡◌, ◌∙◌, inl, inr, ℕ, ◌+◌, ◌<◌, ◌≤◌, List, [], ◌∷◌, ◌++◌, length, suc, zero, Bool, true, false, Option, Some, None, IsNone, Ok, Err, refl, sym, ap, ap₂, subst, arith, append-nil, append_assoc}
 use Rattle.std.specs.Prelude.{◌==◌}
 use Rattle.std.specs.Io.KnownBytes.{Appends, Keeps}
 use Rattle.std.proofs.KnownBytes.{Appends-nil, Appends-trans, Keeps-refl}
+use Rattle.std.proofs.lemmas.List.{map-append}
 use Rattle.cf_outside.specs.Files.{ShelfView}
 use Rattle.cf_row.specs.Row.{RowValue}
+use Rattle.cf_project.specs.Projected.{row_kept}
 use Rattle.cf_row.specs.declared.packet6.PacketSchema.{PacketSchema}
 use Rattle.cf_pcap.specs.declared.limit.Length.TheVariants.{Any}
 use Rattle.cf_intake.specs.Devices.{WritesFront}
 use Rattle.cf_intake.specs.Faults.{HasPacketFaultTo, ShowNoFault}
 use Rattle.cf_intake.specs.Parts.{IsBad}
 use Rattle.cf_intake.specs.Reads.{AreRowsGiven, FailsToRead, FindsEnd, HasNext, HaveRead, MovesOn, MovesPiece}
+use Rattle.cf_follow.specs.LeftStreams.{rows_left, stream_left, terms_left}
+use Rattle.cf_follow.proofs.LeftStreams.{last_says, round_stream}
 use Rattle.cf_intake.specs.Refusals.{line_of}
 use Rattle.cf_intake.specs.Rows.{ArePacketsTo}
 use Rattle.cf_intake.specs.declared.reads.Reads.{Reads}
@@ -22,48 +26,51 @@ use Rattle.cf_intake.specs.declared.refusal.Stop.TheVariants as stops
 use Rattle.cf_intake.proofs.SingleReads.{rows_given}
 use Rattle.cf_rounds.specs.Held.{IsAt, IsSetAs, RoundsValue}
 use Rattle.cf_rounds.specs.Lines.{end_text}
-use Rattle.cf_rounds.specs.Streams.{Standing, Stream, Terms, after_reads, after_round, begun as begun_stream, forces, halted_text, round_text, through, view_of, with_round}
-use Rattle.cf_rounds.proofs.Onward.{round_says}
-use Rattle.cf_window.specs.Windows.{rows_in_all, window}
+use Rattle.cf_rounds.specs.Streams.{Standing, Stream, Terms, after_reads, after_round, round_text, through, view_of, with_round}
+use Rattle.cf_rounds.proofs.Onward.{course_all, round_says}
+use Rattle.cf_window.specs.Windows.{rows_in_all}
 use Rattle.cf_window.proofs.Rows.{rows_one}
-use Rattle.cf_follow.specs.Followed.{AreRead, AreTaken, AreTakenFrom, HasBrokenOff, HasSaidBefore, IsAhead, IsAtLast, IsDueOfStream, IsFollowed, IsGoingOn, IsTurnedAway, WritesPast, behind, halted, spoken, truncated_line, whole}
-use Rattle.cf_follow.specs.Followed.IsAhead.{uncalled, moved, ended, failed}
+use Rattle.cf_follow.specs.Followed.{AreRead, AreTaken, AreTakenFrom, HasBrokenOff, IsAhead, IsAtLast, IsDueOfStream, IsFollowed, IsGoingOn, IsReady, IsTurnedAway, WritesPast, behind, halted, spoken, truncated_line, whole}
+use Rattle.cf_follow.specs.Followed.IsAhead.{uncalled, ended, failed}
 use Rattle.cf_follow.specs.Followed.IsDueOfStream.{done, broken, refused, unread}
 use Rattle.cf_follow.specs.Followed.IsFollowed.{wrote, cut, cut_round, cut_forced, out, out_within}
 use Rattle.cf_follow.specs.Heard.{AreTakenBehind, Concludes, EndsAmong, EndsAtRead, Hears, IsHere, Refuses, StopsAfterRound, ended_text, said_by}
 use Rattle.cf_follow.specs.Heard.EndsAmong.{turned as turned_away, turned_cut, forced_cut, lost}
 use Rattle.cf_follow.specs.declared.ending.Ending.{Ending}
+use Rattle.cf_follow.specs.declared.left.Left.{Left}
 use Rattle.cf_follow.specs.declared.ending.Ending.TheVariants.{Done, Refused, Stopped, Unwritten}
-use Rattle.cf_follow.proofs.Hearing.{appends_kept, count_at, here_as, set_refl, set_trans, took_append, turned_by}
+use Rattle.cf_follow.proofs.Hearing.{appends_kept, took_append}
+use Rattle.cf_follow.proofs.Leaving.{made_stream, read_whole, set_then, taken_whole}
 use Rattle.cf_follow.proofs.MoreReads.{length_one, read_more, read_none, read_nothing, read_some, reads_one}
 
 same_three : {A B C D : Type 0} (f : A → B → C → D) (a x : A) (b y : B) (c z : C) → a ≡ x → b ≡ y → c ≡ z → f a b c ≡ f x y z
 same_three {A} {B} {C} {D} f a x b y c z p q r = ap₂ (λ (u : A) (v : B). f u v c) p q ∙ ap (λ (w : C). f x y w) r
 
 -- Nothing was read.
-pub begins : (m : RoundsValue) (reading : Reads) (now : ShelfView) (held : Option (List ℕ)) → HaveRead reading [] [] → IsAt m [] (begun_stream m.terms)
-    → m.is_spent ≡ false
-    → (on : IsGoingOn reading.schema m m reading now now held held) × (length on.reads ≡ 0)
-begins m reading now held have at unspent = (
+pub begins : (begun m : RoundsValue) (left : Left) (reading : Reads) (now : ShelfView) (held : Option (List ℕ)) → IsReady begun m left reading
+    → (on : IsGoingOn reading.schema begun left.kept.items m reading now now held held) × (length on.reads ≡ 0)
+begins begun m left reading now held ready = (
   record {
     bytes = [];
     reads = [];
-    read = read_nothing reading.schema now (rows_given reading [] [] have);
-    have = have;
+    read = read_nothing reading.schema now (rows_given reading [] [] ready.have);
+    have = ready.have;
     kind = refl;
-    set = set_refl m;
-    at = at;
+    keeps = ready.keeps;
+    set = ready.set;
+    at = ready.at;
     took = record { few = omega arith; each = tt };
-    unspent = unspent;
-    within = (let count : (m.now).count ≡ 0 = ap (λ (now : Standing). now.count) at.stands in omega (arith, count));
+    unspent = ready.unspent;
+    within = (let count : (m.now).count ≡ 0 = ap (λ (now : Standing). now.count) ready.at.stands in omega (arith, count));
     written = Appends-nil held;
   },
   refl,
 )
 
 -- A read comes while it goes on.
-module _ (schema : PacketSchema) (begun m : RoundsValue) (old new : Reads) (before mid now : ShelfView) (held told : Option (List ℕ))
-    (given : List RowValue) (on : IsGoingOn schema begun m old before mid held told) (sound : ShowNoFault schema on.bytes) (few : length given ≤ 4097)
+module _ (schema : PacketSchema) (begun : RoundsValue) (marks : List Bool) (m : RoundsValue) (old new : Reads) (before mid now : ShelfView)
+    (held told : Option (List ℕ)) (given : List RowValue) (on : IsGoingOn schema begun marks m old before mid held told)
+    (sound : ShowNoFault schema on.bytes) (few : length given ≤ 4096)
     (moves : MovesOn old new mid now given) where
   abbrev rows : List RowValue
   rows = rows_in_all on.reads
@@ -91,28 +98,24 @@ module _ (schema : PacketSchema) (begun m : RoundsValue) (old new : Reads) (befo
       read_more schema before mid now on.bytes moves.piece on.reads given on.read sound moved_piece few
       (subst (λ (s : PacketSchema). AreRowsGiven s bytes (rows ++ given)) kind_now (rows_given new bytes (rows ++ given) have_more))
 
-  here : IsHere m rows stream held told
+  here : IsHere m (rows_left marks rows) (stream_left marks stream) held told
   here = record { at = on.at; written = on.written }
 
   -- Those that were taken were taken behind these.
-  took_more : (xs : List RowValue) → AreTakenBehind m rows stream xs → AreTaken begun (rows ++ xs)
-  took_more xs taken =
-      let limit = (on.set).limit in
-      let most_few = taken.0 in
-      let shaped = subst (λ (t : Terms). AreTakenFrom t.shape t.most (stream.now).segments xs) (on.set).terms taken.1 in
-      let segments : (stream.now).segments ≡ window (begun.terms).shape (begun.terms).most rows =
-      on.at.come.segments ∙ ap (λ (t : Terms). window t.shape t.most rows) (on.set).terms in record {
-        few = omega (arith, most_few, limit);
-        each = took_append (begun.terms).shape (begun.terms).most [] rows xs on.took.each
-            (subst (λ (ss : List (List RowValue)). AreTakenFrom (begun.terms).shape (begun.terms).most ss xs) segments shaped);
-      }
+  took_more : (xs : List RowValue) → AreTakenBehind begun rows stream xs → AreTaken begun (rows ++ xs)
+  took_more xs taken = record {
+    few = taken.0;
+    each = took_append (begun.terms).shape (begun.terms).most [] rows xs on.took.each
+        (subst (λ (ss : List (List RowValue)). AreTakenFrom (begun.terms).shape (begun.terms).most ss xs)
+        (course_all begun.terms on.reads).segments taken.1);
+  }
 
   have_now : HaveRead new bytes (rows_in_all reads)
   have_now = subst (λ (rs : List RowValue). HaveRead new bytes rs) (sym (rows_one on.reads given)) have_more
 
   -- It ended no record.
   pub more_none : length given ≡ 0
-      → (more : IsGoingOn schema begun m new before now held told) × (length more.reads ≡ length on.reads + 1)
+      → (more : IsGoingOn schema begun marks m new before now held told) × (length more.reads ≡ length on.reads + 1)
   more_none none =
       let empty : rows ++ given ≡ rows = nothing given none in
       let rows_same : rows_in_all reads ≡ rows = rows_one on.reads given ∙ empty in
@@ -123,9 +126,10 @@ module _ (schema : PacketSchema) (begun m : RoundsValue) (old new : Reads) (befo
           read = are_read;
           have = have_now;
           kind = kind_now;
+          keeps = on.keeps;
           set = on.set;
-          at = subst (λ (rs : List RowValue). IsAt m rs (after_reads begun.terms reads)) (sym rows_same)
-              (subst (λ (s : Stream). IsAt m rows s) (sym stream_same) on.at);
+          at = subst (λ (rs : List RowValue). IsAt m (rows_left marks rs) (stream_left marks (after_reads begun.terms reads))) (sym rows_same)
+              (subst (λ (s : Stream). IsAt m (rows_left marks rows) (stream_left marks s)) (sym stream_same) on.at);
           took = subst (λ (rs : List RowValue). AreTaken begun rs) (sym rows_same) on.took;
           unspent = on.unspent;
           within = on.within;
@@ -138,32 +142,33 @@ module _ (schema : PacketSchema) (begun m : RoundsValue) (old new : Reads) (befo
       nothing [] none = append-nil rows
       nothing (x ∷ xs) none = absurd (omega (arith, none))
 
-  -- the stream behind the first of the records that it ended
-  behind_is : (front : List RowValue) → through m.terms stream front ≡ behind begun on.reads front
-  behind_is front = ap (λ (t : Terms). through t stream front) (on.set).terms
-
   -- after all of them
   stream_all : 0 < length given → after_reads begun.terms reads ≡ with_round begun.terms false (behind begun on.reads given)
   stream_all some = reads_one begun.terms on.reads given ∙ read_some begun.terms stream given some
 
   -- They were heard.
   pub more_some : (next : RoundsValue) (kept : Option (List ℕ)) (made : Unit {0}) → IsSetAs m next → 0 < length given
-      → Hears m given told next kept (Ok made) → next.is_spent ≡ false → (next.now).count ≤ next.limit
-      → (more : IsGoingOn schema begun next new before now held kept) × (length more.reads ≡ length on.reads + 1)
+      → Hears m (rows_left marks given) told next kept (Ok made) → next.is_spent ≡ false → (next.now).count ≤ next.limit
+      → (more : IsGoingOn schema begun marks next new before now held kept) × (length more.reads ≡ length on.reads + 1)
   more_some next kept made set some hears unspent within =
-      let all = hears rows stream held here in
-      let same : with_round m.terms false (through m.terms stream given) ≡ after_reads begun.terms reads =
-      ap (λ (t : Terms). with_round t false (through t stream given)) (on.set).terms ∙ sym (stream_all some) in (
+      let all = hears (rows_left marks rows) (stream_left marks stream) held here in
+      let same : with_round m.terms false (through m.terms (stream_left marks stream) (rows_left marks given))
+      ≡ stream_left marks (after_reads begun.terms reads) =
+      made_stream marks begun m on.keeps on.set rows stream given ∙ ap (stream_left marks) (sym (stream_all some)) in
+      let rows_same : rows_left marks rows ++ rows_left marks given ≡ rows_left marks (rows_in_all reads) =
+      sym (map-append (row_kept marks) rows given) ∙ ap (rows_left marks) (sym (rows_one on.reads given)) in (
         record {
           bytes = bytes;
           reads = reads;
           read = are_read;
           have = have_now;
           kind = kind_now;
-          set = set_trans begun m next on.set set;
-          at = subst (λ (rs : List RowValue). IsAt next rs (after_reads begun.terms reads)) (sym (rows_one on.reads given))
-              (subst (λ (s : Stream). IsAt next (rows ++ given) s) same (all.0).at);
-          took = subst (λ (rs : List RowValue). AreTaken begun rs) (sym (rows_one on.reads given)) (took_more given all.1);
+          keeps = on.keeps;
+          set = set_then marks begun m next on.set set;
+          at = subst (λ (rs : List RowValue). IsAt next rs (stream_left marks (after_reads begun.terms reads))) rows_same
+              (subst (λ (s : Stream). IsAt next (rows_left marks rows ++ rows_left marks given) s) same (all.0).at);
+          took = subst (λ (rs : List RowValue). AreTaken begun rs) (sym (rows_one on.reads given))
+              (took_more given (taken_whole marks begun m on.keeps on.set rows stream given all.1));
           unspent = unspent;
           within = within;
           written = subst (λ (s : Stream). Appends held kept s.text) same (all.0).written;
@@ -175,56 +180,48 @@ module _ (schema : PacketSchema) (begun m : RoundsValue) (old new : Reads) (befo
     read_so : (others : List RowValue) → given ≡ front ++ others → AreRead schema before now bytes (on.reads ++ (front ++ others) ∷ [])
     read_so others are = subst (λ (rs : List RowValue). AreRead schema before now bytes (on.reads ++ rs ∷ [])) are are_read
 
-    module _ (row : RowValue) (why : Refusal) (are : given ≡ front ++ row ∷ rest) (taken : AreTakenBehind m rows stream front)
-        (away : IsTurnedAway m (rows ++ front) row why) where
-      halted_is : halted_text m.terms (through m.terms stream front) (line_of why) ≡ halted begun (behind begun on.reads front) (line_of why)
-      halted_is = ap (λ (t : Terms). halted_text t (through t stream front) (line_of why)) (on.set).terms
-
-      due_so : IsDueOfStream schema begun truncated before now (Refused why) (behind begun on.reads front).text
-          (halted_text m.terms (through m.terms stream front) (line_of why))
-      due_so =
-          refused bytes on.reads front rest row why (read_so (row ∷ rest) are) (took_more front taken) (turned_by begun m (rows ++ front) row why on.set away)
-          refl refl halted_is
+    due_so : (row : RowValue) (why : Refusal) → given ≡ front ++ row ∷ rest → AreTakenBehind begun rows stream front
+        → IsTurnedAway begun (rows ++ front) row why
+        → IsDueOfStream schema begun truncated before now (Refused why) (behind begun on.reads front).text
+        (halted begun (behind begun on.reads front) (line_of why))
+    due_so row why are taken away =
+        refused bytes on.reads front rest row why (read_so (row ∷ rest) are) (took_more front taken) away refl refl refl
 
   -- The stream ended at them.
-  by_end : (truncated : Bool) (kept : Option (List ℕ)) (ending : Ending) → EndsAmong m given rows stream held kept ending
+  by_end : (truncated : Bool) (kept : Option (List ℕ)) (ending : Ending) → EndsAmong begun given rows stream held kept ending
       → IsFollowed schema begun truncated before now held kept ending
   by_end truncated kept ending (turned_away front rest row why are taken away is appends) =
       subst (λ (e : Ending). IsFollowed schema begun truncated before now held kept e) (sym is)
-      (wrote (behind begun on.reads front).text (halted_text m.terms (through m.terms stream front) (line_of why))
+      (wrote (behind begun on.reads front).text (halted begun (behind begun on.reads front) (line_of why))
       (due_so truncated kept front rest row why are taken away) appends)
   by_end truncated kept ending (turned_cut front rest row why are taken away is past) =
-      cut (Refused why) (behind begun on.reads front).text (halted_text m.terms (through m.terms stream front) (line_of why)) is
-      (due_so truncated kept front rest row why are taken away)
-      (subst (λ (s : Stream). WritesPast held kept s.text (halted_text m.terms (through m.terms stream front) (line_of why))) (behind_is front) past)
+      cut (Refused why) (behind begun on.reads front).text (halted begun (behind begun on.reads front) (line_of why)) is
+      (due_so truncated kept front rest row why are taken away) past
   by_end truncated kept ending (forced_cut front rest row are taken forced is past) =
-      cut_forced bytes on.reads front rest row is (read_so truncated kept front rest (row ∷ rest) are) (took_more front taken)
-      (ap (λ (t : Terms). forces t (through t stream front).now row) (sym (on.set).terms) ∙ forced)
-      (subst (λ (t : Terms). WritesPast held kept (through t stream front).text (with_round t false (through t stream front)).text) (on.set).terms past)
+      cut_forced bytes on.reads front rest row is (read_so truncated kept front rest (row ∷ rest) are) (took_more front taken) forced past
   by_end truncated kept ending (lost front rest said are taken is before_it appends) =
-      out_within bytes on.reads front rest said is (read_so truncated kept front rest rest are) (took_more front taken)
-      (subst (λ (t : Terms). HasSaidBefore t (through t stream front) rest said) (on.set).terms before_it) appends
+      out_within bytes on.reads front rest said is (read_so truncated kept front rest rest are) (took_more front taken) before_it appends
 
-  by_round : (truncated : Bool) (kept : Option (List ℕ)) (ending : Ending) → 0 < length given → AreTakenBehind m rows stream given → ending ≡ Unwritten
-      → WritesPast held kept (through m.terms stream given).text (with_round m.terms false (through m.terms stream given)).text
+  by_round : (truncated : Bool) (kept : Option (List ℕ)) (ending : Ending) → 0 < length given → AreTakenBehind begun rows stream given → ending ≡ Unwritten
+      → WritesPast held kept (behind begun on.reads given).text (with_round begun.terms false (behind begun on.reads given)).text
       → IsFollowed schema begun truncated before now held kept ending
   by_round truncated kept ending some taken is past =
       cut_round bytes on.reads given is are_read (took_more given taken)
-      (subst (λ (s : Stream). WritesPast held kept (behind begun on.reads given).text s.text) (sym (stream_all some))
-      (subst (λ (t : Terms). WritesPast held kept (through t stream given).text (with_round t false (through t stream given)).text) (on.set).terms past))
+      (subst (λ (s : Stream). WritesPast held kept (behind begun on.reads given).text s.text) (sym (stream_all some)) past)
 
   pub heard : (next : RoundsValue) (kept : Option (List ℕ)) (truncated : Bool) (ending : Ending) → 0 < length given
-      → Hears m given told next kept (Err ending) → IsFollowed schema begun truncated before now held kept ending
-  heard next kept truncated ending some hears = elim (hears rows stream held here) [
-    | inl among ↦ by_end truncated kept ending among
-    | inr round ↦ by_round truncated kept ending some round.0 round.1 round.2
-  ]
+      → Hears m (rows_left marks given) told next kept (Err ending) → IsFollowed schema begun truncated before now held kept ending
+  heard next kept truncated ending some hears =
+      elim (read_whole marks begun m on.keeps on.set rows stream given held kept ending (hears (rows_left marks rows) (stream_left marks stream) held here)) [
+        | inl among ↦ by_end truncated kept ending among
+        | inr round ↦ by_round truncated kept ending some round.0 round.1 round.2
+      ]
 
 -- The end of the capture is found.
-pub at_end : (schema : PacketSchema) (begun m : RoundsValue) (old new : Reads) (before mid now : ShelfView) (held told : Option (List ℕ))
-    → (on : IsGoingOn schema begun m old before mid held told) → ShowNoFault schema on.bytes
-    → HasNext old new mid now None → IsAtLast schema begun m new before now held told
-at_end schema begun m old new before mid now held told on sound next =
+pub at_end : (schema : PacketSchema) (begun : RoundsValue) (marks : List Bool) (m : RoundsValue) (old new : Reads) (before mid now : ShelfView)
+    (held told : Option (List ℕ)) → (on : IsGoingOn schema begun marks m old before mid held told) → ShowNoFault schema on.bytes
+    → HasNext old new mid now None → IsAtLast schema begun marks m new before now held told
+at_end schema begun marks m old new before mid now held told on sound next =
     let after = next.0 on.bytes (rows_in_all on.reads) on.have in record {
       mid = mid;
       on = record {
@@ -233,6 +230,7 @@ at_end schema begun m old new before mid now held told on sound next =
         read = on.read;
         have = after.0;
         kind = next.1 ∙ on.kind;
+        keeps = on.keeps;
         set = on.set;
         at = on.at;
         took = on.took;
@@ -245,13 +243,20 @@ at_end schema begun m old new before mid now held told on sound next =
     }
 
 -- It ends between two reads.
-module _ (schema : PacketSchema) (begun m : RoundsValue) (reading : Reads) (before mid : ShelfView) (held told : Option (List ℕ))
-    (on : IsGoingOn schema begun m reading before mid held told) where
+module _ (schema : PacketSchema) (begun : RoundsValue) (marks : List Bool) (m : RoundsValue) (reading : Reads) (before mid : ShelfView)
+    (held told : Option (List ℕ)) (on : IsGoingOn schema begun marks m reading before mid held told) where
   abbrev now_rows : List RowValue
   now_rows = rows_in_all on.reads
 
   abbrev now_stream : Stream
   now_stream = after_reads begun.terms on.reads
+
+  -- what is left of it
+  abbrev now_left : Stream
+  now_left = stream_left marks now_stream
+
+  abbrev lean : Terms
+  lean = terms_left marks begun.terms
 
   -- Memory ran out.
   pub out_now : (truncated : Bool) (now : ShelfView) (kept : Option (List ℕ)) → IsAhead schema on.bytes mid now → Keeps told kept
@@ -276,7 +281,9 @@ module _ (schema : PacketSchema) (begun m : RoundsValue) (reading : Reads) (befo
   halted_now line =
       sym (append_assoc (spoken begun on.reads) (round_text m.terms true m.now) line)
       ∙ ap (λ (t : List ℕ). t ++ line)
-      (sym (round_says m now_rows now_stream on.at true) ∙ ap (λ (t : Terms). (with_round t true now_stream).text) (on.set).terms)
+      (sym (round_says m (rows_left marks now_rows) now_left on.at true)
+      ∙ (ap (λ (t : Terms). (with_round t true now_left).text) (on.set).terms
+      ∙ ap (λ (s : Stream). s.text) (round_stream marks begun.terms on.keeps true now_stream)))
 
   -- The shelf failed.
   pub unread_now : (truncated : Bool) (now : ShelfView) (kept : Option (List ℕ)) (ending : Ending)
@@ -321,8 +328,10 @@ module _ (schema : PacketSchema) (begun m : RoundsValue) (reading : Reads) (befo
       sym (append_assoc (spoken begun on.reads) (round ++ ends m.terms m.now) (truncated_line cut_at))
       ∙ ap (λ (t : List ℕ). t ++ truncated_line cut_at)
       (sym (append_assoc (spoken begun on.reads) round (ends m.terms m.now))
-      ∙ (ap₂ (λ (t : List ℕ) (now : Standing). t ++ ends m.terms now) (sym (round_says m now_rows now_stream on.at true)) on.at.stands
-      ∙ ap (λ (t : Terms). (with_round t true now_stream).text ++ ends t now_stream.now) (on.set).terms))
+      ∙ (ap₂ (λ (t : List ℕ) (now : Standing). t ++ ends m.terms now) (sym (round_says m (rows_left marks now_rows) now_left on.at true)) on.at.stands
+      ∙ (ap (λ (t : Terms). (with_round t true now_left).text ++ ends t now_left.now) (on.set).terms
+      ∙ (ap (λ (s : Stream). s.text ++ end_text lean.shape lean.setup (view_of s.now)) (round_stream marks begun.terms on.keeps true now_stream)
+      ∙ last_says marks begun.terms on.keeps (with_round begun.terms true now_stream)))))
 
   pub ended_now : (truncated : Bool) (now : ShelfView) (kept : Option (List ℕ)) (cut_at : Option ℕ) (ending : Ending) → FindsEnd mid now
       → ShowNoFault schema on.bytes → ArePacketsTo Any reading.schema truncated on.bytes (rows_in_all on.reads) cut_at
@@ -350,13 +359,15 @@ memory_is_no_fault : ◌≡◌ {A = Ending} (Stopped stops.Memory) (Stopped stop
 memory_is_no_fault is = cc
 
 -- The reader of the capture is no device.
-pub stopped_now : (schema : PacketSchema) (begun m : RoundsValue) (reading : Reads) (before now : ShelfView) (held told : Option (List ℕ))
-    → (last : IsAtLast schema begun m reading before now held told)
+pub stopped_now : (schema : PacketSchema) (begun : RoundsValue) (marks : List Bool) (m : RoundsValue) (reading : Reads) (before now : ShelfView)
+    (held told : Option (List ℕ)) → (last : IsAtLast schema begun marks m reading before now held told)
     → (truncated : Bool) (stop : Stop) → IsBad (HasPacketFaultTo Any reading.schema truncated last.on.bytes) (halts.Stopped stop)
     → IsFollowed schema begun truncated before now held told (Stopped stop) × (Stopped stop ≡ Stopped stops.ReadFault → ⊥)
-stopped_now schema begun m reading before now held told last truncated stops.ReadFault bad = absurd bad
-stopped_now schema begun m reading before now held told last truncated stops.Memory bad =
-    (out_now schema begun m reading before last.mid held told last.on truncated now told (ended last.sound last.end) (Keeps-refl told), memory_is_no_fault)
+stopped_now schema begun marks m reading before now held told last truncated stops.ReadFault bad = absurd bad
+stopped_now schema begun marks m reading before now held told last truncated stops.Memory bad = (
+  out_now schema begun marks m reading before last.mid held told last.on truncated now told (ended last.sound last.end) (Keeps-refl told),
+  memory_is_no_fault,
+)
 
 -- an answer that is none by what it is not
 pub none_of : (result : Option Refusal) → ((why : Refusal) → result ≡ Some why → ⊥) → IsNone result
@@ -382,24 +393,41 @@ pub refuses_never : (m : RoundsValue) (why : Refusal) (held kept : Option (List 
     → ending ≡ Stopped stops.ReadFault → ⊥
 refuses_never m why held kept ending refuses is = subst (λ (e : Ending). Refuses m why held kept e) is refuses
 
--- It goes on with rounds that are the same.
-pub going_still : (schema : PacketSchema) (begun m n : RoundsValue) (reading : Reads) (before now : ShelfView) (held kept : Option (List ℕ))
-    (made : ℕ) → n ≡ m → (on : IsGoingOn schema begun m reading before now held kept) × (length on.reads ≡ made)
-    → (on : IsGoingOn schema begun n reading before now held kept) × (length on.reads ≡ made)
-going_still schema begun m n reading before now held kept made is on =
-    subst (λ (r : RoundsValue). (at : IsGoingOn schema begun r reading before now held kept) × (length at.reads ≡ made)) (sym is) on
+-- It goes on with rounds and marks that are the same.
+pub going_still : (schema : PacketSchema) (begun : RoundsValue) (first left : Left) (m n : RoundsValue) (reading : Reads) (before now : ShelfView)
+    (held kept : Option (List ℕ)) (made : ℕ) → left ≡ first → n ≡ m
+    → (on : IsGoingOn schema begun first.kept.items m reading before now held kept) × (length on.reads ≡ made)
+    → (on : IsGoingOn schema begun left.kept.items n reading before now held kept) × (length on.reads ≡ made)
+going_still schema begun first left m n reading before now held kept made same is on =
+    subst (λ (l : Left). (at : IsGoingOn schema begun l.kept.items n reading before now held kept) × (length at.reads ≡ made)) (sym same)
+    (subst (λ (r : RoundsValue). (at : IsGoingOn schema begun first.kept.items r reading before now held kept) × (length at.reads ≡ made)) (sym is) on)
+
+pub going_back : (schema : PacketSchema) (begun : RoundsValue) (first left : Left) (m : RoundsValue) (reading : Reads) (before now : ShelfView)
+    (held kept : Option (List ℕ)) (made : ℕ) → left ≡ first
+    → (on : IsGoingOn schema begun left.kept.items m reading before now held kept) × (length on.reads ≡ made)
+    → (on : IsGoingOn schema begun first.kept.items m reading before now held kept) × (length on.reads ≡ made)
+going_back schema begun first left m reading before now held kept made same on =
+    subst (λ (l : Left). (at : IsGoingOn schema begun l.kept.items m reading before now held kept) × (length at.reads ≡ made)) same on
+
+pub last_back : (schema : PacketSchema) (begun : RoundsValue) (first left : Left) (m : RoundsValue) (reading : Reads) (before now : ShelfView)
+    (held kept : Option (List ℕ)) → left ≡ first → IsAtLast schema begun left.kept.items m reading before now held kept
+    → IsAtLast schema begun first.kept.items m reading before now held kept
+last_back schema begun first left m reading before now held kept same last =
+    subst (λ (l : Left). IsAtLast schema begun l.kept.items m reading before now held kept) same last
 
 -- So it is at the end.
-pub last_still : (schema : PacketSchema) (begun m n : RoundsValue) (reading : Reads) (before now : ShelfView) (held kept : Option (List ℕ)) → n ≡ m
-    → IsAtLast schema begun m reading before now held kept → IsAtLast schema begun n reading before now held kept
-last_still schema begun m n reading before now held kept is last =
-    subst (λ (r : RoundsValue). IsAtLast schema begun r reading before now held kept) (sym is) last
+pub last_still : (schema : PacketSchema) (begun : RoundsValue) (marks : List Bool) (m n : RoundsValue) (reading : Reads) (before now : ShelfView)
+    (held kept : Option (List ℕ)) → n ≡ m → IsAtLast schema begun marks m reading before now held kept
+    → IsAtLast schema begun marks n reading before now held kept
+last_still schema begun marks m n reading before now held kept is last =
+    subst (λ (r : RoundsValue). IsAtLast schema begun marks r reading before now held kept) (sym is) last
 
 -- As many reads were made as are counted.
-pub ended_out : (schema : PacketSchema) (begun m : RoundsValue) (reading : Reads) (before now : ShelfView) (held told : Option (List ℕ)) (truncated : Bool)
-    → IsGoingOn schema begun m reading before now held told → IsFollowed schema begun truncated before now held told (Stopped stops.Memory)
-ended_out schema begun m reading before now held told truncated on =
-    out_now schema begun m reading before now held told on truncated now told (uncalled refl) (Keeps-refl told)
+pub ended_out : (schema : PacketSchema) (begun : RoundsValue) (marks : List Bool) (m : RoundsValue) (reading : Reads) (before now : ShelfView)
+    (held told : Option (List ℕ)) (truncated : Bool) → IsGoingOn schema begun marks m reading before now held told
+    → IsFollowed schema begun truncated before now held told (Stopped stops.Memory)
+ended_out schema begun marks m reading before now held told truncated on =
+    out_now schema begun marks m reading before now held told on truncated now told (uncalled refl) (Keeps-refl told)
 
 -- The records of a read end nothing as the shelf's failure does.
 among_never : (m : RoundsValue) (rows come : List RowValue) (stream : Stream) (first kept : Option (List ℕ)) (ending : Ending)

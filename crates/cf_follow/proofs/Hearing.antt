@@ -1,12 +1,11 @@
 -- What the parts of following say.
-use Rattle.std.proofs.Common.{◌≡◌, ◌∙◌, ◌⊎◌, inl, inr, ℕ, ◌+◌, ◌<◌, ◌≤◌, List, [], ◌∷◌, ◌++◌, length, take, drop, fold, zero, suc, slice_index_or, Bool, true, false, not, ◌&&◌, Option, Some, None, Result, Ok, Err, refl, sym, ap, ap₂, subst, arith, length-append, append-nil, append_assoc}
+use Rattle.std.proofs.Common.{◌≡◌, ◌∙◌, inl, inr, ℕ, ◌+◌, ◌<◌, ◌≤◌, List, [], ◌∷◌, ◌++◌, length, take, drop, fold, zero, suc, slice_index_or, Bool, true, false, not, ◌&&◌, Option, Some, None, Result, Ok, Err, refl, sym, ap, ap₂, subst, arith, length-append, append-nil, append_assoc}
 use Rattle.std.specs.Io.KnownBytes.{Appends, Keeps}
 use Rattle.std.specs.Result.{IsErrAnd}
-use Rattle.std.proofs.KnownBytes.{Appends-nil, Appends-trans, Keeps-refl}
+use Rattle.std.proofs.KnownBytes.{Appends-trans}
 use Rattle.std.proofs.lemmas.List.{take_all, take_more}
 use Rattle.cf_row.specs.Row.{RowValue}
 use Rattle.cf_shape.specs.Lanes.{ShapeValue}
-use Rattle.cf_intake.specs.Devices.{WritesFront}
 use Rattle.cf_intake.specs.Refusals.{line_of}
 use Rattle.cf_intake.specs.declared.refusal.Refusal.{Refusal}
 use Rattle.cf_intake.specs.declared.refusal.Refusal.TheVariants as refusals
@@ -17,7 +16,7 @@ use Rattle.cf_rounds.specs.declared.rounds.Taken.TheVariants as taken
 use Rattle.cf_rounds.proofs.Onward.{at_forced, at_free, at_round, forced_says, free_says, round_says, segments_through}
 use Rattle.cf_window.specs.Windows.{after_row, goes_in, is_refused, is_small, window}
 use Rattle.cf_follow.specs.Followed.{AreTakenFrom, HasSaidBefore, IsTurnedAway, WritesPast}
-use Rattle.cf_follow.specs.Heard.{AreTakenBehind, EndsAmong, EndsAtRead, HaveAllGone, HaveEndedAmong, HaveGone, HavePartGone, Hears, IsHere, Refuses, StopsAfterRound, TellsRound, said_by, with_made}
+use Rattle.cf_follow.specs.Heard.{AreTakenBehind, EndsAmong, HaveAllGone, HaveEndedAmong, HaveGone, HavePartGone, Hears, IsHere, Refuses, StopsAfterRound, TellsRound, said_by, with_made}
 use Rattle.cf_follow.specs.Heard.EndsAmong.{turned, turned_cut, forced_cut, lost}
 use Rattle.cf_follow.specs.declared.ending.Ending.{Ending}
 use Rattle.cf_follow.specs.declared.ending.Ending.TheVariants.{Done, Refused, Stopped, Unwritten}

@@ -1,5 +1,10 @@
+pub mod LeftLanes
+pub mod LeftWindows
+pub mod LeftLines
+pub mod LeftStreams
 pub mod MoreReads
 pub mod Hearing
+pub mod Leaving
 pub mod Going
 pub mod Fronts
 pub mod Complete

@@ -57,7 +57,7 @@ module _ (schema : PacketSchema) (pieces : List (List ℕ)) (piece : List ℕ) (
   }
 
 pub read_more : (schema : PacketSchema) (before mid now : ShelfView) (bytes piece : List ℕ) (reads : List (List RowValue)) (given : List RowValue)
-    → AreRead schema before mid bytes reads → ShowNoFault schema bytes → MovesPiece mid now piece → length given ≤ 4097
+    → AreRead schema before mid bytes reads → ShowNoFault schema bytes → MovesPiece mid now piece → length given ≤ 4096
     → AreRowsGiven schema (bytes ++ piece) (rows_in_all reads ++ given) → AreRead schema before now (bytes ++ piece) (reads ++ given ∷ [])
 read_more schema before mid now bytes piece reads given read sound moves few given_now = record {
   pieces = read.pieces ++ piece ∷ [];
@@ -72,7 +72,7 @@ read_more schema before mid now bytes piece reads given read sound moves few giv
   noted = subst (λ (ns : List ℕ). Appends before.moved now.moved ns) (sym (map-append (λ (p : List ℕ). length p) read.pieces (piece ∷ [])))
       (Appends-trans before.moved mid.moved now.moved (map (λ (p : List ℕ). length p) read.pieces) (length piece ∷ []) read.noted moves.noted);
   unbroken = unbroken_more;
-  few = All-push (λ (rows : List RowValue). length rows ≤ 4097) reads given read.few few;
+  few = All-push (λ (rows : List RowValue). length rows ≤ 4096) reads given read.few few;
 }
   where
     unbroken_more : (k : ℕ) → k < length (read.pieces ++ piece ∷ []) → ShowNoFault schema (bytes_in_all (take k (read.pieces ++ piece ∷ [])))

@@ -1,5 +1,5 @@
 -- One ending alone is due.
-use Rattle.std.proofs.Common.{◌≡◌, ◌∙◌, ◌⊎◌, ℕ, ◌+◌, ◌<◌, ◌≤◌, inl, inr, List, [], ◌∷◌, ◌++◌, length, fold, Bool, true, false, Option, Some, refl, sym, ap, ap₂, subst, arith, length-append, append-nil, append_assoc}
+use Rattle.std.proofs.Common.{◌≡◌, ◌∙◌, ◌⊎◌, ℕ, ◌+◌, inl, inr, List, [], ◌∷◌, ◌++◌, length, fold, Bool, true, false, Option, Some, refl, sym, ap, ap₂, subst, arith, length-append, append-nil, append_assoc}
 use Rattle.cf_outside.specs.Files.{ShelfView}
 use Rattle.cf_row.specs.declared.packet6.PacketSchema.{PacketSchema}
 use Rattle.cf_row.specs.Row.{RowValue}

@@ -5,22 +5,26 @@ use Rattle.cf_outside.specs.Files.{ShelfView}
 use Rattle.cf_row.specs.Row.{RowValue}
 use Rattle.cf_shape.specs.Lanes.{ShapeValue}
 use Rattle.cf_row.specs.declared.packet6.PacketSchema.{PacketSchema}
+use Rattle.cf_row.specs.Schema6.{attrs_by}
 use Rattle.cf_pcap.specs.declared.limit.Length.TheVariants.{Any}
 use Rattle.cf_intake.specs.Devices.{WritesFront}
 use Rattle.cf_intake.specs.Faults.{HasPacketFaultTo, ShowNoFault, ShowsFault}
-use Rattle.cf_intake.specs.Reads.{AreRowsGiven, FailsToRead, FindsEnd, HaveRead, MovesPiece}
+use Rattle.cf_intake.specs.Reads.{AreRowsGiven, FailsToRead, FindsEnd, HasNext, HaveRead, MovesPiece}
 use Rattle.cf_intake.specs.Refusals.{line_of}
 use Rattle.cf_intake.specs.Rows.{ArePacketsTo}
 use Rattle.cf_intake.specs.declared.reads.Reads.{Reads}
 use Rattle.cf_intake.specs.declared.refusal.Refusal.{Refusal}
 use Rattle.cf_intake.specs.declared.refusal.Refusal.TheVariants as refusals
 use Rattle.cf_intake.specs.declared.refusal.Stop.TheVariants as stops
-use Rattle.cf_rounds.specs.Held.{IsAt, IsSetAs, RoundsValue, begun_on}
+use Rattle.cf_project.specs.Keeping.{keep}
+use Rattle.cf_follow.specs.LeftStreams.{KeepsTerms, rows_left, stream_left, terms_left}
+use Rattle.cf_rounds.specs.Held.{IsAt, RoundsValue, begun_on}
 use Rattle.cf_rounds.specs.Streams.{Stream, Terms, after_reads, begun as begun_stream, forces, halted_text, through, watch_text, with_round}
 use Rattle.cf_setup.specs.Setups.{SetupValue, shaped}
 use Rattle.cf_window.specs.Watched.{AreCut, AreEnded, bytes_in_all}
 use Rattle.cf_window.specs.Windows.{after_row, is_refused, rows_in_all, window}
 use Rattle.cf_follow.specs.declared.ending.Ending.{Ending}
+use Rattle.cf_follow.specs.declared.left.Left.{Left}
 use Rattle.cf_follow.specs.declared.ending.Ending.TheVariants.{Done, Refused, Stopped, Unwritten}
 
 -- Reads have moved these bytes, in some pieces, and each ended these records. Each piece is what one call of the shelf's `read` moved. No
@@ -32,7 +36,7 @@ pub record AreRead (schema : PacketSchema) (before now : ShelfView) (bytes : Lis
   pub taken : Consumes before.rest now.rest bytes
   pub noted : Appends before.moved now.moved (map (λ piece. length piece) pieces)
   pub unbroken : (k : ℕ) → k < length pieces → ShowNoFault schema (bytes_in_all (take k pieces))
-  pub few : All (λ rows. length rows ≤ 4097) reads
+  pub few : All (λ rows. length rows ≤ 4096) reads
 
 -- What a call of `read` more has come to, where one was made: it is made only behind bytes that show no fault.
 pub data IsAhead (schema : PacketSchema) (bytes : List ℕ) (before now : ShelfView) : Type 0 where
@@ -151,47 +155,72 @@ abbrev pub begun_with : SetupValue → (capacity segments most_nodes every beat 
 begun_with setup capacity segments most_nodes every beat limit =
     begun_on (record { setup = setup; shape = shaped setup capacity 1 most_nodes; most = segments; every = every; beat = beat }) limit
 
--- No record has come, no round was made, and nothing was read.
-pub record IsReady (rounds : RoundsValue) (reading : Reads) : Type 0 where
-  pub at : IsAt rounds [] (begun_stream rounds.terms)
+-- The rounds are on what is left of the records that rounds that began so would have, with all else the same.
+pub record IsSetBy (marks : List Bool) (begun rounds : RoundsValue) : Type 0 where
+  pub terms : rounds.terms ≡ terms_left marks begun.terms
+  pub limit : rounds.limit ≡ begun.limit
+
+-- A reading's rows are whole rows of the schema of which something is left, and the rounds are on what is left of them.
+pub record IsLeftOf (left : Left) (rounds : RoundsValue) (kind : PacketSchema) : Type 0 where
+  pub packets : left.schema ≡ attrs_by kind
+  pub marks : length left.kept.items ≡ length left.schema
+  pub shaped : ((rounds.terms).shape).schema ≡ keep left.kept.items left.schema
+
+-- what is left of the rows of the next read
+abbrev pub HasNextLeft : List Bool → Reads → Reads → (before now : ShelfView) → Option (List RowValue) → Type 0
+HasNextLeft marks old new before now None = HasNext old new before now None
+HasNextLeft marks old new before now (Some given) =
+    (rows : List RowValue) × (given ≡ rows_left marks rows) × HasNext old new before now (Some rows)
+
+-- No record has come, no round was made, and nothing was read. The rounds are to say what rounds on whole records would that begin so: all
+-- is kept that these name.
+pub record IsReady (begun rounds : RoundsValue) (left : Left) (reading : Reads) : Type 0 where
+  pub keeps : KeepsTerms left.kept.items begun.terms
+  pub whole : left.schema ≡ ((begun.terms).shape).schema
+  pub set : IsSetBy left.kept.items begun rounds
+  pub at : IsAt rounds [] (stream_left left.kept.items (begun_stream begun.terms))
   pub unspent : rounds.is_spent ≡ false
   pub have : HaveRead reading [] []
 
--- The following of a capture goes on: these reads were made, their records have gone in, and what the rounds said is written.
-pub record IsGoingOn (schema : PacketSchema) (begun rounds : RoundsValue) (reading : Reads) (before now : ShelfView) (held kept : Option (List ℕ)) : Type 0 where
+-- The following of a capture goes on: these reads were made, what is left of their records has gone in, and what rounds on the whole ones
+-- say is written.
+pub record IsGoingOn (schema : PacketSchema) (begun : RoundsValue) (marks : List Bool) (rounds : RoundsValue) (reading : Reads)
+    (before now : ShelfView) (held kept : Option (List ℕ)) : Type 0 where
   pub bytes : List ℕ
   pub reads : List (List RowValue)
   pub read : AreRead schema before now bytes reads
   pub have : HaveRead reading bytes (rows_in_all reads)
   pub kind : reading.schema ≡ schema
-  pub set : IsSetAs begun rounds
-  pub at : IsAt rounds (rows_in_all reads) (after_reads begun.terms reads)
+  pub keeps : KeepsTerms marks begun.terms
+  pub set : IsSetBy marks begun rounds
+  pub at : IsAt rounds (rows_left marks (rows_in_all reads)) (stream_left marks (after_reads begun.terms reads))
   pub took : AreTaken begun (rows_in_all reads)
   pub unspent : rounds.is_spent ≡ false
   pub within : (rounds.now).count ≤ rounds.limit
   pub written : Appends held kept (spoken begun reads)
 
 -- The end of the capture is found, behind bytes that show no fault.
-pub record IsAtLast (schema : PacketSchema) (begun rounds : RoundsValue) (reading : Reads) (before now : ShelfView) (held kept : Option (List ℕ)) : Type 0 where
+pub record IsAtLast (schema : PacketSchema) (begun : RoundsValue) (marks : List Bool) (rounds : RoundsValue) (reading : Reads)
+    (before now : ShelfView) (held kept : Option (List ℕ)) : Type 0 where
   pub mid : ShelfView
-  pub on : IsGoingOn schema begun rounds reading before mid held kept
+  pub on : IsGoingOn schema begun marks rounds reading before mid held kept
   pub end : FindsEnd mid now
   pub sound : ShowNoFault schema on.bytes
 
 -- What a read comes to behind so many: the following goes on with one more, or the end of the capture is found, or it has ended.
-abbrev pub ReadComesTo : PacketSchema → RoundsValue → RoundsValue → Reads → (made : ℕ) → (before now : ShelfView) → (held kept : Option (List ℕ))
-    → Result Bool Ending → Type 0
-ReadComesTo schema begun rounds reading made before now held kept (Ok true) =
-    (on : IsGoingOn schema begun rounds reading before now held kept) × (length on.reads ≡ made + 1)
-ReadComesTo schema begun rounds reading made before now held kept (Ok false) = IsAtLast schema begun rounds reading before now held kept
-ReadComesTo schema begun rounds reading made before now held kept (Err ending) =
+abbrev pub ReadComesTo : PacketSchema → RoundsValue → List Bool → RoundsValue → Reads → (made : ℕ) → (before now : ShelfView)
+    → (held kept : Option (List ℕ)) → Result Bool Ending → Type 0
+ReadComesTo schema begun marks rounds reading made before now held kept (Ok true) =
+    (on : IsGoingOn schema begun marks rounds reading before now held kept) × (length on.reads ≡ made + 1)
+ReadComesTo schema begun marks rounds reading made before now held kept (Ok false) = IsAtLast schema begun marks rounds reading before now held kept
+ReadComesTo schema begun marks rounds reading made before now held kept (Err ending) =
     (truncated : Bool) → IsFollowed schema begun truncated before now held kept ending
 
 -- What all reads come to: the end of the capture is found; or as many were made as are counted; or the following has ended.
-abbrev pub ReadsComeTo : PacketSchema → RoundsValue → RoundsValue → Reads → (before now : ShelfView) → (held kept : Option (List ℕ)) → Result Bool Ending
-    → Type 0
-ReadsComeTo schema begun rounds reading before now held kept (Ok true) = IsAtLast schema begun rounds reading before now held kept
-ReadsComeTo schema begun rounds reading before now held kept (Ok false) =
-    (on : IsGoingOn schema begun rounds reading before now held kept) × (2 ^ 64 - 1 ≤ length on.reads)
-ReadsComeTo schema begun rounds reading before now held kept (Err ending) =
+abbrev pub ReadsComeTo : PacketSchema → RoundsValue → List Bool → RoundsValue → Reads → (before now : ShelfView) → (held kept : Option (List ℕ))
+    → Result Bool Ending → Type 0
+ReadsComeTo schema begun marks rounds reading before now held kept (Ok true) = IsAtLast schema begun marks rounds reading before now held kept
+ReadsComeTo schema begun marks rounds reading before now held kept (Ok false) =
+    (on : IsGoingOn schema begun marks rounds reading before now held kept) × (2 ^ 64 - 1 ≤ length on.reads)
+ReadsComeTo schema begun marks rounds reading before now held kept (Err ending) =
     (truncated : Bool) → IsFollowed schema begun truncated before now held kept ending

@@ -1,3 +1,5 @@
+pub mod LeftStreams
+pub mod LeftLaws
 pub mod Followed
 pub mod Heard
 pub mod Completed

@@ -1,5 +1,5 @@
 // The end of a capture.
-ghost use Rattle.std.specs.Prelude.{◌≡◌, ◌≤◌, ℕ, List, Option, IfOk, string_bytes};
+ghost use Rattle.std.specs.Prelude.{◌≡◌, ◌≤◌, ℕ, Bool, List, Option, IfOk, string_bytes};
 ghost use Rattle.cf_outside.specs.Causes.{Rose};
 ghost use Rattle.cf_outside.specs.Files.{ShelfView};
 ghost use Rattle.cf_row.specs.declared.packet6.PacketSchema.{PacketSchema};
@@ -52,7 +52,8 @@ pub(crate) fn end<K: Sink>(
     truncated: bool,
     sink: &mut K,
 ) -> Ending
-    ensures ended { (schema : PacketSchema) (begun : RoundsValue) (before now : ShelfView) (held : Option (List ℕ)) → IsAtLast schema begun rounds reads before now held (K.held sink.old)
+    ensures ended { (schema : PacketSchema) (begun : RoundsValue) (marks : List Bool) (before now : ShelfView) (held : Option (List ℕ))
+        → IsAtLast schema begun marks rounds reads before now held (K.held sink.old)
         → IsFollowed schema begun truncated before now held (K.held sink.new) result × (result ≡ endings.Stopped stops.ReadFault → ⊥) }
     ensures later { K.faults sink.old ≤ K.faults sink.new }
     ensures cause { result ≡ endings.Unwritten → Rose (K.faults sink.old) (K.faults sink.new) }

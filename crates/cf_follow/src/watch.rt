@@ -4,21 +4,24 @@ ghost use Rattle.cf_command.specs.Call.{AreWindowSizes};
 ghost use Rattle.cf_outside.specs.Causes.{Rose};
 ghost use Rattle.cf_outside.specs.Files.{ShelfView};
 ghost use Rattle.cf_row.specs.Schema6.{attrs_by};
+ghost use Rattle.cf_project.specs.Setups.{named_by as named_by_of};
 ghost use Rattle.cf_row.specs.declared.packet6.PacketSchema.{PacketSchema};
 ghost use Rattle.cf_intake.specs.Reads.{view_by};
 ghost use Rattle.cf_intake.specs.declared.refusal.Stop.TheVariants as stops;
 ghost use Rattle.cf_rounds.specs.Held.{IsSetAs, RoundsValue};
-ghost use Rattle.cf_follow.specs.Followed.{ReadComesTo, ReadsComeTo, IsFollowed, IsGoingOn, IsReady, begun_with};
+ghost use Rattle.cf_follow.specs.Followed.{IsFollowed, IsGoingOn, IsLeftOf, IsReady, ReadComesTo, ReadsComeTo, begun_with};
 ghost use Rattle.cf_follow.specs.Completed.{IsWatchable, Yields};
 ghost use Rattle.cf_follow.specs.Heard.{StopsAfterRound};
 ghost use Rattle.cf_follow.specs.declared.ending.Ending.TheVariants as endings;
 
 use crate::Ending;
 use crate::end::end;
+use crate::left::{Left, LeftReads};
 use crate::said::{hear, refuse, tell};
 use cf_command::WindowSizes;
 use cf_intake::{Reads, Stop};
 use cf_outside::{Shelf, Sink};
+use cf_project::{kept_setup, named_by};
 use cf_rounds::{Intervals, Rounds};
 use cf_row::{Memory, PacketSchema};
 use cf_setup::{Setup, shape_of};
@@ -33,11 +36,13 @@ const LIMIT: u64 = 9_007_199_254_740_991;
 pub struct Watch {
     pub(crate) rounds: Rounds,
     pub(crate) reads: Reads,
+    pub(crate) left: Left,
     pub(crate) truncated: bool,
 }
 
 impl Watch {
-    /// Has a window of these sizes for the records of a setup.
+    /// Has a window of these sizes for the records of a setup. Of each record the window is to have the attributes that the setup names, and
+    /// `ts`.
     pub fn begin(
         alloc: Global,
         setup: Setup,
@@ -47,15 +52,22 @@ impl Watch {
         schema: PacketSchema,
     ) -> Result<Watch, Memory>
         requires sizes { AreWindowSizes sizes }
-        ensures begun { IfOk result (λ watch. watch.rounds ≡ begun_with setup sizes.capacity sizes.segments sizes.nodes intervals.lives intervals.beat (2 ^ 53 - 1)) }
-        ensures ready { IfOk result (λ watch. IsReady watch.rounds watch.reads) }
+        ensures ready { IfOk result (λ watch. IsReady
+            (begun_with setup sizes.capacity sizes.segments sizes.nodes intervals.lives intervals.beat (2 ^ 53 - 1)) watch.rounds watch.left watch.reads) }
+        ensures kept { IfOk result (λ watch. watch.left.kept.items ≡ named_by_of setup) }
         ensures truncated { IfOk result (λ watch. watch.truncated ≡ truncated) }
         ensures schema { IfOk result (λ watch. watch.reads.schema ≡ schema) }
     {
-        let shape = shape_of(alloc, &setup, sizes.capacity, 1, sizes.nodes)?;
+        let left = Left {
+            schema: setup.schema().copy(alloc)?,
+            kept: named_by(alloc, &setup)?,
+        };
+        let named = kept_setup(alloc, &left.kept, setup)?;
+        let shape = shape_of(alloc, &named, sizes.capacity, 1, sizes.nodes)?;
         Ok(Watch {
-            rounds: Rounds::begin(alloc, setup, shape, sizes.segments, intervals, LIMIT)?,
+            rounds: Rounds::begin(alloc, named, shape, sizes.segments, intervals, LIMIT)?,
             reads: Reads::begin(alloc, schema)?,
+            left,
             truncated,
         })
     }
@@ -80,24 +92,27 @@ fn step<R: Threads, F: Shelf, K: Sink>(
     rt: &R,
     alloc: Global,
     rounds: &mut Rounds,
-    reads: &mut Reads,
+    reads: &mut LeftReads,
     shelf: &mut F,
     sink: &mut K,
 ) -> Result<bool, Ending>
-    requires packets { rounds.old.terms.shape.schema ≡ attrs_by reads.old.schema }
+    requires fit { IsLeftOf reads.old.left rounds.old reads.old.reads.schema }
     requires going { (begun : RoundsValue) × (before : ShelfView) × (held : Option (List ℕ)) × (schema : PacketSchema)
-        × IsGoingOn schema begun rounds.old reads.old before (view_by (F.rest shelf.old) (F.moved shelf.old)) held (K.held sink.old) }
-    ensures packets { OnOk result (rounds.new.terms.shape.schema ≡ attrs_by reads.new.schema) }
+        × IsGoingOn schema begun reads.old.left.kept.items rounds.old reads.old.reads before (view_by (F.rest shelf.old) (F.moved shelf.old)) held
+        (K.held sink.old) }
+    ensures fit { OnOk result (IsLeftOf reads.new.left rounds.new reads.new.reads.schema) }
+    ensures left { reads.new.left ≡ reads.old.left }
     ensures files { F.files shelf.new ≡ F.files shelf.old }
     ensures goes { (schema : PacketSchema) (begun : RoundsValue) (before : ShelfView) (held : Option (List ℕ))
-        → (on : IsGoingOn schema begun rounds.old reads.old before (view_by (F.rest shelf.old) (F.moved shelf.old)) held (K.held sink.old))
-        → ReadComesTo schema begun rounds.new reads.new (length on.reads) before (view_by (F.rest shelf.new) (F.moved shelf.new)) held (K.held sink.new) result }
+        → (on : IsGoingOn schema begun reads.old.left.kept.items rounds.old reads.old.reads before (view_by (F.rest shelf.old) (F.moved shelf.old)) held (K.held sink.old))
+        → ReadComesTo schema begun reads.old.left.kept.items rounds.new reads.new.reads (length on.reads) before (view_by (F.rest shelf.new) (F.moved shelf.new)) held
+        (K.held sink.new) result }
     ensures shelf_later { F.faults shelf.old ≤ F.faults shelf.new }
     ensures sink_later { K.faults sink.old ≤ K.faults sink.new }
     ensures read_cause { result ≡ Err (endings.Stopped stops.ReadFault) → Rose (F.faults shelf.old) (F.faults shelf.new) }
     ensures write_cause { result ≡ Err endings.Unwritten → Rose (K.faults sink.old) (K.faults sink.new) }
 {
-    if let Some(why) = reads.fault() {
+    if let Some(why) = reads.reads.fault() {
         return Err(refuse(alloc, rounds, why, sink));
     }
     match reads.next(alloc, shelf) {
@@ -118,14 +133,15 @@ fn read_on<R: Threads, F: Shelf, K: Sink>(
     rt: &R,
     alloc: Global,
     rounds: &mut Rounds,
-    reads: &mut Reads,
+    reads: &mut LeftReads,
     shelf: &mut F,
     sink: &mut K,
 ) -> Result<bool, Ending>
-    requires packets { rounds.old.terms.shape.schema ≡ attrs_by reads.old.schema }
-    requires ready { IsReady rounds.old reads.old }
+    requires fit { IsLeftOf reads.old.left rounds.old reads.old.reads.schema }
+    requires ready { (begun : RoundsValue) × IsReady begun rounds.old reads.old.left reads.old.reads }
     ensures files { F.files shelf.new ≡ F.files shelf.old }
-    ensures come { ReadsComeTo reads.old.schema rounds.old rounds.new reads.new (view_by (F.rest shelf.old) (F.moved shelf.old))
+    ensures come { (begun : RoundsValue) → IsReady begun rounds.old reads.old.left reads.old.reads
+        → ReadsComeTo reads.old.reads.schema begun reads.old.left.kept.items rounds.new reads.new.reads (view_by (F.rest shelf.old) (F.moved shelf.old))
         (view_by (F.rest shelf.new) (F.moved shelf.new)) (K.held sink.old) (K.held sink.new) result }
     ensures shelf_later { F.faults shelf.old ≤ F.faults shelf.new }
     ensures sink_later { K.faults sink.old ≤ K.faults sink.new }
@@ -153,13 +169,15 @@ pub fn follow<R: Threads, F: Shelf, K: Sink>(
     shelf: &mut F,
     sink: &mut K,
 ) -> Ending
-    requires packets { watch.rounds.terms.shape.schema ≡ attrs_by watch.reads.schema }
-    requires ready { IsReady watch.rounds watch.reads }
-    // What was written is, for the reads that the shelf made, the text of those, or a front of it.
-    ensures followed { IsFollowed watch.reads.schema watch.rounds watch.truncated (view_by (F.rest shelf.old) (F.moved shelf.old))
+    requires packets { watch.left.schema ≡ attrs_by watch.reads.schema }
+    requires ready { (begun : RoundsValue) × IsReady begun watch.rounds watch.left watch.reads }
+    // What was written is, for the reads that the shelf made, the text of those, or a front of it: that of rounds on whole records.
+    ensures followed { (begun : RoundsValue) → IsReady begun watch.rounds watch.left watch.reads
+        → IsFollowed watch.reads.schema begun watch.truncated (view_by (F.rest shelf.old) (F.moved shelf.old))
         (view_by (F.rest shelf.new) (F.moved shelf.new)) (K.held sink.old) (K.held sink.new) result }
     // A lawful capture is followed to its end, unless memory runs out or a device fails.
-    ensures complete { IfSome (F.rest shelf.old) (λ file. IsWatchable watch.reads.schema watch.rounds watch.truncated file → (result ≡ endings.Done) ⊎ Yields result) }
+    ensures complete { (begun : RoundsValue) → IsReady begun watch.rounds watch.left watch.reads
+        → IfSome (F.rest shelf.old) (λ file. IsWatchable watch.reads.schema begun watch.truncated file → (result ≡ endings.Done) ⊎ Yields result) }
     ensures files { F.files shelf.new ≡ F.files shelf.old }
     // A device's fault comes only where its count rose, and no count falls.
     ensures read_fault { result ≡ endings.Stopped stops.ReadFault → Rose (F.faults shelf.old) (F.faults shelf.new) }
@@ -169,13 +187,15 @@ pub fn follow<R: Threads, F: Shelf, K: Sink>(
 {
     let Watch {
         mut rounds,
-        mut reads,
+        reads,
+        left,
         truncated,
     } = watch;
+    let mut reads = LeftReads { reads, left };
     let found = read_on(rt, alloc, &mut rounds, &mut reads, shelf, sink);
     rounds.release(rt);
     match found {
-        Ok(true) => end(alloc, rounds, reads, truncated, sink),
+        Ok(true) => end(alloc, rounds, reads.reads, truncated, sink),
         Ok(false) => Ending::Stopped(Stop::Memory),
         Err(ending) => ending,
     }
