@@ -11,8 +11,8 @@ use Rattle.cf_intake.specs.declared.refusal.Halt.TheVariants as halts
 use Rattle.cf_intake.specs.declared.refusal.Refusal.TheVariants as refusals
 use Rattle.cf_intake.specs.declared.series.Series.{Series}
 use Rattle.cf_intake.proofs.Numbering.{numbered_append, numbered_length}
-use Rattle.cf_fill.specs.Logs.{IsPlanOf, IsUnmade, halt_of}
-use Rattle.cf_load.specs.declared.plan.LivePlan.{LivePlan}
+use Rattle.cf_fill.specs.Logs.{IsUnmade, halt_of}
+use Rattle.cf_project.specs.Named.{KeepsAsks}
 use Rattle.cf_setup.specs.Setups.{SetupValue}
 use Rattle.cf_fill.specs.Needs.{NeedsAtMost, NeedsMore}
 use Rattle.cf_report.specs.Meaning.{final_text}
@@ -22,20 +22,21 @@ use Rattle.cf_long.specs.ByRow.{AreNumbered}
 use Rattle.cf_long.specs.Ends.{AreRefused, AreTaken, AreToldOf, HasEnded, HaveCome, IsUntold, LackNodes, ReadComesTo, ReadsComeTo, first_rows, in_log}
 use Rattle.cf_long.specs.Ends.HaveCome.{midway, ended}
 use Rattle.cf_long.specs.Ends.AreRefused.{faulty, lacks, over}
-use Rattle.cf_long.specs.Longs.{IsLong, IsLongFor, IsSomeLong, KeepsLong, LongValue, MayFollow, count_of, shape_in}
+use Rattle.cf_long.specs.Kept.{IsKeptLong, IsLongFor, IsSomeKept, KeepsKept, KeptLongValue}
+use Rattle.cf_long.specs.Longs.{MayFollow, count_of}
 use Rattle.cf_long.specs.declared.reads.End.{End}
 use Rattle.cf_long.specs.declared.reads.End.TheVariants as ends
-use Rattle.cf_long.proofs.Longs.{counted}
+use Rattle.cf_long.proofs.KeptRows.{counted_kept, few_kept}
 use Rattle.cf_long.proofs.Numbered.{all_first, first_both, numbered_low, take_numbered}
 
 -- The next records go into the log, as many as are numbered.
-module _ (long : LongValue) (before more given : List RowValue) (room : ℕ) (is : IsLong long (numbered_on 0 before))
-    (given_are : given ≡ numbered_on (length before) more) (room_is : room + count_of long + 1 ≡ 2 ^ 32) where
-  count : count_of long ≡ length before
-  count = counted long (numbered_on 0 before) is ∙ numbered_length 0 before
+module _ (long : KeptLongValue) (before more given : List RowValue) (room : ℕ) (is : IsKeptLong long (numbered_on 0 before))
+    (given_are : given ≡ numbered_on (length before) more) (room_is : room + count_of long.long + 1 ≡ 2 ^ 32) where
+  count : count_of long.long ≡ length before
+  count = counted_kept long (numbered_on 0 before) is ∙ numbered_length 0 before
 
   few : length before < 2 ^ 32
-  few = (let size = numbered_length 0 before in let low = is.few in omega (arith, size, low))
+  few = (let size = numbered_length 0 before in let low = few_kept long (numbered_on 0 before) is in omega (arith, size, low))
 
   room_left : 2 ^ 32 - 1 - length before ≡ room
   room_left = (let at = count in omega (arith, at, room_is))
@@ -50,9 +51,9 @@ module _ (long : LongValue) (before more given : List RowValue) (room : ℕ) (is
   first_are = first_both before more few ∙ ap (λ (n : ℕ). before ++ take n more) room_left
 
   -- they may follow
-  pub may_follow : MayFollow long (take room given)
+  pub may_follow : MayFollow long.long (take room given)
   may_follow = record {
-    numbered = subst (λ (rs : List RowValue). AreNumbered (count_of long) rs) (sym taken_are)
+    numbered = subst (λ (rs : List RowValue). AreNumbered (count_of long.long) rs) (sym taken_are)
         (subst (λ (n : ℕ). AreNumbered n (numbered_on (length before) (take room more))) (sym count)
         (numbered_low (length before) (take room more) taken_few));
     few = (let size = ap (λ (rs : List RowValue). length rs) taken_are ∙ numbered_length (length before) (take room more) in
@@ -78,41 +79,41 @@ module _ (long : LongValue) (before more given : List RowValue) (room : ℕ) (is
       all_first (before ++ more)
       (let size = length-append before more in let sum = many in let left = room_left in let high = few in omega (arith, low, size, sum, left, high))
 
-  pub taken_so : (next : LongValue) (front : List RowValue) (full : Bool) → front ≡ take room given → IsLong next (numbered_on 0 before ++ front)
+  pub taken_so : (next : KeptLongValue) (front : List RowValue) (full : Bool) → front ≡ take room given → IsKeptLong next (numbered_on 0 before ++ front)
       → (full ≡ true → room < length given) → (full ≡ false → length given ≤ room) → AreTaken next (before ++ more) (Ok full)
   taken_so next front true same now high low =
-      (is_over (high refl), subst (λ (rs : List RowValue). IsLong next rs) (ap (λ (rs : List RowValue). numbered_on 0 before ++ rs) same ∙ all_taken) now)
+      (is_over (high refl), subst (λ (rs : List RowValue). IsKeptLong next rs) (ap (λ (rs : List RowValue). numbered_on 0 before ++ rs) same ∙ all_taken) now)
   taken_so next front false same now high low =
-      subst (λ (rs : List RowValue). IsLong next rs)
+      subst (λ (rs : List RowValue). IsKeptLong next rs)
       (ap (λ (rs : List RowValue). numbered_on 0 before ++ rs) same ∙ (all_taken ∙ ap (λ (rs : List RowValue). numbered_on 0 rs) (within (low refl)))) now
 
-  pub untaken_so : (next : LongValue) (front : List RowValue) (nodes : ℕ) (why : Unmade) → front ≡ take room given → shape_in next ≡ shape_in long
-      → nodes ≡ (shape_in long).nodes → IsUnmade (shape_in long) (numbered_on 0 before ++ front) why
+  pub untaken_so : (next : KeptLongValue) (front : List RowValue) (nodes : ℕ) (why : Unmade) → front ≡ take room given → next.shape ≡ long.shape
+      → nodes ≡ long.shape.nodes → IsUnmade long.shape (numbered_on 0 before ++ front) why
       → AreTaken next (before ++ more) (Err (halt_of nodes why))
   untaken_so next front nodes unmade.Nodes same keeps count_is lack = (
     subst (λ (h : ShapeValue). NeedsMore h h.nodes (in_log (before ++ more))) (sym keeps)
-        (subst (λ (rs : List RowValue). NeedsMore (shape_in long) (shape_in long).nodes rs)
+        (subst (λ (rs : List RowValue). NeedsMore long.shape long.shape.nodes rs)
         (ap (λ (rs : List RowValue). numbered_on 0 before ++ rs) same ∙ all_taken) lack),
     ap (λ (n : ℕ). refusals.Nodes n) (count_is ∙ ap (λ (h : ShapeValue). h.nodes) (sym keeps)),
   )
   untaken_so next front nodes unmade.Memory same keeps count_is lack = refl
 
 -- what a step comes to that took no more records
-pub step_untaken : (series : Series) (told : Option (List File)) (now : Option (List ℕ)) (long : LongValue) (rows : List RowValue) (halt : Halt)
+pub step_untaken : (series : Series) (told : Option (List File)) (now : Option (List ℕ)) (long : KeptLongValue) (rows : List RowValue) (halt : Halt)
     → IsSeriesAt series told now rows → AreTaken long rows (Err halt) → ReadComesTo series told now long (Err halt)
 step_untaken series told now long rows (halts.Refused why) at taken = (rows, midway at, taken.0, taken.1)
 step_untaken series told now long rows (halts.Stopped stop) at taken = tt
 
 -- which records are in the log where the reading has ended
-abbrev pub ended_long : (series : Series) (told : Option (List File)) (now : Option (List ℕ)) (long : LongValue) (end : End) → HasEnded series told now long end
-    → IsSomeLong long
+abbrev pub ended_long : (series : Series) (told : Option (List File)) (now : Option (List ℕ)) (long : KeptLongValue) (end : End) → HasEnded series told now long end
+    → IsSomeKept long
 ended_long series told now long ends.Whole is = (numbered_on 0 is.0, is.2)
 ended_long series told now long (ends.Refused why) is = (numbered_on 0 is.0, is.2)
 ended_long series told now long ends.Full is = (in_log is.0, is.3)
 
 -- why there is no text, before the last segment was loaded
 pub halted_so : (series : Series) (told : Option (List File)) (now : Option (List ℕ)) (shape here : ShapeValue) (halt : Halt) → here ≡ shape
-    → (long : LongValue) → shape_in long ≡ here → ReadsComeTo series told now long (Err halt) → IsUntold series told now shape halt
+    → (long : KeptLongValue) → long.shape ≡ here → ReadsComeTo series told now long (Err halt) → IsUntold series told now shape halt
 halted_so series told now shape here (halts.Refused why) same long is come =
     lacks (subst (λ (h : ShapeValue). LackNodes series told now h why) (is ∙ same) come)
 halted_so series told now shape here (halts.Stopped stop) same long is come = tt
@@ -124,11 +125,11 @@ module _ (series : Series) (told : Option (List File)) (now : Option (List ℕ))
   lack rows unmade.Nodes come lacking = lacks (rows, come, lacking, ap (λ (n : ℕ). refusals.Nodes n) same)
   lack rows unmade.Memory come lacking = tt
 
-  all_in : (long : LongValue) (rows : List RowValue) → IsLong long (numbered_on 0 rows) → in_log rows ≡ numbered_on 0 rows
+  all_in : (long : KeptLongValue) (rows : List RowValue) → IsKeptLong long (numbered_on 0 rows) → in_log rows ≡ numbered_on 0 rows
   all_in long rows is =
-      ap (λ (rs : List RowValue). numbered_on 0 rs) (all_first rows (let size = numbered_length 0 rows in let few = is.few in omega (arith, size, few)))
+      ap (λ (rs : List RowValue). numbered_on 0 rs) (all_first rows (let size = numbered_length 0 rows in let few = few_kept long (numbered_on 0 rows) is in omega (arith, size, few)))
 
-  pub lacks_at_end : (long : LongValue) (end : End) (why : Unmade) (is : HasEnded series told now long end)
+  pub lacks_at_end : (long : KeptLongValue) (end : End) (why : Unmade) (is : HasEnded series told now long end)
       → IsUnmade shape (ended_long series told now long end is).0 why → IsUntold series told now shape (halt_of nodes why)
   lacks_at_end long ends.Whole why is lacking =
       lack is.0 why (ended _ is.1) (subst (λ (rs : List RowValue). IsUnmade shape rs why) (sym (all_in long is.0 is.2)) lacking)
@@ -137,16 +138,18 @@ module _ (series : Series) (told : Option (List File)) (now : Option (List ℕ))
   lacks_at_end long ends.Full why is lacking = lack is.0 why (midway is.1) lacking
 
 -- a log for a setup is one after rows came
-pub long_on : (setup : SetupValue) (capacity writers nodes : ℕ) (long next : LongValue) (rows : List RowValue)
-    → IsLongFor setup capacity writers nodes long [] → KeepsLong long next → IsLong next rows → IsLongFor setup capacity writers nodes next rows
+pub long_on : (setup : SetupValue) (capacity writers nodes : ℕ) (long next : KeptLongValue) (rows : List RowValue)
+    → IsLongFor setup capacity writers nodes long [] → KeepsKept long next → IsKeptLong next rows → IsLongFor setup capacity writers nodes next rows
 long_on setup capacity writers nodes long next rows for keeps is = record {
   shape = keeps.shape ∙ for.shape;
-  plan = subst (λ (p : LivePlan). IsPlanOf setup 0 p) (sym keeps.plan) for.plan;
+  kept = keeps.kept ∙ for.kept;
+  asks = subst (λ (ms : List Bool). KeepsAsks ms setup.asks) (sym keeps.kept) for.asks;
+  plan = rw (keeps.kept, keeps.plan) for.plan;
   is = is;
 }
 
-pub some_on : (setup : SetupValue) (long next : LongValue) → (capacity writers nodes : ℕ) × IsLongFor setup capacity writers nodes long []
-    → KeepsLong long next → IsSomeLong next → (capacity writers nodes : ℕ) × (rows : List RowValue) × IsLongFor setup capacity writers nodes next rows
+pub some_on : (setup : SetupValue) (long next : KeptLongValue) → (capacity writers nodes : ℕ) × IsLongFor setup capacity writers nodes long []
+    → KeepsKept long next → IsSomeKept next → (capacity writers nodes : ℕ) × (rows : List RowValue) × IsLongFor setup capacity writers nodes next rows
 some_on setup long next for keeps some =
     (for.0, for.1, for.2, some.0, long_on setup for.0 for.1 for.2 long next some.0 for.3 keeps some.1)
 
@@ -157,10 +160,10 @@ module _ (series : Series) (told : Option (List File)) (now : Option (List ℕ))
   AtEnd (ends.Refused why) = AreRefused series told now shape why
   AtEnd ends.Full = AreRefused series told now shape (refusals.Full (2 ^ 32 - 1))
 
-  few_rows : (long : LongValue) (rows : List RowValue) → IsLong long (numbered_on 0 rows) → length rows < 2 ^ 32
-  few_rows long rows is = (let size = numbered_length 0 rows in let few = is.few in omega (arith, size, few))
+  few_rows : (long : KeptLongValue) (rows : List RowValue) → IsKeptLong long (numbered_on 0 rows) → length rows < 2 ^ 32
+  few_rows long rows is = (let size = numbered_length 0 rows in let few = few_kept long (numbered_on 0 rows) is in omega (arith, size, few))
 
-  pub told_at_end : (long : LongValue) (end : End) (is : HasEnded series told now long end)
+  pub told_at_end : (long : KeptLongValue) (end : End) (is : HasEnded series told now long end)
       → (text ≡ final_text shape setup (ended_long series told now long end is).0)
       × NeedsAtMost shape (shape.writers * shape.nodes) (ended_long series told now long end is).0 → AtEnd end
   told_at_end long ends.Whole is made =

@@ -3,8 +3,10 @@ pub mod Found
 pub mod Nodes
 pub mod Smaller
 pub mod Takes
+pub mod SpelledRows
 pub mod Longs
 pub mod Texts
+pub mod KeptRows
 pub mod Setups
 pub mod Numbered
 pub mod Ends

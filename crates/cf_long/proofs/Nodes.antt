@@ -34,7 +34,7 @@ module _ (n b : ℕ) (xs ys : List RowValue) (whole : length xs ≡ n * b) where
 
 module _ (shape : ShapeValue) (n : ℕ) where
   -- which block needs more
-  lack_in : (rows : List RowValue) → NeedsMore shape n rows → (k : ℕ) × (n < distinct shape (block shape.capacity k rows))
+  pub lack_in : (rows : List RowValue) → NeedsMore shape n rows → (k : ℕ) × (n < distinct shape (block shape.capacity k rows))
   lack_in rows lack =
       let f : ℕ → List RowValue = λ k. block shape.capacity k rows in
       let count = (length rows + shape.capacity - 1) / shape.capacity in

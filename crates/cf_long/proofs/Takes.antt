@@ -1,5 +1,5 @@
 -- Rows come into one segment.
-use Rattle.std.proofs.Common.{◌≡◌, ◌∙◌, ℕ, ◌+◌, ◌*◌, ◌<◌, ◌≤◌, Bool, nat_lt, cond, List, [], ◌++◌, length, length-append, All, Option, Some, None, refl, sym, ap, arith, one-mul}
+use Rattle.std.proofs.Common.{◌≡◌, ◌∙◌, ℕ, ◌+◌, ◌*◌, ◌<◌, ◌≤◌, Bool, nat_lt, cond, List, [], ◌++◌, length, length-append, All, Option, Some, None, refl, sym, ap, subst, arith, one-mul}
 use Rattle.std.proofs.lemmas.Bool.{lt-ltb}
 use Rattle.std.proofs.lemmas.List.Elements.{All-append, All-nil}
 use Rattle.cf_row.specs.Row.{Fits, RowValue}
@@ -10,6 +10,7 @@ use Rattle.cf_load.specs.declared.plan.LivePlan.{LivePlan}
 use Rattle.cf_fill.specs.Filling.{FillingValue}
 use Rattle.cf_fill.proofs.Filled.{waits_short}
 use Rattle.cf_long.specs.Growing.{GrowingValue, HasTaken, IsFilledAlone, IsFilledIf, IsSmaller, count_in, count_of_log, waiting_in, waiting_of_log}
+use Rattle.cf_long.specs.Longs.{HoldsFew}
 
 -- a log of one segment has room for its rows
 pub room_alone : (shape : ShapeValue) (plan : LivePlan) (filling : FillingValue) (rows : List RowValue) → IsFilledAlone shape plan filling rows
@@ -56,6 +57,20 @@ log_waits shape plan (Some filling) rows is = waits_short filling rows is.filled
 -- fewer rows wait than a batch has
 pub waits_few : (plan : LivePlan) (segment : GrowingValue) (rows : List RowValue) → HasTaken plan segment rows → length (waiting_in segment) < 4096
 waits_few plan segment rows is = log_waits segment.small plan segment.filling rows is.filled
+
+-- so there are few beside its records
+pub holds_few : (plan : LivePlan) (segment : GrowingValue) (rows : List RowValue) → HasTaken plan segment rows → HoldsFew segment
+holds_few plan segment rows is = record {
+  records = (let count = taken_count plan segment rows is in let low = is.within in omega (arith, count, low));
+  waiting = waits_few plan segment rows is;
+}
+
+-- none at all where it is not opened
+pub none_held : (segment : GrowingValue) → segment.filling ≡ None → HoldsFew segment
+none_held segment none = record {
+  records = subst (λ (log : Option FillingValue). count_of_log log ≤ segment.shape.capacity) (sym none) (omega arith);
+  waiting = subst (λ (log : Option FillingValue). length (waiting_of_log log) < 4096) (sym none) (omega arith);
+}
 
 -- more rows came, which are kept if the segment has fewer nodes than it may have
 pub taken_more : (plan : LivePlan) (old : GrowingValue) (filling : FillingValue) (kept before more : List RowValue) → HasTaken plan old before

@@ -18,7 +18,7 @@ use Rattle.cf_intake.specs.declared.refusal.Refusal.TheVariants as refusals
 use Rattle.cf_intake.specs.declared.refusal.Stop.TheVariants as stops
 use Rattle.cf_intake.specs.declared.series.Series.{Series}
 use Rattle.cf_fill.specs.Needs.{NeedsAtMost, NeedsMore}
-use Rattle.cf_long.specs.Longs.{IsLong, LongValue, shape_in}
+use Rattle.cf_long.specs.Kept.{IsKeptLong, KeptLongValue}
 use Rattle.cf_long.specs.declared.reads.End.{End}
 use Rattle.cf_long.specs.declared.reads.End.TheVariants.{Whole, Refused, Full}
 
@@ -40,11 +40,11 @@ pub data HaveCome (series : Series) (told : Option (List File)) (now : Option (L
   ended : (end : SeriesEnd) → HaveEnded series told now rows end → HaveCome series told now rows
 
 -- all records that came are in the log, and others may follow
-pub record IsReadInto (series : Series) (told : Option (List File)) (now : Option (List ℕ)) (long : LongValue) : Type 0 where
+pub record IsReadInto (series : Series) (told : Option (List File)) (now : Option (List ℕ)) (long : KeptLongValue) : Type 0 where
   pub rows : List RowValue
   pub at : IsSeriesAt series told now rows
-  pub is : IsLong long (numbered_on 0 rows)
-  pub kind : (shape_in long).schema ≡ attrs_by series.schema
+  pub is : IsKeptLong long (numbered_on 0 rows)
+  pub kind : long.shape.schema ≡ attrs_by series.schema
 
 -- Some block of the records in the log needs more nodes than a writer has in it.
 abbrev pub LackNodes : Series → Option (List File) → Option (List ℕ) → ShapeValue → Refusal → Type 0
@@ -52,32 +52,32 @@ LackNodes series told now shape why =
     (rows : List RowValue) × HaveCome series told now rows × NeedsMore shape shape.nodes (in_log rows) × (why ≡ refusals.Nodes shape.nodes)
 
 -- The reading ends so, with these records in the log: all captures were read; or the one at hand is refused; or there is a record too many.
-abbrev pub HasEnded : Series → Option (List File) → Option (List ℕ) → LongValue → End → Type 0
+abbrev pub HasEnded : Series → Option (List File) → Option (List ℕ) → KeptLongValue → End → Type 0
 HasEnded series told now long Whole =
-    (rows : List RowValue) × HaveEnded series told now rows (whole series.cuts.items) × IsLong long (numbered_on 0 rows)
+    (rows : List RowValue) × HaveEnded series told now rows (whole series.cuts.items) × IsKeptLong long (numbered_on 0 rows)
 HasEnded series told now long (Refused why) =
-    (rows : List RowValue) × HaveEnded series told now rows (refused (suc series.place) why) × IsLong long (numbered_on 0 rows)
-HasEnded series told now long Full = (rows : List RowValue) × IsSeriesAt series told now rows × (2 ^ 32 ≤ length rows) × IsLong long (in_log rows)
+    (rows : List RowValue) × HaveEnded series told now rows (refused (suc series.place) why) × IsKeptLong long (numbered_on 0 rows)
+HasEnded series told now long Full = (rows : List RowValue) × IsSeriesAt series told now rows × (2 ^ 32 ≤ length rows) × IsKeptLong long (in_log rows)
 
 -- what becomes of these records, of which all but the last ones were in the log: the answer is whether there are too many
-abbrev pub AreTaken : LongValue → List RowValue → Result Bool Halt → Type 0
-AreTaken long rows (Ok true) = (2 ^ 32 ≤ length rows) × IsLong long (in_log rows)
-AreTaken long rows (Ok false) = IsLong long (numbered_on 0 rows)
+abbrev pub AreTaken : KeptLongValue → List RowValue → Result Bool Halt → Type 0
+AreTaken long rows (Ok true) = (2 ^ 32 ≤ length rows) × IsKeptLong long (in_log rows)
+AreTaken long rows (Ok false) = IsKeptLong long (numbered_on 0 rows)
 AreTaken long rows (Err (halts.Refused why)) =
-    NeedsMore (shape_in long) (shape_in long).nodes (in_log rows) × (why ≡ refusals.Nodes (shape_in long).nodes)
+    NeedsMore long.shape long.shape.nodes (in_log rows) × (why ≡ refusals.Nodes long.shape.nodes)
 AreTaken long rows (Err (halts.Stopped stop)) = stop ≡ stops.Memory
 
 -- what one step of the reading comes to
-abbrev pub ReadComesTo : Series → Option (List File) → Option (List ℕ) → LongValue → Result (Option End) Halt → Type 0
+abbrev pub ReadComesTo : Series → Option (List File) → Option (List ℕ) → KeptLongValue → Result (Option End) Halt → Type 0
 ReadComesTo series told now long (Ok None) = IsReadInto series told now long
 ReadComesTo series told now long (Ok (Some end)) = HasEnded series told now long end
-ReadComesTo series told now long (Err (halts.Refused why)) = LackNodes series told now (shape_in long) why
+ReadComesTo series told now long (Err (halts.Refused why)) = LackNodes series told now long.shape why
 ReadComesTo series told now long (Err (halts.Stopped stop)) = Unit {0}
 
 -- and the whole of it
-abbrev pub ReadsComeTo : Series → Option (List File) → Option (List ℕ) → LongValue → Result End Halt → Type 0
+abbrev pub ReadsComeTo : Series → Option (List File) → Option (List ℕ) → KeptLongValue → Result End Halt → Type 0
 ReadsComeTo series told now long (Ok end) = HasEnded series told now long end
-ReadsComeTo series told now long (Err (halts.Refused why)) = LackNodes series told now (shape_in long) why
+ReadsComeTo series told now long (Err (halts.Refused why)) = LackNodes series told now long.shape why
 ReadsComeTo series told now long (Err (halts.Stopped stop)) = Unit {0}
 
 -- All captures were read, and the text is the final part of the setup's report over all their records, numbered from 0. No block of these

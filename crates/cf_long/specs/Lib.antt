@@ -1,7 +1,9 @@
 pub mod ByRow
 pub mod Found
+pub mod SpelledRows
 pub mod Growing
 pub mod Longs
+pub mod Kept
 pub mod Answered
 pub mod Texts
 pub mod Ends

@@ -7,11 +7,9 @@ use Rattle.cf_plain.specs.declared.finding.Finding.{Finding}
 use Rattle.cf_segments.specs.Blocks.{block}
 use Rattle.cf_load.specs.Planned.{asks_of}
 use Rattle.cf_load.specs.declared.plan.LivePlan.{LivePlan}
-use Rattle.cf_fill.specs.Logs.{IsPlanOf}
-use Rattle.cf_setup.specs.Setups.{SetupValue, shaped}
 use Rattle.cf_long.specs.ByRow.{AreNumbered}
 use Rattle.cf_long.specs.Found.{found_in}
-use Rattle.cf_long.specs.Growing.{GrowingValue, HasTaken, IsSmaller, count_in}
+use Rattle.cf_long.specs.Growing.{GrowingValue, HasTaken, IsSmaller, count_in, waiting_in}
 
 -- What is asked, the shape that the next segment is opened with, the segment that rows go to, what was found in the rows before it, and how
 -- many these are.
@@ -21,6 +19,11 @@ pub record LongValue : Type 0 where
   pub segment : GrowingValue
   pub found : List Finding
   pub gone : ℕ
+
+-- What a segment holds at any time: no more records than its shape has room for, and beside them fewer rows that wait than a batch has.
+pub record HoldsFew (segment : GrowingValue) : Type 0 where
+  pub records : count_in segment ≤ segment.shape.capacity
+  pub waiting : length (waiting_in segment) < 4096
 
 -- the shape of its segments
 abbrev pub shape_in : LongValue → ShapeValue
@@ -73,9 +76,3 @@ pub record TakesSome (old new : LongValue) (all left : List RowValue) : Type 0 w
   pub taken : List RowValue
   pub split : taken ++ left ≡ all
   pub long : (before : List RowValue) → IsLong old before → IsLong new (before ++ taken)
-
--- The same of a log of a setup, in segments of those sizes, of which is asked what the setup asks, and nothing live.
-pub record IsLongFor (setup : SetupValue) (capacity writers nodes : ℕ) (long : LongValue) (rows : List RowValue) : Type 0 where
-  pub shape : shape_in long ≡ shaped setup capacity writers nodes
-  pub plan : IsPlanOf setup 0 long.plan
-  pub is : IsLong long rows

@@ -1,16 +1,18 @@
 // One segment of a log, which is opened with few nodes and may be loaded again with more.
-ghost use Rattle.std.specs.Prelude.{◌≡◌, ℕ, ◌+◌, ◌<◌, ◌≤◌, ◌++◌, [], List, All, length, nat_lt, None, IfOk, MatchResult, OnOk, if◌then◌else◌};
+ghost use Rattle.std.specs.Prelude.{◌≡◌, ℕ, ◌+◌, ◌≤◌, ◌++◌, [], List, All, length, nat_lt, None, IfOk, MatchResult, OnOk, if◌then◌else◌};
 ghost use Rattle.cf_row.specs.Row.{Fits, RowValue};
 ghost use Rattle.cf_shape.specs.Lanes.{IsShape};
 ghost use Rattle.cf_segments.specs.Segments.{AllowsSegments};
 ghost use Rattle.cf_load.specs.Planned.{IsPlan};
 ghost use Rattle.cf_load.specs.declared.plan.LivePlan.{LivePlan as LivePlanValue};
+ghost use Rattle.cf_fill.specs.Filling.{Fills, IsFilling, KeepsLog};
 ghost use Rattle.cf_fill.specs.Logs.{IsUnmade};
 ghost use Rattle.cf_long.specs.ByRow.{AreNumbered};
-ghost use Rattle.cf_long.specs.Growing.{HasTaken, HasTakenSome, IsFilledAlone, IsFilledIf, IsSmaller, TakesMore, count_in, waiting_in};
-ghost use Rattle.cf_long.specs.Longs.{IsLetGo};
+ghost use Rattle.cf_long.specs.Growing.{HasTaken, HasTakenSome, IsFilledAlone, IsFilledIf, IsSmaller, TakesMore, count_in};
+ghost use Rattle.cf_long.specs.Longs.{HoldsFew, IsLetGo};
 
 use crate::segment::let_go;
+use crate::spelled_rows::SpelledRows;
 use cf_fill::{Context, Filling, Unmade};
 use cf_load::LivePlan;
 use cf_outside::Gate;
@@ -32,7 +34,7 @@ pub struct Growing {
     shape: Shape,
     filling: Option<Filling>,
     // Its rows, if it is opened with fewer nodes than it may have.
-    kept: Vec<Row>,
+    kept: SpelledRows,
 }
 
 impl Model for Growing {
@@ -40,25 +42,21 @@ impl Model for Growing {
 
     ghost Value = { GrowingValue };
 
-    ghost view = { λ s. record { small = s.small; shape = s.shape; filling = s.filling; kept = s.kept.items } };
-}
+    ghost view = { λ s. record { small = s.small; shape = s.shape; filling = s.filling; kept = s.kept.rows } };
 
-// Puts equal rows behind these.
-fn push_copies(alloc: Global, kept: &mut Vec<Row>, rows: &[Row]) -> Result<(), Memory>
-    ensures { OnOk result (kept.new.items ≡ kept.old.items ++ rows.now) }
-{
-    for row in rows {
-        kept.push(row.copy(alloc)?)?;
-    }
-    Ok(())
+    ghost use Rattle.std.specs.Prelude.{◌≡◌};
+
+    ghost invariant = { λ s. s.kept.schema ≡ s.shape.schema };
 }
 
 // Keeps the rows of a segment that has fewer nodes than it may have.
-fn keep(alloc: Global, kept: &mut Vec<Row>, is_small: bool, rows: &[Row]) -> Result<(), Memory>
-    ensures { OnOk result (kept.new.items ≡ (if is_small then kept.old.items ++ rows.now else kept.old.items)) }
+fn keep(kept: &mut SpelledRows, is_small: bool, rows: &[Row]) -> Result<(), Memory>
+    requires fit { All (Fits kept.old.schema) rows.now }
+    ensures schema { kept.new.schema ≡ kept.old.schema }
+    ensures rows { OnOk result (kept.new.rows ≡ (if is_small then kept.old.rows ++ rows.now else kept.old.rows)) }
 {
     if is_small {
-        return push_copies(alloc, kept, rows);
+        return kept.push_all(rows);
     }
     Ok(())
 }
@@ -80,23 +78,43 @@ fn opened(
     }
 }
 
+// Loads the rows that are kept, batch by batch.
+fn load_kept<R: Threads + Sync, G: Gate>(
+    context: &Context<'_, R, G>,
+    log: &mut Filling,
+    kept: &SpelledRows,
+) -> Result<(), Memory>
+    requires fit { All (Fits log.old.segments.shape.schema) kept.now.rows }
+    requires filled { IsFilling log.old }
+    ensures keeps { KeepsLog log.old log.new }
+    ensures filled { OnOk result (Fills log.old log.new kept.now.rows) }
+{
+    let mut at = 0;
+    while at < kept.count() {
+        let mut rows = kept.batch(context.alloc, at)?;
+        at += rows.len();
+        log.take_rows(context, &mut rows)?;
+    }
+    Ok(())
+}
+
 // Loads all of these rows into a log of the shape, asks it all that the plan asks, and lets it go.
 fn load_again<R: Threads + Sync, G: Gate>(
     context: &Context<'_, R, G>,
     shape: &Shape,
     plan: &LivePlan,
-    rows: Vec<Row>,
+    kept: SpelledRows,
     first: u32,
 ) -> Result<Vec<Finding>, Unmade>
     requires allowed { AllowsSegments shape.now 1 }
     requires plan { IsPlan shape.now plan.now }
-    requires fit { All (Fits shape.now.schema) rows.items }
-    requires few { length rows.items ≤ shape.now.capacity }
-    ensures { AreNumbered first rows.items → MatchResult result (λ found. IsLetGo shape.now plan.now rows.items found.items) (IsUnmade shape.now rows.items) }
+    requires fit { All (Fits shape.now.schema) kept.rows }
+    requires few { length kept.rows ≤ shape.now.capacity }
+    ensures { AreNumbered first kept.rows → MatchResult result (λ found. IsLetGo shape.now plan.now kept.rows found.items) (IsUnmade shape.now kept.rows) }
 {
-    let mut rows = rows;
     let mut filling = opened(context.alloc, shape, plan, None)?;
-    filling.take_rows(context, &mut rows)?;
+    load_kept(context, &mut filling, &kept)?;
+    drop(kept);
     let_go(context, filling, first)
 }
 
@@ -110,7 +128,7 @@ impl Growing {
             small: small.copy(alloc)?,
             shape: shape.copy(alloc)?,
             filling: None,
-            kept: Vec::new(alloc),
+            kept: SpelledRows::new(alloc, shape.schema())?,
         })
     }
 
@@ -152,11 +170,11 @@ impl Growing {
         requires room { count_in self.old + length rows.old.items ≤ self.old.shape.capacity }
         ensures shape { self.new.shape ≡ self.old.shape }
         ensures taken { OnOk result (TakesMore plan.now self.old self.new rows.old.items) }
-        ensures few { OnOk result (length (waiting_in self.new) < 4096) }
+        ensures few { HoldsFew self.new }
         ensures none { OnOk result (rows.new.items ≡ []) }
     {
         let is_small = self.is_small();
-        keep(context.alloc, &mut self.kept, is_small, rows)?;
+        keep(&mut self.kept, is_small, rows)?;
         let mut filling = opened(context.alloc, &self.small, plan, self.filling.take())?;
         filling.take_rows(context, rows)?;
         self.filling = Some(filling);

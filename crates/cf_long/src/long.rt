@@ -40,11 +40,14 @@ pub struct Long {
 }
 
 impl Model for Long {
-    ghost use Rattle.cf_long.specs.Longs.{LongValue};
+    ghost use Rattle.cf_long.specs.Longs.{HoldsFew, LongValue};
 
     ghost Value = { LongValue };
 
     ghost view = { λ l. record { plan = l.plan; small = l.small; segment = l.segment; found = l.found.items; gone = l.gone } };
+
+    // There is one segment, and few rows wait for it, whatever came of the calls before.
+    ghost invariant = { λ l. HoldsFew l.segment };
 }
 
 // The shape with which the next segment is opened: that of this one, or with all nodes if its rows needed more.

@@ -1,5 +1,5 @@
 // Captures are read one after another into a log of any length.
-ghost use Rattle.std.specs.Prelude.{◌≡◌, ◌++◌, ℕ, List, [], All, Err, MatchResult, length};
+ghost use Rattle.std.specs.Prelude.{◌≡◌, ◌++◌, ◌≤◌, ℕ, List, [], All, Err, MatchResult, length};
 ghost use Rattle.cf_row.specs.Schema6.{attrs_by};
 ghost use Rattle.cf_row.specs.Row.{Fits, RowValue};
 ghost use Rattle.cf_setup.specs.Setups.{shaped};
@@ -9,9 +9,9 @@ ghost use Rattle.cf_intake.specs.Series.{IsSeriesAt, KeepsSeries};
 ghost use Rattle.cf_intake.specs.declared.refusal.Halt.TheVariants.{Stopped};
 ghost use Rattle.cf_intake.specs.declared.refusal.Stop.TheVariants as stops;
 ghost use Rattle.cf_long.specs.Ends.{AreTaken, AreToldOf, IsReadInto, IsUntold, ReadComesTo, ReadsComeTo};
-ghost use Rattle.cf_long.specs.Longs.{IsLong, IsLongFor, IsSomeLong, KeepsLong, count_of, shape_in};
+ghost use Rattle.cf_long.specs.Kept.{IsKeptLong, IsLongFor, IsSomeKept, KeepsKept};
 
-use crate::long::Long;
+use crate::kept::KeptLong;
 use crate::report::long_report;
 use cf_fill::Context;
 use cf_intake::{Halt, Refusal, Series, Stop};
@@ -34,22 +34,24 @@ pub(crate) enum End {
 // Takes the rows that a read gave, as many as can be numbered. The answer is whether there are more.
 fn take<R: Threads + Sync, G: Gate>(
     context: &Context<'_, R, G>,
-    long: &mut Long,
+    long: &mut KeptLong,
     mut rows: Vec<Row>,
 ) -> Result<bool, Halt>
-    requires long { IsSomeLong long.old }
-    requires fit { All (Fits (shape_in long.old).schema) rows.items }
-    requires numbered { (before more : List RowValue) × IsLong long.old (numbered_on 0 before) × (rows.items ≡ numbered_on (length before) more) }
-    ensures keeps { KeepsLong long.old long.new }
-    ensures taken { (before more : List RowValue) → IsLong long.old (numbered_on 0 before) → rows.items ≡ numbered_on (length before) more
+    requires long { IsSomeKept long.old }
+    // Beside the log there are no more rows than one read gives.
+    requires few { length rows.items ≤ 4096 }
+    requires fit { All (Fits long.old.shape.schema) rows.items }
+    requires numbered { (before more : List RowValue) × IsKeptLong long.old (numbered_on 0 before) × (rows.items ≡ numbered_on (length before) more) }
+    ensures keeps { KeepsKept long.old long.new }
+    ensures taken { (before more : List RowValue) → IsKeptLong long.old (numbered_on 0 before) → rows.items ≡ numbered_on (length before) more
         → AreTaken long.new (before ++ more) result }
     ensures unfailed { result ≡ Err (Stopped stops.ReadFault) → ⊥ }
 {
     let room = long.room() as usize;
     let full = rows.len() > room;
     rows.truncate(room);
-    let nodes = long.shape().nodes();
-    match long.take_rows(context, &mut rows) {
+    let nodes = long.nodes();
+    match long.take_rows(context, rows) {
         Ok(()) => Ok(full),
         Err(why) => Err(why.halt(nodes)),
     }
@@ -60,11 +62,11 @@ fn step<R: Threads + Sync, F: Shelf, G: Gate>(
     context: &Context<'_, R, G>,
     shelf: &mut F,
     series: &mut Series<'_>,
-    long: &mut Long,
+    long: &mut KeptLong,
 ) -> Result<Option<End>, Halt>
     requires { IsReadInto series.old (F.files shelf.old) (F.rest shelf.old) long.old }
     ensures series { KeepsSeries series.old series.new }
-    ensures keeps { KeepsLong long.old long.new }
+    ensures keeps { KeepsKept long.old long.new }
     ensures files { F.files shelf.new ≡ F.files shelf.old }
     ensures comes { ReadComesTo series.new (F.files shelf.old) (F.rest shelf.new) long.new result }
     ensures cause { HasHaltCause (F.faults shelf.old) (F.faults shelf.new) result }
@@ -86,11 +88,11 @@ fn read_all<R: Threads + Sync, F: Shelf, G: Gate>(
     context: &Context<'_, R, G>,
     shelf: &mut F,
     series: &mut Series<'_>,
-    long: &mut Long,
+    long: &mut KeptLong,
 ) -> Result<End, Halt>
     requires { IsReadInto series.old (F.files shelf.old) (F.rest shelf.old) long.old }
     ensures series { KeepsSeries series.old series.new }
-    ensures keeps { KeepsLong long.old long.new }
+    ensures keeps { KeepsKept long.old long.new }
     ensures files { F.files shelf.new ≡ F.files shelf.old }
     ensures come { ReadsComeTo series.new (F.files shelf.old) (F.rest shelf.new) long.new result }
     ensures cause { HasHaltCause (F.faults shelf.old) (F.faults shelf.new) result }
@@ -114,11 +116,11 @@ pub fn series_report<R: Threads + Sync, F: Shelf, G: Gate>(
     shelf: &mut F,
     setup: &Setup,
     series: &mut Series<'_>,
-    mut long: Long,
+    mut long: KeptLong,
 ) -> Result<Vec<u8>, Halt>
     requires begun { IsSeriesAt series.old (F.files shelf.old) (F.rest shelf.old) [] }
     requires long { (capacity writers nodes : ℕ) × IsLongFor setup.now capacity writers nodes long [] }
-    requires kind { (shape_in long).schema ≡ attrs_by series.old.schema }
+    requires kind { long.shape.schema ≡ attrs_by series.old.schema }
     ensures series { KeepsSeries series.old series.new }
     ensures files { F.files shelf.new ≡ F.files shelf.old }
     ensures told { (capacity writers nodes : ℕ) → IsLongFor setup.now capacity writers nodes long []
@@ -127,7 +129,7 @@ pub fn series_report<R: Threads + Sync, F: Shelf, G: Gate>(
         (IsUntold series.new (F.files shelf.old) (F.rest shelf.new) (shaped setup.now capacity writers nodes)) }
     ensures cause { HasHaltCause (F.faults shelf.old) (F.faults shelf.new) result }
 {
-    let nodes = long.shape().nodes();
+    let nodes = long.nodes();
     let end = read_all(context, shelf, series, &mut long)?;
     // The rows that wait are loaded, however the captures end.
     let text = match long_report(context, setup, long) {

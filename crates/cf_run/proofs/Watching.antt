@@ -188,20 +188,20 @@ ending_yields ending (inr (inr (inl is))) = inr (inr (inl (ap (λ (e : Ending). 
 ending_yields ending (inr (inr (inr is))) = inr (inr (inr (ap (λ (e : Ending). ending_status e) is)))
 
 -- The watch has begun, and was followed.
-module _ (call : WatchCall) (opened after moved moved_then held now : Option (List ℕ)) (watching : Watch) (ending : Ending) (status : Status)
-    (is : status ≡ ending_status ending)
-    (followed : IsFollowed watching.reads.schema watching.rounds watching.truncated (view_by opened moved) (view_by after moved_then) held now ending) where
+module _ (call : WatchCall) (opened after moved moved_then held now : Option (List ℕ)) (watching : Watch) (setup : SetupValue) (ending : Ending)
+    (status : Status) (is : status ≡ ending_status ending)
+    (followed : IsFollowed watching.reads.schema (begun_for call setup) watching.truncated (view_by opened moved) (view_by after moved_then) held now ending) where
   pub followed_by : IsByCall (Some (watch call)) status []
   followed_by = (
     λ words. ending_words ending
-        (followed_words watching.reads.schema watching.rounds watching.truncated (view_by opened moved) (view_by after moved_then) held now ending followed)
-        (sym is ∙ words),
+        (followed_words watching.reads.schema (begun_for call setup) watching.truncated (view_by opened moved) (view_by after moved_then) held now ending
+        followed) (sym is ∙ words),
     refl,
   )
 
-  pub followed_written : (told : Option (List File)) (before : Option (List ℕ)) → IsBegun told call opened watching
+  pub followed_written : (told : Option (List File)) (before : Option (List ℕ)) (begun : IsBegun told call opened watching) → setup ≡ begun.setup
       → RunAnswers told (Some (watch call)) status [] held now before after
-  followed_written told before begun =
+  followed_written told before begun same =
       watched call refl refl (record {
         setup = begun.setup;
         schema = watching.reads.schema;
@@ -214,8 +214,8 @@ module _ (call : WatchCall) (opened after moved moved_then held now : Option (Li
         moved_then = moved_then;
         followed = subst (λ (t : Bool). IsFollowed watching.reads.schema (begun_for call begun.setup) t (view_by opened moved) (view_by after moved_then) held now
             ending) begun.truncated
-            (subst (λ (r : RoundsValue). IsFollowed watching.reads.schema r watching.truncated (view_by opened moved) (view_by after moved_then) held now ending)
-            begun.begun followed);
+            (subst (λ (s : SetupValue). IsFollowed watching.reads.schema (begun_for call s) watching.truncated (view_by opened moved) (view_by after moved_then)
+            held now ending) same followed);
         status_is = is;
       })
 
@@ -224,17 +224,17 @@ module _ (call : WatchCall) (opened after moved moved_then held now : Option (Li
   followed_decided (Some files) begun = λ before' after' due text seals calls.
       absurd (stream_undue files call begun.setup watching.reads.schema begun.opens.0 begun.set begun.kind begun.opens.1 before' after' due text seals calls)
 
-  pub followed_complete : (told : Option (List File)) → IsBegun told call opened watching
-      → IfSome opened (λ file. IsWatchable watching.reads.schema watching.rounds watching.truncated file → (ending ≡ endings.Done) ⊎ EndingYields ending)
+  pub followed_complete : (told : Option (List File)) (begun : IsBegun told call opened watching) → setup ≡ begun.setup
+      → IfSome opened (λ file. IsWatchable watching.reads.schema (begun_for call setup) watching.truncated file → (ending ≡ endings.Done) ⊎ EndingYields ending)
       → IfSome told (λ files. IsLawful (Some files) (Some (watch call)) → (status ≡ statuses.Done) ⊎ Yields status)
-  followed_complete None begun complete = tt
-  followed_complete (Some files) begun complete = λ lawful.
+  followed_complete None begun same complete = tt
+  followed_complete (Some files) begun same complete = λ lawful.
       let file = begun.opens.0 in
       let fit = stream_lawful files call begun.setup watching.reads.schema file begun.set begun.kind begun.opens.1 lawful in
-      let at : IsWatchable watching.reads.schema watching.rounds watching.truncated file =
-      subst (λ (t : Bool). IsWatchable watching.reads.schema watching.rounds t file) (sym begun.truncated)
-      (subst (λ (r : RoundsValue). IsWatchable watching.reads.schema r call.truncated file) (sym begun.begun) fit) in
-      let known = subst (λ (o : Option (List ℕ)). IfSome o (λ f. IsWatchable watching.reads.schema watching.rounds watching.truncated f
+      let at : IsWatchable watching.reads.schema (begun_for call setup) watching.truncated file =
+      subst (λ (t : Bool). IsWatchable watching.reads.schema (begun_for call setup) t file) (sym begun.truncated)
+      (subst (λ (s : SetupValue). IsWatchable watching.reads.schema (begun_for call s) call.truncated file) (sym same) fit) in
+      let known = subst (λ (o : Option (List ℕ)). IfSome o (λ f. IsWatchable watching.reads.schema (begun_for call setup) watching.truncated f
       → (ending ≡ endings.Done) ⊎ EndingYields ending)) begun.opens.2 complete in
       subst (λ (s : Status). (s ≡ statuses.Done) ⊎ Yields s) (sym is) (ending_yields ending (known at))
 

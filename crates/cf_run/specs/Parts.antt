@@ -16,7 +16,7 @@ use Rattle.cf_setup.specs.declared.source.Source.TheVariants.{Packets, Records}
 use Rattle.cf_table.specs.Moves.{SealValue}
 use Rattle.cf_run.specs.Due.{IsDue, StopsAt}
 use Rattle.cf_run.specs.Watched.{IsOpened, begun_for}
-use Rattle.cf_long.specs.Longs.{IsLongFor}
+use Rattle.cf_long.specs.Kept.{IsLongFor}
 use Rattle.cf_intake.specs.Parts.{IsSetupRead}
 use Rattle.cf_run.specs.declared.long_run.LongWork.{LongWork}
 use Rattle.cf_intake.specs.Refusals.{line_of}
@@ -79,10 +79,9 @@ pub record IsBegun (told : Option (List File)) (call : WatchCall) (now : Option 
   pub set : IsFileAs setups told call.setup setup
   pub kind : setup.source ≡ Packets watching.reads.schema
   pub opens : IsOpened told call.capture now
-  pub begun : watching.rounds ≡ begun_for call setup
   pub truncated : watching.truncated ≡ call.truncated
-  pub ready : IsReady watching.rounds watching.reads
-  pub packets : ((watching.rounds).terms).shape.schema ≡ attrs_by watching.reads.schema
+  pub ready : IsReady (begun_for call setup) watching.rounds watching.left watching.reads
+  pub packets : (watching.left).schema ≡ attrs_by watching.reads.schema
 
 -- a watch has begun, or the line of its refusal is due, or it was stopped
 abbrev pub WatchBegins : Option (List File) → WatchCall → Option (List ℕ) → Option (List ℕ) → Result Watch Halt → Type 0

@@ -14,7 +14,7 @@ use cf_command::{LogSizes, LongCommand};
 use cf_fill::Context;
 use cf_follow::push_truncated;
 use cf_intake::{Halt, Refusal, Series, Stop, read_setup};
-use cf_long::{Long, long_of, series_report};
+use cf_long::{KeptLong, long_of, series_report};
 use cf_outside::{Gate, Shelf};
 use cf_row::{Memory, PacketSchema};
 use cf_setup::Setup;
@@ -27,7 +27,7 @@ use std::thread::Threads;
 struct LongWork {
     setup: Setup,
     schema: PacketSchema,
-    long: Long,
+    long: KeptLong,
 }
 
 // Reads the setup, which must be over packets, and opens a log for it.

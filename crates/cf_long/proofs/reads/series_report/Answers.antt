@@ -1,7 +1,6 @@
 use Rattle.std.proofs.Common.{◌≡◌, ◌∙◌, Err, ap, rules, subst}
 use Rattle.cf_setup.specs.Setups.{shaped}
 use Rattle.cf_shape.specs.Lanes.{ShapeValue}
-use Rattle.cf_long.specs.Longs.{shape_in}
 use Rattle.cf_long.proofs.Ends.{AtEnd, ended_long, halted_so, lacks_at_end, long_on, some_on, told_at_end}
 use Rattle.cf_long.proofs.reads.series_report.Goals as goal
 
@@ -16,7 +15,7 @@ returns-in_err-end-clause-told g c = λ capacity writers nodes for.
     let shape = shaped c.args.setup.now capacity writers nodes in
     let why = c.in_err-end.field-0.0 in
     let same : c.from_residual.result ≡ Err why = search rules in
-    rw same (halted_so c.read_all.new.series (g.F.Shelf.files c.args.shelf.now) (g.F.Shelf.rest c.read_all.new.shelf) shape (shape_in c.args.long) why for.shape
+    rw same (halted_so c.read_all.new.series (g.F.Shelf.files c.args.shelf.now) (g.F.Shelf.rest c.read_all.new.shelf) shape c.args.long.shape why for.shape
     c.read_all.new.long c.in_err-end.ensures.keeps.shape c.in_err-end.ensures.come)
 
 pub returns-in-Err-clause-told : goal.returns-in-Err-clause-told
@@ -33,7 +32,7 @@ returns-in-Err-clause-told g c = λ capacity writers nodes for.
     let on = long_on setup capacity writers nodes c.args.long long some.0 for c.read_all.ensures.keeps some.1 in
     rw c.halt.ensures
     (lacks_at_end series told now shape c.nodes-nodes.result
-    (c.nodes-nodes.ensures.nodes ∙ ap (λ (h : ShapeValue). h.nodes) (c.shape.ensures ∙ for.shape)) long end c.in-Err.why is
+    (c.nodes-nodes.ensures ∙ ap (λ (h : ShapeValue). h.nodes) for.shape) long end c.in-Err.why is
     (c.in-Err.ensures capacity writers nodes some.0 on))
 
 pub returns-in-Whole-clause-told : goal.returns-in-Whole-clause-told

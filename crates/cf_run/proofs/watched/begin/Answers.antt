@@ -3,7 +3,6 @@ use Rattle.std.proofs.lemmas.Result.{err_from_is_err_and}
 use Rattle.cf_command.specs.Call.{watch_by}
 use Rattle.cf_row.specs.Schema6.{attrs_by}
 use Rattle.cf_row.specs.declared.packet6.PacketSchema.{PacketSchema}
-use Rattle.cf_rounds.specs.Held.{RoundsValue}
 use Rattle.cf_setup.specs.declared.source.Source.TheVariants.{Packets}
 use Rattle.cf_intake.specs.declared.refusal.Stop.TheVariants as stops
 use Rattle.cf_run.proofs.Watching.{watch_unset, watch_other, watch_kind, watch_unopened, watch_lacking}
@@ -53,9 +52,7 @@ returns-clause-begins g c =
       set = c.in_ok-setup.ensures.read.0;
       kind = kind ∙ ap (λ (which : PacketSchema). Packets which) (sym made.schema);
       opens = rw c.in_ok-setup.ensures.files at c.in_ok-open_capture.ensures.opened;
-      begun = made.begun;
       truncated = made.truncated;
       ready = made.ready;
-      packets = ap (λ (r : RoundsValue). ((r.terms).shape).schema) made.begun
-          ∙ (c.in_ok-setup.ensures.lawful.schema c.in_ok-schema.schema kind ∙ ap attrs_by (sym made.schema));
+      packets = made.ready.whole ∙ (c.in_ok-setup.ensures.lawful.schema c.in_ok-schema.schema kind ∙ ap attrs_by (sym made.schema));
     }

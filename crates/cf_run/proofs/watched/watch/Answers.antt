@@ -4,6 +4,7 @@ use Rattle.cf_command.specs.Call.Call.{watch}
 use Rattle.cf_intake.specs.declared.refusal.Halt.{Halt}
 use Rattle.cf_run.specs.Answers.RunAnswers.{stopped}
 use Rattle.cf_run.specs.Parts.{WatchBegins}
+use Rattle.cf_run.specs.Watched.{begun_for}
 use Rattle.cf_run.proofs.Answering.{by_stop, complete_free, decided_free, keeps_same, stop_yields}
 use Rattle.cf_run.proofs.Watching.{ending_read, ending_unwritten, followed_by, followed_complete, followed_decided, followed_written, refused_by, refused_complete, refused_decided, refused_read, refused_written, rose_since}
 use Rattle.cf_run.proofs.watched.watch.Goals as goal
@@ -12,29 +13,32 @@ pub follow-requires-clause-packets : goal.follow-requires-clause-packets
 follow-requires-clause-packets g c = c.in-Ok.ensures.begins.packets
 
 pub follow-requires-clause-ready : goal.follow-requires-clause-ready
-follow-requires-clause-ready g c = c.in-Ok.ensures.begins.ready
+follow-requires-clause-ready g c = (begun_for (watch_by c.args.command.now) c.in-Ok.ensures.begins.setup, c.in-Ok.ensures.begins.ready)
 
 pub returns-in-Ok-clause-written : goal.returns-in-Ok-clause-written
 returns-in-Ok-clause-written g c =
     followed_written (watch_by c.args.command.now) (g.F.Shelf.rest c.begin.new.shelf) (g.F.Shelf.rest c.follow.new.shelf)
     (g.F.Shelf.moved c.begin.new.shelf) (g.F.Shelf.moved c.follow.new.shelf) (g.K.Sink.held c.args.sink.now)
     (g.K.Sink.held c.follow.new.sink)
-    c.in-Ok.watching c.follow.result c.from.result c.from.ensures c.follow.ensures.followed
-    (g.F.Shelf.files c.args.shelf.now) (g.F.Shelf.rest c.args.shelf.now) c.in-Ok.ensures.begins
+    c.in-Ok.watching c.in-Ok.ensures.begins.setup c.follow.result c.from.result c.from.ensures
+    (c.follow.ensures.followed (begun_for (watch_by c.args.command.now) c.in-Ok.ensures.begins.setup) c.in-Ok.ensures.begins.ready)
+    (g.F.Shelf.files c.args.shelf.now) (g.F.Shelf.rest c.args.shelf.now) c.in-Ok.ensures.begins refl
 
 pub returns-in-Ok-clause-by_command : goal.returns-in-Ok-clause-by_command
 returns-in-Ok-clause-by_command g c =
     followed_by (watch_by c.args.command.now) (g.F.Shelf.rest c.begin.new.shelf) (g.F.Shelf.rest c.follow.new.shelf)
     (g.F.Shelf.moved c.begin.new.shelf) (g.F.Shelf.moved c.follow.new.shelf) (g.K.Sink.held c.args.sink.now)
     (g.K.Sink.held c.follow.new.sink)
-    c.in-Ok.watching c.follow.result c.from.result c.from.ensures c.follow.ensures.followed
+    c.in-Ok.watching c.in-Ok.ensures.begins.setup c.follow.result c.from.result c.from.ensures
+    (c.follow.ensures.followed (begun_for (watch_by c.args.command.now) c.in-Ok.ensures.begins.setup) c.in-Ok.ensures.begins.ready)
 
 pub returns-in-Ok-clause-decided : goal.returns-in-Ok-clause-decided
 returns-in-Ok-clause-decided g c =
     followed_decided (watch_by c.args.command.now) (g.F.Shelf.rest c.begin.new.shelf) (g.F.Shelf.rest c.follow.new.shelf)
     (g.F.Shelf.moved c.begin.new.shelf) (g.F.Shelf.moved c.follow.new.shelf) (g.K.Sink.held c.args.sink.now)
     (g.K.Sink.held c.follow.new.sink)
-    c.in-Ok.watching c.follow.result c.from.result c.from.ensures c.follow.ensures.followed
+    c.in-Ok.watching c.in-Ok.ensures.begins.setup c.follow.result c.from.result c.from.ensures
+    (c.follow.ensures.followed (begun_for (watch_by c.args.command.now) c.in-Ok.ensures.begins.setup) c.in-Ok.ensures.begins.ready)
     (g.F.Shelf.files c.args.shelf.now) c.in-Ok.ensures.begins
 
 pub returns-in-Ok-clause-complete : goal.returns-in-Ok-clause-complete
@@ -42,8 +46,10 @@ returns-in-Ok-clause-complete g c =
     followed_complete (watch_by c.args.command.now) (g.F.Shelf.rest c.begin.new.shelf) (g.F.Shelf.rest c.follow.new.shelf)
     (g.F.Shelf.moved c.begin.new.shelf) (g.F.Shelf.moved c.follow.new.shelf) (g.K.Sink.held c.args.sink.now)
     (g.K.Sink.held c.follow.new.sink)
-    c.in-Ok.watching c.follow.result c.from.result c.from.ensures c.follow.ensures.followed
-    (g.F.Shelf.files c.args.shelf.now) c.in-Ok.ensures.begins c.follow.ensures.complete
+    c.in-Ok.watching c.in-Ok.ensures.begins.setup c.follow.result c.from.result c.from.ensures
+    (c.follow.ensures.followed (begun_for (watch_by c.args.command.now) c.in-Ok.ensures.begins.setup) c.in-Ok.ensures.begins.ready)
+    (g.F.Shelf.files c.args.shelf.now) c.in-Ok.ensures.begins refl
+    (c.follow.ensures.complete (begun_for (watch_by c.args.command.now) c.in-Ok.ensures.begins.setup) c.in-Ok.ensures.begins.ready)
 
 pub returns-in-Ok-clause-read_fault : goal.returns-in-Ok-clause-read_fault
 returns-in-Ok-clause-read_fault g c = λ is.

@@ -14,7 +14,7 @@ use Rattle.cf_long.proofs.growing.Growing.let_go.Goals as goal
 pub opened-requires-clause-plan : goal.opened-requires-clause-plan
 opened-requires-clause-plan g c =
     let i = c.self.inside in
-    let v : GrowingValue = record { small = i.small; shape = i.shape; filling = i.filling; kept = i.kept.items } in
+    let v : GrowingValue = record { small = i.small; shape = i.shape; filling = i.filling; kept = i.kept.rows } in
     let rows = c.requires.taken.0 in
     let at : HasTaken c.args.plan.now v rows = subst (λ (s : GrowingValue). HasTaken c.args.plan.now s rows) (sym c.self.view_is) c.requires.taken.1 in
     plan_smaller v.shape v.small c.args.plan.now at.smaller at.plan_is
@@ -22,7 +22,7 @@ opened-requires-clause-plan g c =
 pub let_go-requires-clause-filled : goal.let_go-requires-clause-filled
 let_go-requires-clause-filled g c κs within =
     let i = c.self.inside in
-    let v : GrowingValue = record { small = i.small; shape = i.shape; filling = i.filling; kept = i.kept.items } in
+    let v : GrowingValue = record { small = i.small; shape = i.shape; filling = i.filling; kept = i.kept.rows } in
     let rows = c.requires.taken.0 in
     let at : HasTaken c.args.plan.now v rows = subst (λ (s : GrowingValue). HasTaken c.args.plan.now s rows) (sym c.self.view_is) c.requires.taken.1 in
     let alone = c.in_ok-filling.ensures rows at.filled in (rows, alone.filled)
@@ -30,7 +30,7 @@ let_go-requires-clause-filled g c κs within =
 pub returns-in-Ok : goal.returns-in-Ok
 returns-in-Ok g c = λ rows is numbered.
     let i = c.self.inside in
-    let v : GrowingValue = record { small = i.small; shape = i.shape; filling = i.filling; kept = i.kept.items } in
+    let v : GrowingValue = record { small = i.small; shape = i.shape; filling = i.filling; kept = i.kept.rows } in
     let plan = c.args.plan.now in
     let f = c.in_ok-filling.filling in
     let found = c.in-Ok.found.items in
@@ -43,7 +43,7 @@ returns-in-Ok g c = λ rows is numbered.
 pub returns-then-not-is_small : goal.returns-then-not-is_small
 returns-then-not-is_small g c = λ rows is numbered.
     let i = c.self.inside in
-    let v : GrowingValue = record { small = i.small; shape = i.shape; filling = i.filling; kept = i.kept.items } in
+    let v : GrowingValue = record { small = i.small; shape = i.shape; filling = i.filling; kept = i.kept.rows } in
     let plan = c.args.plan.now in
     let at : HasTaken plan v rows = subst (λ (s : GrowingValue). HasTaken plan s rows) (sym c.self.view_is) is in
     let alone = c.in_ok-filling.ensures rows at.filled in
@@ -61,7 +61,7 @@ returns-then-not-is_small g c = λ rows is numbered.
 pub load_again-requires-clause-fit : goal.load_again-requires-clause-fit
 load_again-requires-clause-fit g c κs within =
     let i = c.self.inside in
-    let v : GrowingValue = record { small = i.small; shape = i.shape; filling = i.filling; kept = i.kept.items } in
+    let v : GrowingValue = record { small = i.small; shape = i.shape; filling = i.filling; kept = i.kept.rows } in
     let plan = c.args.plan.now in
     let rows = c.requires.taken.0 in
     let at : HasTaken plan v rows = subst (λ (s : GrowingValue). HasTaken plan s rows) (sym c.self.view_is) c.requires.taken.1 in
@@ -73,7 +73,7 @@ load_again-requires-clause-fit g c κs within =
 pub returns-in_err-found-in-Err-Nodes : goal.returns-in_err-found-in-Err-Nodes
 returns-in_err-found-in-Err-Nodes g c = λ rows is numbered.
     let i = c.self.inside in
-    let v : GrowingValue = record { small = i.small; shape = i.shape; filling = i.filling; kept = i.kept.items } in
+    let v : GrowingValue = record { small = i.small; shape = i.shape; filling = i.filling; kept = i.kept.rows } in
     let plan = c.args.plan.now in
     let at : HasTaken plan v rows = subst (λ (s : GrowingValue). HasTaken plan s rows) (sym c.self.view_is) is in
     let few : nat_lt c.args.self.small.nodes c.args.self.shape.nodes ≡ true = search rules in
@@ -90,7 +90,7 @@ returns-in_err-found-in-Err-Nodes g c = λ rows is numbered.
 pub returns : goal.returns
 returns g c = λ rows is numbered.
     let i = c.self.inside in
-    let v : GrowingValue = record { small = i.small; shape = i.shape; filling = i.filling; kept = i.kept.items } in
+    let v : GrowingValue = record { small = i.small; shape = i.shape; filling = i.filling; kept = i.kept.rows } in
     let plan = c.args.plan.now in
     let at : HasTaken plan v rows = subst (λ (s : GrowingValue). HasTaken plan s rows) (sym c.self.view_is) is in
     let few : nat_lt c.args.self.small.nodes c.args.self.shape.nodes ≡ true = search rules in
