@@ -26,7 +26,7 @@ fn show_offset(made: Result<u32, AppendRefusal>, offset: &mut u32) -> u32
 
 /// Appends the row of a captured frame by a writer, and says its offset.
 pub fn confluo_append(
-    alloc: Global,
+    _alloc: Global,
     writer: &mut WriterHandle,
     capture: &Capture,
     bytes: &[u8],
@@ -37,7 +37,7 @@ pub fn confluo_append(
     let Some(writer) = writer.get_mut() else {
         return Code::Nothing.number();
     };
-    show_offset(writer.append_frame(alloc, *capture, bytes), offset)
+    show_offset(writer.append_frame(*capture, bytes), offset)
 }
 
 /// Appends the row of these numbers by a writer, one for each attribute of the schema, and says its offset.
@@ -74,7 +74,6 @@ pub fn confluo_append_row(
 
 // Appends the rows of the frames in order, until one is refused. Answers how many, and why no more.
 fn append_batch(
-    alloc: Global,
     writer: &mut Writer,
     frames: &[Framed],
     bytes: &[u8],
@@ -85,13 +84,13 @@ fn append_batch(
     if offsets.len() < frames.len() {
         return (0, Code::Sizes);
     }
-    let (done, stop) = writer.append_frames(alloc, frames, bytes, offsets);
+    let (done, stop) = writer.append_frames(frames, bytes, offsets);
     (done, Code::of_stop(stop))
 }
 
 /// Appends the rows of the frames by a writer, in order, until one is refused. Says how many, and their offsets.
 pub fn confluo_append_many(
-    alloc: Global,
+    _alloc: Global,
     writer: &mut WriterHandle,
     frames: &[Framed],
     bytes: &[u8],
@@ -104,7 +103,7 @@ pub fn confluo_append_many(
         *done = 0;
         return Code::Nothing.number();
     };
-    let (count, code) = append_batch(alloc, writer, frames, bytes, offsets);
+    let (count, code) = append_batch(writer, frames, bytes, offsets);
     *done = count;
     code.number()
 }

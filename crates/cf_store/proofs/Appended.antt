@@ -40,13 +40,11 @@ pub record_by : (shared : Shared) (capture : Capture) (bytes : List ℕ) (m : Wr
     → AppendsFrame capture bytes m m (Err Unfit)
 record_by shared capture bytes m is of = subst (λ (s : Source). AppendsBy s capture bytes m m (Err Unfit)) (source_of shared m Records is of) (refl, refl)
 
-pub frame_appended : (capture : Capture) (bytes : List ℕ) (m n : Writer) (shared : Shared) (schema : PacketSchema) (made : FrameValue) (row : RowValue)
+pub frame_appended : (capture : Capture) (bytes : List ℕ) (m n : Writer) (shared : Shared) (schema : PacketSchema) (row : RowValue)
     (r : Result ℕ AppendRefusal) → shared ≡ arc_value m.of → shared.setup.source ≡ Packets schema → IsFrame schema capture bytes
-    → made ≡ frame_of capture bytes → row ≡ row_by schema made → AppendsRow row m n r → AppendsFrame capture bytes m n r
-frame_appended capture bytes m n shared schema made row r is of frame made_is row_is did =
-    packet_by shared schema capture bytes m n r is of
-    (of_row schema capture bytes m n r frame
-    (subst (λ (x : RowValue). AppendsRow x m n r) (row_is ∙ ap (λ (x : FrameValue). row_by schema x) made_is) did))
+    → row ≡ row_by schema (frame_of capture bytes) → AppendsRow row m n r → AppendsFrame capture bytes m n r
+frame_appended capture bytes m n shared schema row r is of frame row_is did =
+    packet_by shared schema capture bytes m n r is of (of_row schema capture bytes m n r frame (subst (λ (x : RowValue). AppendsRow x m n r) row_is did))
 
 -- the same of a frame of a batch
 pub part_by : (shared : Shared) (schema : PacketSchema) (buffer : List ℕ) (f : Framed) (m n : Writer) (r : Result ℕ AppendRefusal)
@@ -65,7 +63,7 @@ of_packet schema buffer f m n (Err Full) stands did = (stands, did)
 of_packet schema buffer f m n (Err Nodes) stands did = (stands, did)
 of_packet schema buffer f m n (Err Unfit) stands did = (stands, did)
 of_packet schema buffer f m n (Err Frame) stands did = (did.0, λ there. did.1)
-of_packet schema buffer f m n (Err Memory) stands did = (stands, did)
+of_packet schema buffer f m n (Err Memory) stands did = did
 
 pub framed_appended : (buffer bytes : List ℕ) (f : Framed) (m n : Writer) (shared : Shared) (schema : PacketSchema) (r : Result ℕ AppendRefusal)
     → shared ≡ arc_value m.of → shared.setup.source ≡ Packets schema → StandsIn buffer f → bytes ≡ bytes_in buffer f

@@ -67,11 +67,10 @@ AppendsRow row m n (Err Unfit) = (n ≡ m) × (Fits (arc_value m.of).log.shape.s
 AppendsRow row m n (Err Frame) = ⊥
 AppendsRow row m n (Err Memory) = ⊥
 
--- What appending the row that a frame has by the schema answers. Before that the frame may be refused, or there may be no memory for a copy
--- of it.
+-- What appending the row that a frame has by the schema answers. Before that the frame may be refused. No memory is needed.
 abbrev pub AppendsPacket : PacketSchema → Capture → List ℕ → Writer → Writer → Result ℕ AppendRefusal → Type 0
 AppendsPacket schema capture bytes m n (Err Frame) = (n ≡ m) × (IsFrame schema capture bytes → ⊥)
-AppendsPacket schema capture bytes m n (Err Memory) = (n ≡ m) × IsFrame schema capture bytes
+AppendsPacket schema capture bytes m n (Err Memory) = ⊥
 AppendsPacket schema capture bytes m n (Err Full) = IsFrame schema capture bytes × AppendsRow (row_by schema (frame_of capture bytes)) m n (Err Full)
 AppendsPacket schema capture bytes m n (Err Nodes) = IsFrame schema capture bytes × AppendsRow (row_by schema (frame_of capture bytes)) m n (Err Nodes)
 AppendsPacket schema capture bytes m n (Err Unfit) = IsFrame schema capture bytes × AppendsRow (row_by schema (frame_of capture bytes)) m n (Err Unfit)
@@ -99,7 +98,7 @@ AppendsPart schema buffer f m n (Err Frame) = (n ≡ m) × (StandsIn buffer f �
 AppendsPart schema buffer f m n (Err Full) = StandsIn buffer f × AppendsPacket schema f.capture (bytes_in buffer f) m n (Err Full)
 AppendsPart schema buffer f m n (Err Nodes) = StandsIn buffer f × AppendsPacket schema f.capture (bytes_in buffer f) m n (Err Nodes)
 AppendsPart schema buffer f m n (Err Unfit) = StandsIn buffer f × AppendsPacket schema f.capture (bytes_in buffer f) m n (Err Unfit)
-AppendsPart schema buffer f m n (Err Memory) = StandsIn buffer f × AppendsPacket schema f.capture (bytes_in buffer f) m n (Err Memory)
+AppendsPart schema buffer f m n (Err Memory) = ⊥
 AppendsPart schema buffer f m n (Ok o) = StandsIn buffer f × AppendsPacket schema f.capture (bytes_in buffer f) m n (Ok o)
 
 -- In a log of records no frame fits.

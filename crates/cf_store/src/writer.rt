@@ -1,5 +1,5 @@
 // Rows are appended by a writer of a log.
-ghost use Rattle.std.specs.Prelude.{◌≡◌, ◌<◌, ◌≤◌, ◌^◌, ◌↔◌, true, IfOk, MatchOption, OnOk, length, map};
+ghost use Rattle.std.specs.Prelude.{◌≡◌, ◌<◌, ◌≤◌, ◌^◌, ◌↔◌, true, IfOk, MatchOption, length, map};
 ghost use Rattle.std.specs.Arc.{arc_value};
 ghost use Rattle.cf_row.specs.declared.row.Value.TheVariants.{Num};
 ghost use Rattle.cf_row.specs.Row.{Fits, is_of_kind, values_fit};
@@ -13,9 +13,9 @@ use crate::held::Writer;
 use crate::refusals::AppendRefusal;
 use crate::shown::{Capture, Framed, Room, ShownValue};
 use crate::values::{are_values, row_of_values};
-use cf_headers::{packet_row, packet6_row};
+use cf_headers::{FrameInfo, packet_row_of_bytes, packet6_row_of_bytes};
 use cf_log::{AppendFault, Leaves, append_near};
-use cf_pcap::{Frame, LinkSet};
+use cf_pcap::LinkSet;
 use cf_row::{Attr, Kind, Memory, PacketSchema, Row, Value, fits};
 use cf_setup::{Setup, Source};
 use cf_table::Pass;
@@ -90,34 +90,6 @@ fn is_frame(schema: PacketSchema, capture: Capture, bytes: &[u8]) -> bool
         && is_read(schema, capture.link as u16)
 }
 
-// A frame of no bytes.
-fn blank_frame(alloc: Global) -> Frame {
-    Frame {
-        num: 0,
-        ts: 0,
-        caplen: 0,
-        len: 0,
-        link: 0,
-        bytes: Vec::new(alloc),
-    }
-}
-
-// These bytes take the place of what the frame had. Memory is taken only where they are more than it ever had.
-fn fill_frame(frame: &mut Frame, capture: Capture, bytes: &[u8]) -> Result<(), Memory>
-    requires few { length bytes.now < 2 ^ 32 }
-    requires link { capture.link < 2 ^ 16 }
-    ensures { OnOk result (frame.new ≡ frame_of capture bytes.now) }
-{
-    frame.bytes.clear();
-    frame.bytes.extend_from_slice(bytes)?;
-    frame.num = capture.number;
-    frame.ts = capture.ns;
-    frame.caplen = bytes.len() as u32;
-    frame.len = capture.length;
-    frame.link = capture.link as u16;
-    Ok(())
-}
-
 // Whether all bytes of the frame stand in the buffer.
 fn stands_in(buffer: &[u8], framed: Framed) -> bool
     ensures { (result ≡ true) ↔ StandsIn buffer.now framed }
@@ -137,13 +109,21 @@ fn bytes_in(buffer: &[u8], framed: Framed) -> &[u8]
     rest.split_at(framed.count as usize).0
 }
 
-// The row of a frame by the schema.
-fn row_of_frame(alloc: Global, schema: PacketSchema, frame: &Frame) -> Result<Row, Memory>
-    ensures { IfOk result (λ row. row ≡ row_by schema frame.now) }
+// The row of a frame by the schema, straight from its bytes.
+fn row_of_frame(schema: PacketSchema, capture: Capture, bytes: &[u8]) -> Row
+    requires { IsFrame schema capture bytes.now }
+    ensures { result ≡ row_by schema (frame_of capture bytes.now) }
 {
+    let info = FrameInfo {
+        num: capture.number,
+        ts: capture.ns,
+        caplen: bytes.len() as u32,
+        len: capture.length,
+        link: capture.link as u16,
+    };
     match schema {
-        PacketSchema::Packet => packet_row(alloc, frame),
-        PacketSchema::Packet6 => packet6_row(alloc, frame),
+        PacketSchema::Packet => packet_row_of_bytes(info, bytes),
+        PacketSchema::Packet6 => packet6_row_of_bytes(info, bytes),
     }
 }
 
@@ -187,13 +167,11 @@ impl Writer {
         self.append_by(row, &mut Leaves::new())
     }
 
-    // Appends the row of a captured frame, which takes the place of what the frame is.
+    // Appends the row of a captured frame.
     fn append_frame_by(
         &mut self,
-        alloc: Global,
         capture: Capture,
         bytes: &[u8],
-        frame: &mut Frame,
         leaves: &mut Leaves,
     ) -> Result<u32, AppendRefusal>
         requires near { Remembers (arc_value self.old.of).log.shape self.old.pass.view leaves.old }
@@ -206,35 +184,22 @@ impl Writer {
         if !is_frame(schema, capture, bytes) {
             return Err(AppendRefusal::Frame);
         }
-        let Ok(()) = fill_frame(frame, capture, bytes) else {
-            return Err(AppendRefusal::Memory);
-        };
-        let Ok(row) = row_of_frame(alloc, schema, frame) else {
-            return Err(AppendRefusal::Memory);
-        };
+        let row = row_of_frame(schema, capture, bytes);
         self.append_by(&row, leaves)
     }
 
-    /// Appends the row of a captured frame.
-    pub fn append_frame(
-        &mut self,
-        alloc: Global,
-        capture: Capture,
-        bytes: &[u8],
-    ) -> Result<u32, AppendRefusal>
+    /// Appends the row of a captured frame. It needs no memory.
+    pub fn append_frame(&mut self, capture: Capture, bytes: &[u8]) -> Result<u32, AppendRefusal>
         ensures { AppendsFrame capture bytes.now self.old self.new result }
     {
-        let mut frame = blank_frame(alloc);
-        self.append_frame_by(alloc, capture, bytes, &mut frame, &mut Leaves::new())
+        self.append_frame_by(capture, bytes, &mut Leaves::new())
     }
 
     // Appends the row of a frame of a batch.
     fn append_framed(
         &mut self,
-        alloc: Global,
         framed: Framed,
         buffer: &[u8],
-        frame: &mut Frame,
         leaves: &mut Leaves,
     ) -> Result<u32, AppendRefusal>
         requires near { Remembers (arc_value self.old.of).log.shape self.old.pass.view leaves.old }
@@ -248,14 +213,13 @@ impl Writer {
             return Err(AppendRefusal::Frame);
         }
         let bytes = bytes_in(buffer, framed);
-        self.append_frame_by(alloc, framed.capture, bytes, frame, leaves)
+        self.append_frame_by(framed.capture, bytes, leaves)
     }
 
     /// Appends the rows of the frames in order, until one is refused, and keeps leaves on the way. Says how many were appended, whose
-    /// offsets are the first of `offsets`, and why the next one was not, if there is one.
+    /// offsets are the first of `offsets`, and why the next one was not, if there is one. It needs no memory.
     pub fn append_frames(
         &mut self,
-        alloc: Global,
         frames: &[Framed],
         buffer: &[u8],
         offsets: &mut [u32],
@@ -263,10 +227,9 @@ impl Writer {
         requires { length frames.now ≤ length offsets.old }
         ensures { AppendsFrames buffer.now frames.now self.old self.new offsets.old offsets.new result.0 result.1 }
     {
-        let mut frame = blank_frame(alloc);
         let mut leaves = Leaves::new();
         for k in 0..frames.len() {
-            match self.append_framed(alloc, frames[k], buffer, &mut frame, &mut leaves) {
+            match self.append_framed(frames[k], buffer, &mut leaves) {
                 Ok(offset) => offsets[k] = offset,
                 Err(refusal) => return (k, Some(refusal)),
             }

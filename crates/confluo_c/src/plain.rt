@@ -14,12 +14,12 @@ use cf_handles::{copy_part, logs, message_of, readers};
 use cf_store::{Fault, Sizes};
 use std::alloc::Global;
 
-/// The version of these calls: 1,000,000 for the major number, 1,000 for the minor one, 1 for the patch.
+/// The version, which is that of the release: 1,000,000 for the major number, 1,000 for the minor one, 1 for the patch.
 #[unsafe(no_mangle)]
 pub extern "C" fn confluo_version() -> u32
-    ensures { result ≡ 5000 }
+    ensures { result ≡ 22000 }
 {
-    5_000
+    22_000
 }
 
 /// Copies the text of the code of that number, from that byte on, as far as there is room. Answers how many bytes.

@@ -14,5 +14,5 @@ returns-then-not-is_frame-clause-appended c =
 pub returns-clause-appended : goal.returns-clause-appended
 returns-clause-appended c =
     frame_appended c.args.capture c.args.bytes.now c.args.self.now c.append_by.new.self c.deref.result.now c.in-Some.schema
-    c.fill_frame.new.frame c.in-Ok-row_of_frame.row c.append_by.result c.deref.ensures c.in-Some.ensures (c.is_frame.ensures.0 c.if-not-is_frame.false)
-    c.in-Ok.ensures c.in-Ok-row_of_frame.ensures c.append_by.ensures.appended
+    c.row_of_frame-row.result c.append_by.result c.deref.ensures c.in-Some.ensures (c.is_frame.ensures.0 c.if-not-is_frame.false)
+    c.row_of_frame-row.ensures c.append_by.ensures.appended
