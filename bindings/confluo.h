@@ -8,7 +8,7 @@
 **   A reader asks the questions of the setup, numbered from 0 in the order of their lines. Take as many readers as you like.
 **   Writers and readers of one log run at the same time in different threads. None takes a lock.
 **   Each record has an offset, 0, 1, 2 and so on. A reader sees all records below the tail, which only rises. A finished record may wait
-**   behind an earlier one whose writer has not finished it.
+**   for an earlier one whose writer has not finished it.
 **   An answer is exactly the question's meaning on the records below the tail that it was asked at (confluo_head.tail). It is as if one
 **   thread had appended these records and then asked.
 **   All questions of a report can have one tail: look at it once (confluo_tail), and ask of what was seen (confluo_ask_seen). A reader
@@ -92,15 +92,12 @@
 #define CONFLUO_NEEDS(...) __attribute__((nonnull(__VA_ARGS__)))
 #define CONFLUO_CALL(name) __asm__("confluo_" #name ".inline")
 
-/* The version of the library's own calls: 1,000,000 for the major number, 1,000 for the minor one, 1 for the patch. A greater minor number
-** adds calls or codes, and a patch mends what was not as this text says. All else that a program was built with stays while the soname
-** (libconfluo.so.0) is the same; if it changes, also below 1.0, the soname's number is raised. abi.txt, beside this file in the sources,
-** lists what C sees, and a test compares. The library is for Linux on x86-64. */
-#define CONFLUO_VERSION 5000
-
-/* The version of this text, counted in the same way: that of the release it comes with. A later one may ask for changes in the source of a
-** program, and CHANGELOG.md names them; what was built with an earlier one goes on while the soname is the same. */
-#define CONFLUO_HEADER_VERSION 21000
+/* The version of this text, of the library and of its bindings, which is that of the release: 1,000,000 for the major number, 1,000 for the
+** minor one, 1 for the patch. What a program was built with stays while the soname (libconfluo.so.0) is the same: a later release only adds
+** calls and codes, and mends what was not as this text says. If anything else changes, also below 1.0, the soname's number is raised. abi.txt,
+** next to this file in the sources, lists what C sees, and a test compares. A later text may ask for changes in the source of a program;
+** CHANGELOG.md names them. The library is for Linux on x86-64. */
+#define CONFLUO_VERSION 22000
 
 /* A log, a writer and a reader. */
 typedef struct confluo_log confluo_log;
@@ -141,7 +138,7 @@ typedef struct confluo_sizes {
 ** confluo_fault_rule puts in words. */
 typedef struct confluo_fault { uint32_t line, code; } confluo_fault;
 
-/* What is said of a captured frame beside its bytes. */
+/* What a captured frame has besides its bytes. */
 typedef struct confluo_capture {
     uint64_t ns;       /* when it was captured, in nanoseconds since the epoch */
     uint32_t number;   /* a number of yours, which the record keeps; it need not ascend */
@@ -162,7 +159,7 @@ typedef struct confluo_value {
     uint64_t number;   /* the number; 0 of a string */
     uint32_t kind;     /* CONFLUO_NUMBER or CONFLUO_BYTES */
     uint32_t length;   /* how many bytes the string has; 0 of a number */
-    uint8_t bytes[16]; /* its bytes, and 0 behind them; all 0 of a number */
+    uint8_t bytes[16]; /* its bytes, then zeros; all 0 of a number */
 } confluo_value;
 
 typedef enum confluo_value_kind { CONFLUO_NUMBER = 0, CONFLUO_BYTES = 1 } confluo_value_kind;
@@ -251,7 +248,7 @@ static inline const char *confluo_fault_rule(uint32_t code) {
                                         "the first word begins a statement; the schema comes first and once, `width` at most once",
                                         "a statement has its words, its fixed words are spelled as shown, and a new name is a name",
                                         "the list of `schema records` is NAME:KIND with commas between, at most 24, and has `ts:u64`",
-                                        "a new name is new, and a question is `live` once",
+                                        "no name is given twice, and a question is `live` once",
                                         "a name stands for an attribute, or for a thing of that kind on a line above",
                                         "a number or value has its form and range",
                                         "an index, a tally and `by` are over numbers; measured are numbers below 2^32",
@@ -316,18 +313,17 @@ static inline void confluo_free_writer(confluo_writer *writer) CONFLUO_CALL(free
 static inline void confluo_free_reader(confluo_reader *reader) CONFLUO_CALL(free_reader);
 
 /* Appends the record of a captured frame, and says its offset. `bytes` are the captured bytes of the frame; they are read within the call,
-** and not kept. A frame whose headers cannot be read is a record all the same, with 0 in those fields. The schema `packet` reads the links
-** 1 (Ethernet) and 113 (LINUX_SLL); `packet6` also 276 (LINUX_SLL2), 101 (RAW), 228 (IPV4), 229 (IPV6), 0 (NULL) and 108 (LOOP).
+** and neither copied nor kept. The call needs no memory. A frame whose headers cannot be read is a record all the same, with 0 in those
+** fields. The schema `packet` reads the links 1 (Ethernet) and 113 (LINUX_SLL); `packet6` also 276 (LINUX_SLL2), 101 (RAW), 228 (IPV4), 229 (IPV6), 0 (NULL) and 108 (LOOP).
 ** The thread that has `writer`.
 **
 **   CONFLUO_NOTHING    `writer` leads to nothing
 **   CONFLUO_UNFIT      the schema of the log is not that of packets, whatever its attributes are
 **   CONFLUO_FRAME      bytes_len is 2^32 or more, the schema does not read capture->link, or capture->reserved is not 0
-**   CONFLUO_MEMORY     there is no memory for a copy of the frame
 **   CONFLUO_NODES      the writer has too few nodes for this row. It used those that it had on the way, so it has none left: from now on it
 **                      appends the rows that need no new node, since it or another writer has met their keys
-**   CONFLUO_FULL       the log is full, now and for good. A writer that was told so is told so of each row that fits. One that was not may
-**                      be told CONFLUO_NODES by a full log: the tail of a full log is its capacity, once each record is finished */
+**   CONFLUO_FULL       the log is full, now and for good. A writer that had this answer has it for each row that fits. Another may have
+**                      CONFLUO_NODES from a full log: the tail of a full log is its capacity, once each record is finished */
 static inline CONFLUO_CHECKED CONFLUO_NEEDS(2) uint32_t
 confluo_append(confluo_writer *writer, const confluo_capture *capture, const uint8_t *bytes, size_t bytes_len,
                uint32_t *offset) CONFLUO_CALL(append);
@@ -355,15 +351,14 @@ confluo_append_values(confluo_writer *writer, uint32_t number, const uint64_t *v
 /* Appends the records of many frames, each as confluo_append does, until one is refused. `bytes` is the buffer in which the frames' bytes
 ** stand; frames may share bytes. `done` is how many were appended, whatever the answer is, and 0 if none was; the first so many of
 ** `offsets` are their offsets, and the others are as they were; `offsets` may be NULL. The answer is CONFLUO_OK if all were appended, and
-** else why the next one was not: you may go on with that one. One copy of the longest frame is kept while the call runs; under `packet` no
-** other memory is taken. A writer that appends in such calls finds its way faster, the more so where a frame's keys are near those of the
-** frame before. The thread that has `writer`.
+** else why the next one was not: you may go on with that one. A writer that appends in such calls finds its way faster, the more so where a
+** frame's keys are near those of the frame before. The thread that has `writer`.
 **
 **   CONFLUO_NOTHING    `writer` leads to nothing
 **   CONFLUO_SIZES      `offsets` is not NULL, and offsets_len is less than frames_len
 **   CONFLUO_UNFIT      as for confluo_append
 **   CONFLUO_FRAME      as for confluo_append, or the frame's bytes do not all stand in the buffer
-**   CONFLUO_MEMORY, CONFLUO_NODES, CONFLUO_FULL    as for confluo_append */
+**   CONFLUO_NODES, CONFLUO_FULL    as for confluo_append */
 static inline CONFLUO_CHECKED CONFLUO_NEEDS(8) uint32_t
 confluo_append_many(confluo_writer *writer, const confluo_frame *frames, size_t frames_len, const uint8_t *bytes, size_t bytes_len,
                     uint32_t *offsets, size_t offsets_len, size_t *done) CONFLUO_CALL(append_many);
@@ -374,7 +369,7 @@ confluo_append_many(confluo_writer *writer, const confluo_frame *frames, size_t 
 **   CONFLUO_NOTHING    `writer` leads to nothing
 **   CONFLUO_MEMORY
 **   CONFLUO_UNFIT      there are too few or too many values, one is not of its attribute's kind, a number is too large, a string has another
-**                      length than its attribute's, or a byte behind it is not 0
+**                      length than its attribute's, or a byte after it is not 0
 **   CONFLUO_NODES, CONFLUO_FULL    as for confluo_append */
 static inline CONFLUO_CHECKED uint32_t
 confluo_append_row(confluo_writer *writer, uint32_t number, const confluo_value *values, size_t values_len,
@@ -395,14 +390,14 @@ static inline CONFLUO_CHECKED CONFLUO_NEEDS(3) uint32_t
 confluo_ask(confluo_reader *reader, uint32_t question, confluo_head *head) CONFLUO_CALL(ask);
 
 /* Asks the question that a line of the setup's language says, such as "ask late find sources 10.0.0.1 10.0.0.1", without an end of line.
-** It is read behind the text of the log's setup, whose names it may use, and its own name must be new; so a setup that has 32 questions
+** It is read as one more line of the log's setup, whose names it may use, and its own name must be new; so a setup that has 32 questions
 ** has no room for it. The setup and the numbers of its questions stay as they are. All else is as for confluo_ask.
 ** Each call reads the setup's text again.
 **
 **   CONFLUO_NOTHING      `reader` leads to nothing
 **   CONFLUO_NO_QUESTION  the line is more than one line, says nothing, or states something else
 **   CONFLUO_SETUP        the line is faulty; `fault` says what is wrong with it: of line 1, which is this one, or of line 0 if there is no
-**                        room behind the setup's text, of 65,536 bytes in all
+**                        room after the setup's text, with 65,536 bytes in all
 **   CONFLUO_MEMORY */
 static inline CONFLUO_CHECKED CONFLUO_NEEDS(4) uint32_t
 confluo_ask_text(confluo_reader *reader, const char *line, size_t line_len, confluo_head *head, confluo_fault *fault) CONFLUO_CALL(ask_text);
@@ -413,10 +408,10 @@ confluo_ask_text(confluo_reader *reader, const char *line, size_t line_len, conf
 static inline CONFLUO_CHECKED CONFLUO_NEEDS(3) uint32_t
 confluo_ask_seen(confluo_reader *reader, uint32_t question, confluo_head *head) CONFLUO_CALL(ask_seen);
 
-/* Tells the groups of an aggregate or a tally on the records that the reader has seen, as for confluo_ask_seen: for each bucket of the
+/* Gives the groups of an aggregate or a tally on the records that the reader has seen, as for confluo_ask_seen: for each bucket of the
 ** aggregate, or each key of the tally, that a record has which it selects, what it measures. These are the words of an answer of kind
 ** CONFLUO_GROUPS, which the reader keeps. Groups of several logs can be merged; marks and tops cannot. Groups of an aggregate by a key are
-** told by a question of the kind groups, and cannot be merged. The thread that has `reader`.
+** the answer to a question of the kind groups, and cannot be merged. The thread that has `reader`.
 **
 **   CONFLUO_NOTHING    `reader` leads to nothing
 **   CONFLUO_NO_LANE    the setup has no lane of that number, or it is an index, a filter or an aggregate by a key
@@ -424,7 +419,7 @@ confluo_ask_seen(confluo_reader *reader, uint32_t question, confluo_head *head) 
 static inline CONFLUO_CHECKED CONFLUO_NEEDS(3) uint32_t
 confluo_groups(confluo_reader *reader, uint32_t lane, confluo_head *head) CONFLUO_CALL(groups);
 
-/* Merges two lists of groups, as confluo_groups and this call tell them: those of one key become one, and they ascend by key, in whatever
+/* Merges two lists of groups, as confluo_groups and this call give them: those of one key become one, and they ascend by key, in whatever
 ** order they stood. The merged list goes to `out`, in as many words as `count` says; one_len + other_len words are always room enough. Of
 ** groups of an aggregate, or of a tally, of several logs with one setup, this makes the groups of all their records. Any thread, at any
 ** time.
@@ -452,7 +447,7 @@ confluo_row(confluo_reader *reader, uint32_t offset, uint32_t *number, confluo_v
 ** answer yet, if `from` is past the last word, and if `reader` is NULL. The thread that has `reader`. */
 static inline size_t confluo_words(confluo_reader *reader, size_t from, uint64_t *out, size_t out_len) CONFLUO_CALL(words);
 
-/* Copies the report of the records that the reader has seen to `text`, as far as there is room, with a byte 0 behind it if there is room
+/* Copies the report of the records that the reader has seen to `text`, as far as there is room, with a byte 0 after it if there is room
 ** for that too, and says in `count` how many bytes it has. It is the text that `confluo run` prints of these records: how many they are,
 ** what each question and trigger of the setup means on them (records are shown by the numbers that they were appended with), and the
 ** order in which the writers appended them. The answers and that order are one legal history of a list that one thread appends to and
@@ -464,7 +459,7 @@ static inline size_t confluo_words(confluo_reader *reader, size_t from, uint64_t
 static inline CONFLUO_CHECKED CONFLUO_NEEDS(4) uint32_t
 confluo_report(confluo_reader *reader, char *text, size_t text_len, size_t *count) CONFLUO_CALL(report);
 
-/* The same report in memory from malloc, which is yours to free, with a byte 0 behind it; `count` may be NULL. Codes as for confluo_report. */
+/* The same report in memory from malloc, which is yours to free, with a byte 0 after it; `count` may be NULL. Codes as for confluo_report. */
 static inline CONFLUO_CHECKED CONFLUO_NEEDS(2) uint32_t confluo_make_report(confluo_reader *reader, char **text, size_t *count);
 
 /* Says how many records are below the tail now. The thread that has `reader`.
@@ -480,7 +475,7 @@ static inline CONFLUO_NEEDS(2) uint32_t confluo_tail(confluo_reader *reader, uin
 static inline CONFLUO_NEEDS(4) uint32_t confluo_wait(confluo_reader *reader, uint32_t after, uint64_t nanoseconds, uint32_t *tail);
 
 /* Copies the name of what the setup of the log has of that sort at that number (CONFLUO_ATTRIBUTES and so on), as far as there is room, with
-** a byte 0 behind it if there is room for that too, and says in `count` how many bytes the name has: at most 32, all ASCII. The thread
+** a byte 0 after it if there is room for that too, and says in `count` how many bytes the name has: at most 32, all ASCII. The thread
 ** that has `log`.
 **
 **   CONFLUO_NOTHING    `log` leads to nothing
@@ -521,7 +516,7 @@ static inline CONFLUO_CHECKED CONFLUO_NEEDS(2) uint32_t confluo_reader_width(con
 static inline CONFLUO_CHECKED CONFLUO_NEEDS(3, 4) uint32_t
 confluo_reader_number(confluo_reader *reader, uint32_t sort, const char *name, uint32_t *number);
 
-/* The text of the setup, with a byte 0 behind it, and its length, which may be NULL. It stays as long as a handle of the log;
+/* The text of the setup, with a byte 0 after it, and its length, which may be NULL. It stays as long as a handle of the log;
 ** NULL if the handle is. The thread that has the handle. */
 static inline const char *confluo_log_setup(const confluo_log *log, size_t *length);
 static inline const char *confluo_reader_setup(const confluo_reader *reader, size_t *length);
@@ -543,7 +538,7 @@ confluo_question_str(confluo_log *log, const char *name, uint32_t *number);
 ** These are the symbols that the library exports, which the packages for Rust and Python call. A handle is 16 bytes of the caller's there:
 ** all 0 at first, and then as the last call left it; if two copies of it are used, that is a double free. What a handle led to is freed
 ** by the call that puts another thing there. A call owes memory for each pointer, NULL is allowed nowhere, and a batch needs room for all
-** offsets. The line of confluo_ask_text counts behind those of the setup. A handle goes to another thread by starting or joining a thread,
+** offsets. The line of confluo_ask_text counts on from those of the setup. A handle goes to another thread by starting or joining a thread,
 ** by a lock, or by a sequentially consistent atomic. All else is as above. confluo_message copies the text of a code to `out`, from byte
 ** `from` on, as far as there is room: it is ASCII and at most 64 bytes. */
 typedef struct confluo_raw_log { bool full_private; void *at_private; } confluo_raw_log;
@@ -600,7 +595,7 @@ int confluo_clock_private(int clock, int64_t *seconds_and_nanoseconds) __asm__("
 
 /* INLINE: what the calls for C and C++ do around those. */
 
-/* What the handles of a log share and own together; the text of its setup stands behind it. */
+/* What the handles of a log share and own together; the text of its setup follows. */
 typedef struct confluo_shared_private {
     size_t length_private, owners_private;
     uint32_t waiters_private, events_private, closed_private;
@@ -853,7 +848,7 @@ static inline uint32_t confluo_ask_seen(confluo_reader *reader, uint32_t questio
 static inline uint32_t confluo_line_private(confluo_raw_reader *reader, const char *line, size_t line_len, confluo_head *head,
                                             confluo_fault *fault) {
     const uint32_t code = confluo_raw_ask_text(reader, confluo_bytes_private(line, line_len), line_len, head, fault);
-    if (code == CONFLUO_SETUP && fault->line != 0) fault->line = 1; /* it was counted behind the setup's text */
+    if (code == CONFLUO_SETUP && fault->line != 0) fault->line = 1; /* it was counted on from the setup's lines */
     return code;
 }
 static inline uint32_t confluo_ask_text(confluo_reader *reader, const char *line, size_t line_len, confluo_head *head,

@@ -152,7 +152,7 @@ static void open_source(const char *filter) {
 static uint32_t number_of(const char *word) {
     char *end;
     const unsigned long number = strtoul(word, &end, 10);
-    if (*word < '0' || *word > '9' || *end || number > UINT32_MAX) errx(2, "%s is no number of 32 bits", word);
+    if (*word < '0' || *word > '9' || *end || number > UINT32_MAX) errx(2, "%s is not a number of 32 bits", word);
     return (uint32_t)number;
 }
 

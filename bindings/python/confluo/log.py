@@ -176,7 +176,7 @@ class Row(NamedTuple):
 
 
 def capture_of(frame: Frame) -> calls.Capture:
-    """What the library is told of a frame beside its bytes."""
+    """What a frame has besides its bytes, for the library."""
     return calls.Capture(
         checked(frame.ns, 64, "ns"),
         checked(frame.number, 32, "number"),
@@ -227,7 +227,7 @@ class Writer(Part):
     ) -> int:
         """Appends the record of a captured frame, any bytes-like object, and answers its offset. Error with UNFIT if the schema
         is not one of packets; with NODES if the writer has too few nodes for it: it has none left then, and appends the rows
-        that need no new one; with FULL for good, though a full log may answer NODES to a writer that was not told FULL yet.
+        that need no new one; with FULL for good, though a full log may answer NODES to a writer that had no FULL yet.
         """
         one = Frame(number, ns, data_of(frame), length, link)
         return self._append("append", capture_of(one), one.data, len(one.data))
@@ -282,8 +282,8 @@ class Reader(Part):
         return self._answer("ask", self.names.number("questions", question))
 
     def ask_text(self, line: Union[str, BytesLike]) -> Answer:
-        """The answer to the question that a line of the setup's language says, behind the text of the setup, whose 32 questions at most it
-        is one of; its name must be new. SetupError if the line is faulty, Error with NO_QUESTION if it is no question.
+        """The answer to the question that a line of the setup's language says, as one more line of the setup, which must have fewer than
+        32; its name must be new. SetupError if the line is faulty, Error with NO_QUESTION if it is no question.
         """
         text = text_of(line)
         return self._answer("ask_text", text, len(text), fault=calls.Fault())
@@ -294,7 +294,7 @@ class Reader(Part):
 
     def groups(self, lane: Union[str, int]) -> Answer:
         """All groups of an aggregate or a tally, given by its name or its number, on the records that the reader has seen. Those of an
-        aggregate by a key are told by a question."""
+        aggregate by a key are the answer to a question."""
         return self._answer("groups", self.names.number("lanes", lane))
 
     def row(self, offset: int) -> Row:
@@ -335,7 +335,7 @@ class Reader(Part):
         with self._lock:
             code = call(name)(self._handle, *words, head, *([] if fault is None else [fault]))
             if fault is not None and fault.line:
-                fault.line = 1  # the library counts the line behind the setup's
+                fault.line = 1  # the library counts the line on from the setup's
             wanted(code, fault)
             found = (LONG * max(1, head.count))()
             count = call("words")(self._handle, 0, found, head.count)

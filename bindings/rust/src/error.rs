@@ -9,7 +9,7 @@ const RULES: [&str; 14] = [
     "the first word begins a statement; the schema comes first and once, `width` at most once",
     "a statement has its words, its fixed words are spelled as shown, and a new name is a name",
     "the list of `schema records` is NAME:KIND with commas between, at most 24, and has `ts:u64`",
-    "a new name is new, and a question is `live` once",
+    "no name is given twice, and a question is `live` once",
     "a name stands for an attribute, or for a thing of that kind on a line above",
     "a number or value has its form and range",
     "an index, a tally and `by` are over numbers; measured are numbers below 2^32",
@@ -47,7 +47,7 @@ pub enum Code {
     NoLane,
     /// The reader has seen no record at that offset.
     NoRow,
-    /// The groups are none that a log tells, or of too many numbers.
+    /// The words are not groups of a log, or of too many numbers.
     NoGroups,
     /// A writer of the log is taken.
     Busy,
@@ -290,7 +290,7 @@ errors! {
         /// The setup has no question of that number.
         NoQuestion = NO_QUESTION,
     }
-    /// Why the groups of a lane were not told.
+    /// Why the groups of a lane were refused.
     GroupsError {
         /// Out of memory.
         Memory = MEMORY,
@@ -301,7 +301,7 @@ errors! {
     MergeError {
         /// Out of memory.
         Memory = MEMORY,
-        /// A quad is none that a log tells, or both lists have more than 2^20 numbers together.
+        /// A quad is not one of a log, or both lists have more than 2^20 numbers together.
         NoGroups = NO_GROUPS,
     }
     /// Why a record was not read back.
@@ -323,7 +323,7 @@ pub enum OpenError {
     Sizes,
     /// The setup is faulty.
     Setup(Fault),
-    /// The library is older than this crate, or of another major number: its version, as [`version`](crate::version) tells it.
+    /// The library is older than this crate, or of another major number: its version, as [`version`](crate::version) gives it.
     Version(u32),
     /// A code that this crate does not know of the call: the library is a later one.
     Unknown(u32),
@@ -388,7 +388,7 @@ pub enum LineError {
     Memory,
     /// The line is more than one line, says nothing, or states something else.
     NoQuestion,
-    /// The line is faulty: line 1 of the fault, or 0 if there is no room for it behind the setup, of 65,536 bytes in all.
+    /// The line is faulty: line 1 of the fault, or 0 if there is no room for it after the setup, with 65,536 bytes in all.
     Line(Fault),
     /// A code that this crate does not know of the call: the library is a later one.
     Unknown(u32),
@@ -400,7 +400,7 @@ impl LineError {
             raw::OK => Ok(()),
             raw::MEMORY => Err(LineError::Memory),
             raw::NO_QUESTION => Err(LineError::NoQuestion),
-            // The library counts the line behind those of the setup.
+            // The library counts the line on from those of the setup.
             raw::SETUP => Err(LineError::Line(Fault {
                 line: fault.line.min(1),
                 code: fault.code,
@@ -473,9 +473,9 @@ mod tests {
     #[test]
     fn versions_fit() {
         let cases = [
-            (4_999, false),
-            (5_000, true),
-            (9_007, true),
+            (21_999, false),
+            (22_000, true),
+            (29_007, true),
             (999_999, true),
             (1_000_000, false),
         ];
@@ -483,7 +483,7 @@ mod tests {
             assert_eq!(fits(version), wanted, "{version}");
         }
         let said = OpenError::Version(3_002).to_string();
-        assert!(said.starts_with("libconfluo has version 0.3.2, and this crate needs 0.5.0"));
+        assert!(said.starts_with("libconfluo has version 0.3.2, and this crate needs 0.22.0"));
     }
 
     #[test]

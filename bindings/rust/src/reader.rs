@@ -90,8 +90,8 @@ impl Reader {
         Ok(self.answer(&head))
     }
 
-    /// Asks the question that a line of the setup's language says, behind the text of the setup, on all records below the tail. Its name
-    /// must be new, and the setup has fewer than 32 questions.
+    /// Asks the question that a line of the setup's language says, as one more line of the setup, on all records below the tail. Its name
+    /// must be new, and the setup must have fewer than 32 questions.
     ///
     /// # Errors
     ///
@@ -158,7 +158,7 @@ impl Reader {
     /// # Errors
     ///
     /// [`GroupsError::NoLane`] if the setup has none of that number, or it is an index, a filter or an aggregate by a key, whose groups a
-    /// question tells; [`GroupsError::Memory`].
+    /// question gives; [`GroupsError::Memory`].
     pub fn groups(&mut self, lane: u32) -> Result<Groups, GroupsError> {
         let mut head = raw::Head::default();
         // SAFETY: the memory is ours.

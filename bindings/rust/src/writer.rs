@@ -7,7 +7,7 @@ use crate::shared::Shared;
 use std::ops::Range;
 use std::sync::Arc;
 
-/// What is said of a captured frame beside its bytes.
+/// What a captured frame has besides its bytes.
 #[derive(Clone, Copy, Debug, PartialEq, Eq, Hash)]
 pub struct Capture {
     /// When it was captured, in nanoseconds since the epoch.
@@ -187,7 +187,7 @@ impl Writer {
     }
 
     /// Appends the frames of a batch from that one on, until one is refused. If frame `from + offsets.len()` is refused, you may go on with
-    /// it, or behind it, here or in another log. If the batch has fewer than `from` frames, that is [`AppendError::Sizes`].
+    /// it, or after it, here or in another log. If the batch has fewer than `from` frames, that is [`AppendError::Sizes`].
     ///
     /// ```
     /// use confluo::{Appended, AppendError, Batch, Capture, Log, Sizes};
