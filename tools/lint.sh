@@ -11,9 +11,11 @@ python="confluo_report tests confluo-report deb ../bindings/python ../bindings/t
 if command -v ruff > /dev/null; then
     # shellcheck disable=SC2086
     ruff check --line-length 140 $python ./*.py || status=1
+    ruff check --ignore E402,E501 ../bench ../examples || status=1
 elif command -v flake8 > /dev/null; then
     # shellcheck disable=SC2086
     flake8 --max-line-length 140 --extend-ignore E203,W503 $python ./*.py || status=1
+    flake8 --extend-ignore E203,W503,E402,E501 ../bench ../examples || status=1
 else
     lacks "ruff or flake8" flake8
 fi
@@ -25,7 +27,8 @@ else
     lacks black black
 fi
 if command -v shellcheck > /dev/null; then
-    shellcheck ./*.sh deb/*.sh systemd/*.sh deb/*.p*inst deb/*.p*rm ../bench/*.sh ../bindings/tests/*.sh || status=1
+    shellcheck ./*.sh deb/*.sh systemd/*.sh deb/*.p*inst deb/*.p*rm ../bench/*.sh ../bindings/tests/*.sh \
+        ../examples/*/*.sh ../.ci/run || status=1
 else
     lacks shellcheck shellcheck
 fi

@@ -46,8 +46,9 @@ class Crate:
     proofs: int = 0
 
     def seconds(self):
-        """About how long its proof takes with one job: the program's libraries took 95 minutes in all. A run corrects the guess."""
-        return 5 + 0.17 * self.code + 0.017 * self.proofs
+        """About how long its proof takes with one job: so that the program's libraries take 14 minutes on four processors, as they did
+        on one machine. A run corrects the guess."""
+        return 2.5 + 0.08 * self.code + 0.008 * self.proofs
 
     def bytes(self, jobs):
         """About how much memory its proof takes at most."""

@@ -17,7 +17,7 @@ complete -c confluo -n $sized -l nodes -x -a "1024 8192 65536" -d "Tree nodes of
 complete -c confluo -n $loading -l writers -x -a "1 2 4 8 15" -d "Threads that load"
 complete -c confluo -n "__fish_seen_subcommand_from run synth watch" -l segments -x -a "1 2 4 16" -d "Segments of the log"
 complete -c confluo -n "__fish_seen_subcommand_from run" -l long -d "Captures of any length, end to end"
-complete -c confluo -n "__fish_seen_subcommand_from run" -l live -x -d "Rounds beside a batch, 0 to 64"
+complete -c confluo -n "__fish_seen_subcommand_from run" -l live -x -d "Rounds in each batch, 0 to 64"
 complete -c confluo -n "__fish_seen_subcommand_from run dump snapshot watch" -l truncated -d "Up to the last whole packet"
 complete -c confluo -n "__fish_seen_subcommand_from dump" -l schema -x -a "packet packet6" -d "The attributes that are printed"
 complete -c confluo -n "__fish_seen_subcommand_from synth" -l seed -x -d "The seed"

@@ -108,9 +108,9 @@ def job_of(
                 f"`{it}` is neither a file nor a question; questions begin with top, list, find, count, .."
             )
     if not texts:
-        raise Complaint("there is no question, as 'top src by bytes' or 'list dport==53'")
+        raise Complaint("no question is given, like 'top src by bytes' or 'list dport==53'")
     if needs_capture and not captures:
-        raise Complaint("there is no capture to ask about")
+        raise Complaint("no capture is given")
     if captures.count("-") > 1:
         raise Complaint("standard input is given twice")
     if as_one and schema.startswith("records"):

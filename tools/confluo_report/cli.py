@@ -21,6 +21,7 @@ from .details import Details, details_of
 from .errors import Complaint
 from .explain import Case, explain, read_bytes
 from .explain_capture import REASONS
+from .flows import MOST_MARKED
 from .incoming import Incoming
 from .exports import csv_text, json_text
 from .matching import must_match
@@ -116,9 +117,7 @@ def _show(words: Words) -> int:
     if words.capture and isinstance(read, Report):
         cut = read.truncated
         details = details_of(asks_of(read), read.records, setup, words.capture, words.most, cut)
-    flows = (
-        flows_of(read, setup, words.capture, words.most) if words.capture and isinstance(read, Report) else {}
-    )
+    flows = _flows(words, read, setup, words.most)
     viewer = Viewer(setup, details.lines, style, words.most, addresses, flows)
     if isinstance(read, Merged):
         lines = merged_shown(viewer, read)
@@ -142,7 +141,7 @@ def _explain(words: Words) -> int:
     if refusal is None and text and words.status != 5 and not (case.is_watch and words.status in (4, 8)):
         parse(text, _shown(words.report or "-"))
         raise Complaint(
-            f"{_shown(words.report or '-')} is a report and no refusal: `confluo-report show` shows it"
+            f"{_shown(words.report or '-')} is a report, not a refusal: `confluo-report show` shows it"
         )
     _print(explain(refusal, words.status, case))
     return 0
@@ -159,16 +158,26 @@ def _addresses(words: Words, read: Report | Snapshot | Merged, setup: Setup | No
     return addresses_of(read, setup, words.capture)
 
 
+def _flows(
+    words: Words, read: Report | Snapshot | Merged, setup: Setup | None, most: int
+) -> Mapping[int, str]:
+    """With the capture, conversations by their endpoints, of groups the first `most`."""
+    if not words.capture or not isinstance(read, Report):
+        return {}
+    return flows_of(read, setup, words.capture, most)
+
+
 def _json(words: Words) -> int:
     read, setup = _read(words)
-    sys.stdout.write(json_text(read, setup, words.indent, _addresses(words, read, setup)))
+    addresses = _addresses(words, read, setup)
+    sys.stdout.write(json_text(read, setup, words.indent, addresses, _flows(words, read, setup, MOST_MARKED)))
     return 0
 
 
 def _csv(words: Words) -> int:
     read, setup = _read(words)
-    addresses = _addresses(words, read, setup)
-    sys.stdout.write(csv_text(read, None if words.raw else setup, addresses))
+    addresses, flows = _addresses(words, read, setup), _flows(words, read, setup, MOST_MARKED)
+    sys.stdout.write(csv_text(read, None if words.raw else setup, addresses, flows))
     return 0
 
 
@@ -256,7 +265,7 @@ def _over(words: Words) -> int:
         raise Complaint("--jobs is at least 1")
     plan, found = plan_of(read_bytes(words.setup)), find(words.captures, setup.is_packet)
     if found.others:
-        print(f"confluo-report: {found.others} other files of the folders are no captures", file=sys.stderr)
+        print(f"confluo-report: {found.others} other files of the folders are not captures", file=sys.stderr)
     way = Way(words.jobs, words.scheduler, words.keep_going, words.truncated, words.split)
     try:
         with ended_by_signals():
@@ -344,7 +353,7 @@ def _add_report(parser: argparse.ArgumentParser, setup: str) -> None:
     )
 
 
-WHOLE = "the capture: then networks of IPv6 that are ranked have their whole addresses"
+WHOLE = "the capture: then networks of IPv6 that are ranked have their whole addresses, and conversations their endpoints"
 
 
 def _add_show(commands: argparse._SubParsersAction) -> Callable[[Words], int]:
@@ -385,7 +394,7 @@ def _add_json(commands: argparse._SubParsersAction) -> Callable[[Words], int]:
     parser = commands.add_parser(
         "json", help="a report as JSON", description="Writes all of a report as JSON."
     )
-    _add_report(parser, "the setup: then buckets have their times and keys their texts beside them")
+    _add_report(parser, "the setup: then buckets are shown with their times, and keys with their texts")
     parser.add_argument("--capture", metavar="FILE", help=WHOLE)
     parser.add_argument("--indent", type=_count, metavar="N", help="spaces of indentation; default: one line")
     return _json

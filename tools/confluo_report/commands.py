@@ -156,7 +156,7 @@ def _gather(form: Form, words: list[str], command: Command) -> None:
             raise WordsFault(f"--{name} takes no value", f"{form.example} --{name}")
         if not equals and name not in form.flags:
             if not rest or rest[0].startswith("-"):
-                raise WordsFault(f"--{name} has no value behind it", form.example)
+                raise WordsFault(f"--{name} has no value after it", form.example)
             value = rest.pop(0)
         command.options[name] = value
 
@@ -191,9 +191,7 @@ def _must_be_in_range(form: Form, command: Command) -> None:
             raise WordsFault(why, f"{form.example} --{name} {command.default(name) or low}")
     for name in command.options:
         if name not in (*form.options, *form.flags):
-            raise WordsFault(
-                f"`run --long` has no --{name}: it keeps what it finds, and no log", form.example
-            )
+            raise WordsFault(f"`run --long` has no --{name}: it keeps what it finds, not a log", form.example)
     capacity, segments = command.number("capacity"), command.number("segments")
     if command.name != "watch" and segments > 1 and capacity % 4096:
         why = f"with more than one segment --capacity is a multiple of 4096, and not {capacity}"
@@ -206,7 +204,7 @@ def _must_be_in_range(form: Form, command: Command) -> None:
 def parse_words(words: list[str]) -> Command:
     """The command that the words are, or a WordsFault."""
     if not words or words[0] not in FORMS:
-        first = f"`{words[0]}` is not a command" if words else "there are no words behind the program's name"
+        first = f"`{words[0]}` is not a command" if words else "there are no words after the program's name"
         raise WordsFault(f"{first}; the commands are {', '.join(FORMS)}", FORMS["run"].example)
     form, command = FORMS[words[0]], Command(words[0])
     _gather(form, words[1:], command)

@@ -68,9 +68,12 @@ MEANT = {
     "ip": "etype==0x0800",
     "ip6": "etype==0x86dd",
     "arp": "etype==0x0806",
-    "port": "(sport==53 or dport==53)",
-    "host": "(src==10.0.0.1 or dst==10.0.0.1)",
-    "net": "(src in 10.0.0.0/8 or dst in 10.0.0.0/8)",
+}
+# Such words that stand for either end: its attributes, and a value for an example.
+ENDS = {
+    "port": ("sport", "dport", "53"),
+    "host": ("src", "dst", "10.0.0.1"),
+    "net": ("src", "dst", "10.0.0.0/8"),
 }
 HALF = 2**64
 MOST_CONJUNCTIONS = 256
@@ -146,7 +149,7 @@ class _Reader:
 
     def fail(self, wanted: str, token: _Token) -> ConditionFault:
         there = f"`{token.text}`" if token.text else "the end"
-        return ConditionFault(token.place, f"{wanted} is wanted here, and not {there}")
+        return ConditionFault(token.place, f"expected {wanted} here, not {there}")
 
     def whole(self) -> Node:
         node = self.any()
@@ -193,11 +196,13 @@ class _Reader:
     def comparison(self) -> Node:
         name = self.take()
         if not re.fullmatch(r"[a-z][a-z0-9_]*", name.text) or name.text in (*AND, *OR, "in"):
-            raise self.fail("a comparison, as `dport==443`,", name)
+            raise self.fail("a comparison like `dport==443`", name)
         if name.text not in self.names:
-            meant = MEANT.get(name.text) if "etype" in self.names else None
-            why = f"there is no attribute `{name.text}`: write `{meant}`" if meant else ""
-            raise ConditionFault(name.place, why or unknown_attribute(self.schema, name.text))
+            meant = self.meant(name) if "etype" in self.names else ""
+            why = f"there is no attribute `{name.text}`: {meant}" if meant else ""
+            raise ConditionFault(
+                name.place, why or unknown_attribute(self.schema, name.text, "leave out `--schema packet`")
+            )
         operator = self.take()
         is_meant = operator.text not in NOT
         if not is_meant:
@@ -207,6 +212,26 @@ class _Reader:
         node = self.compared(name, operator, self.value(operator))
         return node if is_meant else opposite(node)
 
+    def meant(self, name: _Token) -> str:
+        """What to write for a word of tcpdump's filters, with the value that follows it, if one does."""
+        if name.text not in ENDS:
+            return f"write `{MEANT[name.text]}`" if name.text in MEANT else ""
+        one, other, example = ENDS[name.text]
+        sign = SAME.get(self.next().text, self.next().text)
+        if sign in ("==", "!=", "in"):
+            self.take()
+        value = self.next().text
+        how = "write"
+        if not re.match(r"[0-9A-Za-z:]", value) or value in (*AND, *OR, *NOT):
+            how, value = "write, for example,", example
+        is_range = "/" in value or ".." in value
+        if sign == "!=":
+            parts = f"{{}} not in {value}" if is_range else f"{{}}!={value}"
+        else:
+            parts = f"{{}} in {value}" if is_range else f"{{}}=={value}"
+        both = " and " if sign == "!=" else " or "
+        return f"{how} `({both.join(parts.format(it) for it in (one, other))})`"
+
     def value(self, operator: _Token) -> _Token:
         """What is behind the operator."""
         if operator.text not in (*OPERATORS, *SAME, "in"):
@@ -214,7 +239,7 @@ class _Reader:
         token = self.take()
         if not re.match(r"[0-9A-Za-z.:]", token.text) or token.text in (*AND, *OR, *NOT):
             raise self.fail(
-                "a range, as 60..99 or 10.0.0.0/8," if operator.text == "in" else "a value", token
+                "a range like 60..99 or 10.0.0.0/8" if operator.text == "in" else "a value", token
             )
         return token
 
@@ -268,9 +293,11 @@ class _Reader:
 
 def _stray(letter: str) -> str:
     if letter == "*":
-        return "`*` means every packet and stands alone"
+        return "`*` means every packet, and nothing may follow it"
     mask = (
-        ": there are no masks; of flags, list the values, as `flags==2 or flags==18`" if letter == "&" else ""
+        ": there are no masks; single flags are `is_syn==1`, `is_ack==1`, `is_rst==1` and `is_fin==1`"
+        if letter == "&"
+        else ""
     )
     return f"`{letter}` is not part of a condition{mask}"
 

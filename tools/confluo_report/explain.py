@@ -7,12 +7,12 @@ import pathlib
 import shlex
 from dataclasses import dataclass, field, replace
 
-from .captures import MAGICS, CaptureFault, Reading
+from .captures import MAGICS, CaptureFault, Reading, packer_of
 from .commands import Command, WordsFault, parse_words
 from .errors import Complaint
 from .explain_capture import explain_capture, explain_stream
 from .explain_setup import explain_setup
-from .nodes import MOST_RECORDS, Need, need_of, sizes_for
+from .nodes import MOST_NODES, MOST_RECORDS, Need, need_of, sizes_for
 from .program import is_utf8
 from .reports import Refusal
 from .rows import rows_of
@@ -79,6 +79,21 @@ class Case:
     def asking(self) -> str:
         """The front of a command that asks about the capture."""
         return "confluo-report ask" if self.is_ask else f"confluo run --setup {self.setup_name()}"
+
+    def program_of(self, name: str) -> str:
+        """The program that reads these captures: confluo unpacks none."""
+        is_packed = any(os.path.isfile(it) and packer_of(it) for it in self.captures)
+        return "confluo-report" if is_packed and name == "run" else "confluo"
+
+    def with_truncated(self) -> str:
+        """The command again, with --truncated; nothing where its words are not known."""
+        command = self.command()
+        if command is None or self.is_ask or "truncated" not in command.form.flags:
+            return ""
+        words = [self.program_of(command.name), command.name]
+        for name, value in command.options.items():
+            words += [f"--{name}"] if name in command.form.flags else [f"--{name}", value]
+        return shlex.join([*words, "--truncated", *command.captures])
 
 
 def read_bytes(path: str) -> bytes:
@@ -173,7 +188,7 @@ def explain_reading(case: Case) -> list[str]:
     lines = [f"The system could not open or read a file (status 4). {printed}"]
     for path in (it for it in (case.setup, *case.captures) if it):
         if os.path.isdir(path):
-            lines.append(f"{path} is a folder, and no file.")
+            lines.append(f"{path} is a folder, not a file.")
         elif os.path.exists(path) and not os.access(path, os.R_OK):
             lines.append(f"{path} may not be read by you: chmod a+r {shlex.quote(path)}")
     names = " ".join(shlex.quote(it) for it in (case.setup, *case.captures) if it) or "SETUP CAPTURE"
@@ -259,7 +274,7 @@ def _again(case: Case, options: str) -> list[str]:
     if command and command.name != "dump":
         name = command.name
     truncated = "--truncated " if case.was_cut else ""
-    return ["", f"    confluo {name} --setup {setup} {options} {truncated}{capture}"]
+    return ["", f"    {case.program_of(name)} {name} --setup {setup} {options} {truncated}{capture}"]
 
 
 def explain_full(refusal: Refusal, case: Case) -> list[str]:
@@ -276,7 +291,10 @@ def explain_full(refusal: Refusal, case: Case) -> list[str]:
             "Start it again: the window is lost, and what was written stays right.",
         ]
     lines = [f"The capture has more records than the log holds, {refusal.place} (status 6)."]
-    need = _need(case, 65536)
+    need, may_be_long = _need(case, 65536), _may_be_long(case)
+    long = ["`--long` takes any number of records:", *_again(case, "--long")]
+    if need is None and may_be_long:
+        return lines + long
     if need is None:
         return lines + [
             "A log of 16 segments holds 1048576 records. With --setup and --capture the options are computed:",
@@ -285,20 +303,21 @@ def explain_full(refusal: Refusal, case: Case) -> list[str]:
     if need.records <= refusal.place:
         raise Complaint(f"the capture is not the one that was refused: it has {need.records} records")
     lines.append(f"It has {need.records} records.")
+    if may_be_long and need.nodes[max(need.nodes)] <= MOST_NODES:
+        return lines + long
     if need.records > MOST_RECORDS:
-        if _may_be_long(case):
-            return lines + [
-                f"More than {MOST_RECORDS} fit in no log; this needs none:",
-                *_again(case, "--long"),
-            ]
         return lines + [f"More than {MOST_RECORDS} fit in no log: cut the file."]
     return lines + _sized(case, need)
 
 
 def _may_be_long(case: Case) -> bool:
-    """Whether `run --long` can ask the same."""
+    """Whether `run --long` can ask the same: not if live questions were asked, or may have been."""
     setup, command = case.parsed(), case.command()
-    return bool(setup and setup.is_packet and (command is None or command.name == "run"))
+    if setup is None or not setup.is_packet:
+        return False
+    if command is None:
+        return not setup.lives
+    return command.name == "run" and not command.number("live")
 
 
 def _sized(case: Case, need: Need) -> list[str]:
@@ -327,6 +346,8 @@ def explain_nodes(refusal: Refusal, case: Case) -> list[str]:
     ]
     command = case.command()
     if command and command.is_long:
+        if command.number("nodes") < MOST_NODES:
+            return lines + ["A segment may have more of them:", *_again(case, f"--long --nodes {MOST_NODES}")]
         capacity = max(command.number("capacity") // 4, 1)
         options = f"--long --nodes 65536 --capacity {capacity}"
         return lines + ["Smaller segments have fewer different keys:", *_again(case, options)]
@@ -378,14 +399,19 @@ def _explain_capture(refusal: Refusal, case: Case) -> list[str]:
     capture = next((it for it in case.captures if not _is_gone(it)), None)
     if case.is_watch and capture is None:
         return explain_stream(refusal)
-    return explain_capture(refusal, capture, case.parsed(), case.reading(), case.asking())
+    return _explained(refusal, capture, case)
+
+
+def _explained(refusal: Refusal, path: str | None, case: Case) -> list[str]:
+    again = case.with_truncated() if path else ""
+    return explain_capture(refusal, path, case.parsed(), case.reading(), case.asking(), again)
 
 
 def _explain_one_of(refusal: Refusal, case: Case) -> list[str]:
     """Of several captures the first with that fault is meant."""
     for path in case.captures:
         try:
-            return explain_capture(refusal, path, case.parsed(), case.reading(), case.asking())
+            return _explained(refusal, path, case)
         except Complaint:
             continue
-    raise Complaint("none of these captures is the one that was refused")
+    raise Complaint("the refused capture is not one of these")

@@ -25,7 +25,7 @@ REASONS = {
     13: "a record has another number of fields than the schema",
     14: "a field is not a value of its attribute",
     15: "the CSV file has 16 MiB or more",
-    21: "the byte order of a pcapng section cannot be told; most likely the file is damaged there",
+    21: "the byte order of a pcapng section is unknown; most likely the file is damaged there",
     22: "a pcapng section has another version than 1",
     23: "a packet is of an interface whose link type the schema does not read",
     24: "a packet states more than 262144 captured bytes; most likely the file is damaged there",
@@ -36,15 +36,17 @@ REASONS = {
     29: "a pcapng section describes more than 65536 interfaces, which are kept in memory",
 }
 IN_CSV = (11, 12, 13, 14, 15)
-WIDER = "`schema packet6` reads Linux cooked v2, raw IP and BSD loopback too. If that is none of these: "
+WIDER = "`schema packet6` reads Linux cooked v2, raw IP and BSD loopback too. If it is another: "
 
 
 @dataclass(frozen=True)
 class Files:
-    """What the commands that are offered name: the capture, quoted, and the front of a command that asks about it."""
+    """What the commands that are offered name: the capture, quoted, the front of a command that asks about it, and the refused command
+    with --truncated, if it is known."""
 
     path: str = "capture.pcap"
     asking: str = "confluo run --setup questions.setup"
+    with_truncated: str = ""
 
 
 def _keep(code: int, files: Files, count: int) -> tuple[str, list[str]]:
@@ -57,7 +59,7 @@ def _keep(code: int, files: Files, count: int) -> tuple[str, list[str]]:
         return (
             f"--truncated answers about the {count} packets before the fault; editcap keeps them:",
             [
-                f"{files.asking} --truncated {path}{behind}",
+                files.with_truncated or f"{files.asking} --truncated {path}{behind}",
                 f"editcap -r -F pcap {path} mended.pcap 1-{count}",
             ],
         )
@@ -160,6 +162,7 @@ def explain_capture(
     setup: Setup | None,
     reading: Reading | None = None,
     asking: str = Files.asking,
+    with_truncated: str = "",
 ) -> list[str]:
     """The refusal in words, with the capture where it is given."""
     reason = REASONS.get(refusal.code)
@@ -176,7 +179,7 @@ def explain_capture(
         advice, commands = _csv_mending(refusal.code, names, refusal.place, shown)
     else:
         schema = setup.source if setup else reading.schema if reading else "packet"
-        files = Files(shown, asking)
+        files = Files(shown, asking, with_truncated)
         advice, commands = mending(refusal.code, refusal.place, files, packer, schema)
     return lines + [advice, *["", *[f"    {it}" for it in commands]][: 1 + len(commands)]]
 

@@ -13,7 +13,7 @@ RULES = {
     2: "the first word begins a statement; the schema comes first and once, `width` at most once",
     3: "a statement has its words, its fixed words are spelled as shown, and a new name is a name",
     4: "the list of `schema records` is NAME:KIND with commas between, at most 24, and has `ts:u64`",
-    5: "a new name is new, and a question is `live` once",
+    5: "no name is given twice, and a question is `live` once",
     6: "a name stands for an attribute, or for a thing of that kind on a line above",
     7: "a number or value has its form and range",
     8: "an index, a tally and `by` are over numbers; measured are numbers below 2^32",

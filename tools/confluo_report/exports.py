@@ -5,7 +5,7 @@ from __future__ import annotations
 import csv
 import io
 import json
-from typing import Any, Iterator, Mapping, Sequence
+from typing import Any, Iterator, Mapping, Optional, Sequence
 
 from .addresses import Ranked
 from .merge import Joined, Merged
@@ -33,6 +33,8 @@ from .values import by_text, key_text, utc
 
 FORMAT = "confluo-report/1"
 Addresses = Mapping[str, Ranked]
+# Conversations whose endpoints are known.
+Flows = Optional[Mapping[int, str]]
 QUAD_PARTS = ("count", "sum", "least", "greatest")
 COLUMNS = ("part", "host", "name", "kind", "prefix", "place", "key", "value")
 
@@ -41,70 +43,78 @@ def _time(setup: Setup | None, bucket: int) -> dict[str, Any]:
     return {"time": utc(bucket * setup.nanoseconds)} if setup else {}
 
 
-def _by(setup: Setup | None, lane: Lane | None, by: int | None) -> dict[str, Any]:
+def _by(setup: Setup | None, lane: Lane | None, by: int | None, flows: Flows = None) -> dict[str, Any]:
     """The key beside a bucket, and how it is written."""
     if by is None:
         return {}
     is_known = setup is not None and lane is not None and lane.by is not None
-    return {"key": by, **({"text": by_text(setup, lane, by)} if is_known and setup and lane else {})}
+    return {"key": by, **({"text": by_text(setup, lane, by, flows)} if is_known and setup and lane else {})}
 
 
 def _lane_of(trigger: Trigger | None) -> Lane | None:
     return trigger.aggregate if trigger else None
 
 
-def _alert(it: Alert | RoundAlert, setup: Setup | None) -> dict[str, Any]:
+def _alert(it: Alert | RoundAlert, setup: Setup | None, flows: Flows = None) -> dict[str, Any]:
     """The members of an alert."""
     found = {"trigger": it.trigger, "bucket": it.bucket, "value": it.value}
     if isinstance(it, RoundAlert):
         found["prefix"] = it.prefix
     lane = _lane_of(setup.trigger(it.trigger) if setup else None)
-    return {**found, **_by(setup, lane, it.by), **_time(setup, it.bucket)}
+    return {**found, **_by(setup, lane, it.by, flows), **_time(setup, it.bucket)}
 
 
 def _pairs(
-    pairs: Sequence[Pair], name: str, setup: Setup | None, question: Question | None
+    pairs: Sequence[Pair], name: str, setup: Setup | None, question: Question | None, flows: Flows = None
 ) -> list[dict[str, Any]]:
     found: list[dict[str, Any]] = []
     lane = _lane_of(question.trigger if question else None)
     for it in pairs:
         more: dict[str, Any] = {}
         if name == "bucket":
-            more = {**_by(setup, lane, it.by), **_time(setup, it.key)}
+            more = {**_by(setup, lane, it.by, flows), **_time(setup, it.key)}
         if name == "key" and setup and question and question.lane and question.lane.key is not None:
-            more = {"text": key_text(setup, question.lane, it.key)}
+            more = {"text": key_text(setup, question.lane, it.key, flows)}
         found.append({name: it.key, "value": it.value, **more})
     return found
 
 
-def _groups(body: Groups, setup: Setup | None, question: Question | None) -> list[dict[str, Any]]:
+def _groups(
+    body: Groups, setup: Setup | None, question: Question | None, flows: Flows
+) -> list[dict[str, Any]]:
     lane = question.lane if question else None
     found = []
     for it in body.groups:
         more: dict[str, Any] = {}
         if setup and lane:
-            more = _time(setup, it.key) if lane.key is None else {"text": key_text(setup, lane, it.key)}
-        keys = {"key": it.key} if it.by is None else {"bucket": it.key, **_by(setup, lane, it.by)}
+            more = (
+                _time(setup, it.key) if lane.key is None else {"text": key_text(setup, lane, it.key, flows)}
+            )
+        keys = {"key": it.key} if it.by is None else {"bucket": it.key, **_by(setup, lane, it.by, flows)}
         found.append({**keys, **{part: getattr(it, part) for part in QUAD_PARTS}, **more})
     return found
 
 
-def body_object(body: Body, setup: Setup | None = None, question: Question | None = None) -> dict[str, Any]:
+def body_object(
+    body: Body, setup: Setup | None = None, question: Question | None = None, flows: Flows = None
+) -> dict[str, Any]:
     """The members of an answer."""
     if isinstance(body, Found):
         return {"kind": body.kind, "records": list(body.rows)}
     if isinstance(body, Quad):
         return {"kind": body.kind, **{part: getattr(body, part) for part in QUAD_PARTS}}
     if isinstance(body, Fired):
-        return {"kind": body.kind, "marks": _pairs(body.marks, "bucket", setup, question)}
+        return {"kind": body.kind, "marks": _pairs(body.marks, "bucket", setup, question, flows)}
     if isinstance(body, Groups):
-        return {"kind": body.kind, "groups": _groups(body, setup, question)}
-    return {"kind": body.kind, "keys": _pairs(body.keys, "key", setup, question)}
+        return {"kind": body.kind, "groups": _groups(body, setup, question, flows)}
+    return {"kind": body.kind, "keys": _pairs(body.keys, "key", setup, question, flows)}
 
 
-def _ask(ask: Ask, setup: Setup | None, addresses: Addresses | None = None) -> dict[str, Any]:
+def _ask(
+    ask: Ask, setup: Setup | None, addresses: Addresses | None = None, flows: Flows = None
+) -> dict[str, Any]:
     question = setup.question(ask.name) if setup else None
-    found = {"name": ask.name, **body_object(ask.body, setup, question)}
+    found = {"name": ask.name, **body_object(ask.body, setup, question, flows)}
     ranked = (addresses or {}).get(ask.name)
     if ranked:
         pairs = zip(ranked.texts or (), ranked.top.keys)
@@ -154,9 +164,12 @@ def _joined(joined: Joined, setup: Setup | None) -> dict[str, Any]:
 
 
 def report_object(
-    read: Report | Snapshot | Merged, setup: Setup | None = None, addresses: Addresses | None = None
+    read: Report | Snapshot | Merged,
+    setup: Setup | None = None,
+    addresses: Addresses | None = None,
+    flows: Flows = None,
 ) -> dict[str, Any]:
-    """The object that docs/report.schema.json describes; with a setup also times and addresses."""
+    """The object that docs/report.schema.json describes; with a setup also times and addresses, with flows endpoints."""
     if isinstance(read, Merged):
         return _merged_object(read, setup)
     if isinstance(read, Snapshot):
@@ -170,13 +183,13 @@ def report_object(
             for it in read.hosts
         ]
         return {"format": FORMAT, "kind": "snapshot", "cut": read.cut, "hosts": hosts}
-    alerts = [_alert(it, setup) for it in read.alerts]
+    alerts = [_alert(it, setup, flows) for it in read.alerts]
     order = None if read.order is None else [{"writer": it.writer, "count": it.count} for it in read.order]
     return {
         "format": FORMAT,
         "kind": "report",
         "records": read.records,
-        "asks": [_ask(it, setup, addresses) for it in read.asks],
+        "asks": [_ask(it, setup, addresses, flows) for it in read.asks],
         "alerts": alerts,
         "lives": [_live(it, setup) for it in read.lives],
         "order": order,
@@ -202,9 +215,10 @@ def json_text(
     setup: Setup | None = None,
     indent: int | None = None,
     addresses: Addresses | None = None,
+    flows: Flows = None,
 ) -> str:
     """The report as one JSON text."""
-    return json.dumps(report_object(read, setup, addresses), indent=indent) + "\n"
+    return json.dumps(report_object(read, setup, addresses, flows), indent=indent) + "\n"
 
 
 Cell = object
@@ -213,15 +227,15 @@ Cell = object
 class Table:
     """The rows of a report; with a setup, times and texts stand in place of buckets and keys.
 
-    A bucket with a key beside it stands in one cell with it, divided by a stroke, as in the report.
+    A bucket and its key are one cell, with a slash between, as in the report.
     """
 
-    def __init__(self, setup: Setup | None, addresses: Addresses | None = None) -> None:
-        self.setup, self.addresses = setup, addresses or {}
+    def __init__(self, setup: Setup | None, addresses: Addresses | None = None, flows: Flows = None) -> None:
+        self.setup, self.addresses, self.flows = setup, addresses or {}, flows
 
     def bucket(self, bucket: int, by: int | None = None, lane: Lane | None = None) -> Cell:
         found = utc(bucket * self.setup.nanoseconds) if self.setup else bucket
-        key = _by(self.setup, lane, by)
+        key = _by(self.setup, lane, by, self.flows)
         return f"{found}/{key.get('text', by)}" if key else found
 
     def alert(self, it: Alert | RoundAlert) -> Cell:
@@ -230,7 +244,7 @@ class Table:
     def key(self, name: Cell, key: int) -> Cell:
         question = self.setup.question(str(name)) if self.setup else None
         if self.setup and question and question.lane and question.lane.key is not None:
-            return key_text(self.setup, question.lane, key)
+            return key_text(self.setup, question.lane, key, self.flows)
         return key
 
     def group(self, name: Cell, key: int, by: int | None) -> Cell:
@@ -333,11 +347,14 @@ class Table:
 
 
 def csv_text(
-    read: Report | Snapshot | Merged, setup: Setup | None = None, addresses: Addresses | None = None
+    read: Report | Snapshot | Merged,
+    setup: Setup | None = None,
+    addresses: Addresses | None = None,
+    flows: Flows = None,
 ) -> str:
     """The report as one table; with a setup, buckets are times and keys texts."""
     out = io.StringIO()
     writer = csv.writer(out, lineterminator="\n")
     writer.writerow(COLUMNS)
-    writer.writerows(Table(setup, addresses).rows(read))
+    writer.writerows(Table(setup, addresses, flows).rows(read))
     return out.getvalue()

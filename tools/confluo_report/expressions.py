@@ -112,13 +112,21 @@ def values_of_kind(kind: str) -> str:
 
 
 HALVES = ("src6", "src6_low", "dst6", "dst6_low")
+# The others that only `schema packet6` has.
+MORE = tuple(
+    Attribute(*it.split(":"))
+    for it in "payload:u32 icmp_type:u8 icmp_code:u8 is_fin:u8 is_syn:u8 is_rst:u8 is_ack:u8 flow:u64".split()
+)
 
 
-def unknown_attribute(schema: Sequence[Attribute], name: str) -> str:
-    """That no attribute has the name, and what may have been meant."""
+def unknown_attribute(schema: Sequence[Attribute], name: str, remedy: str = "") -> str:
+    """That no attribute has the name, and what may have been meant. The remedy is for an attribute of `packet6`."""
     names = [it.name for it in schema]
-    if name in HALVES and Attribute("etype", "u16") in schema:
-        return f"`{name}` is an attribute of IPv6: `schema packet6` has it, and `schema packet` has not"
+    if name in (*HALVES, *(it.name for it in MORE)) and Attribute("etype", "u16") in schema:
+        why = f"`{name}` is an attribute that only `schema packet6` has"
+        if name in HALVES:
+            why = f"`{name}` is an attribute of IPv6, which only `schema packet6` has"
+        return f"{why}: {remedy}" if remedy else why
     near = difflib.get_close_matches(name, names, 1, 0.6)
     meant = f"; is `{near[0]}` meant?" if near else ""
     return f"no attribute is called `{name}`{meant}; there are {', '.join(names)}"
@@ -156,13 +164,13 @@ class _Reader:
         if self.text.startswith("*", self.at):
             self.pass_over("*")
             if self.at < len(self.text):
-                self.fail(SYNTAX, "`*` means every record and stands alone")
+                self.fail(SYNTAX, "`*` means every record, and nothing may follow it")
             return Expression(self.text.strip(" "), ((),))
         conjunctions = [[self.atom()]]
         while self.at < len(self.text):
             connective = self.text[self.at : self.at + 2]
             if connective not in ("&&", "||"):
-                self.fail(SYNTAX, f"`&&`, `||` or the end is wanted here, and not {self.here()}")
+                self.fail(SYNTAX, f"expected `&&`, `||` or the end here, not {self.here()}")
             self.pass_over(connective)
             if self.atoms == MOST_ATOMS:
                 self.fail(TOO_LONG, f"an expression has at most {MOST_ATOMS} comparisons")
@@ -182,7 +190,7 @@ class _Reader:
     def attribute(self) -> int:
         name, names = self.token(WORD), [it.name for it in self.schema]
         if not name:
-            why = f"the name of an attribute is wanted here, and not {self.here()}"
+            why = f"expected the name of an attribute here, not {self.here()}"
             self.fail(
                 SYNTAX, f"{why}; there are no parentheses and no `not`" if self.here()[1:2] in "(!" else why
             )
@@ -197,7 +205,7 @@ class _Reader:
     def operator(self, attribute: Attribute) -> str:
         operator = self.token(SIGNS) or self.token(WORD)
         if not operator:
-            self.fail(SYNTAX, f"`==` or another operator is wanted here, and not {self.here()}")
+            self.fail(SYNTAX, f"expected `==` or another operator here, not {self.here()}")
         if operator not in (*OPERATORS, "in", "not"):
             why = f"`{operator}` is not one of == != < <= > >= in"
             self.fail(BAD_OPERATOR, why)
@@ -212,14 +220,14 @@ class _Reader:
         operator = self.token(SIGNS) or self.token(WORD)
         if operator != "in":
             code = BAD_OPERATOR if operator else SYNTAX
-            self.fail(code, f"`in` is wanted behind `not`, and not {self.here()}")
+            self.fail(code, f"expected `in` after `not`, not {self.here()}")
         self.pass_over(operator)
         return "not in"
 
     def value(self, attribute: Attribute) -> tuple[Value, Value]:
         token = self.token(VALUE)
         if not is_form(token):
-            self.fail(SYNTAX, f"a value is wanted here, and not {self.here()}")
+            self.fail(SYNTAX, f"expected a value here, not {self.here()}")
         value = value_of(attribute.kind, token)
         if value is None:
             self.fail(VALUE_RANGE, _no_value(attribute, token))
@@ -236,7 +244,7 @@ class _Reader:
         elif slash and DOTTED.fullmatch(address) and DECIMAL.fullmatch(bits):
             ends = self.network(attribute, address, int(bits))
         else:
-            why = f"a range as 60..99 or 10.0.0.0/8 is wanted here, and not {self.here()}"
+            why = f"expected a range like 60..99 or 10.0.0.0/8 here, not {self.here()}"
             self.fail(SYNTAX, why)
             raise AssertionError
         self.pass_over(token)

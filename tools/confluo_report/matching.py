@@ -54,11 +54,11 @@ def _must_fit(asks: Sequence[Ask], setup: Setup, source: str) -> None:
 
 
 def _must_have_keys(by: int | None, lane: Lane, what: str, source: str) -> None:
-    """A Complaint where there is a key beside a bucket of an aggregate without keys, or none beside one of an aggregate by keys."""
+    """A Complaint where there is a key next to a bucket of an aggregate without keys, or none beside one of an aggregate by keys."""
     if (by is None) != (lane.by is None):
         has = "no key" if by is None else "a key"
         raise Complaint(
-            f"{source} is not a report of this setup: {what} has {has} beside a bucket of `{lane.name}`"
+            f"{source} is not a report of this setup: {what} has {has} next to a bucket of `{lane.name}`"
         )
 
 

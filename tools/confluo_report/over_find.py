@@ -54,7 +54,7 @@ def _named(word: str) -> list[str]:
         return [word]
     matching = sorted(glob.glob(word, recursive=True), key=natural)
     if not matching:
-        raise Complaint(f"{word}: there is no file of that name, and none that this pattern names")
+        raise Complaint(f"{word}: no file has that name or matches that pattern")
     return matching
 
 

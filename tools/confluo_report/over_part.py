@@ -162,7 +162,7 @@ def answer(running: Running, work: Work, piece: Piece) -> Ended:
     """How confluo ended over the capture, or the piece of it."""
     program = program_of(work.program)
     if program is None:
-        return None, "", "there is no program confluo, and CONFLUO=FILE names none"
+        return None, "", "there is no program confluo; CONFLUO=FILE names one"
     ended: Ended = None, "", "there are no options to try"
     try:
         with tempfile.TemporaryDirectory(prefix="confluo-report-") as folder:

@@ -305,7 +305,7 @@ def narrowed(query: Query, narrower: str) -> str:
 
 def _of_conversations(query: Query, schema: Sequence[Attribute]) -> Query:
     if tuple(schema) != PACKETS["packet6"]:
-        raise Complaint(f"`{query.text}`: conversations are known under `schema packet6` alone")
+        raise Complaint(f"`{query.text}`: only `schema packet6` has conversations")
     narrower = PAIRS[query.verb][0] if query.is_paired else "kind>=1"
     return replace(query, key="flow", expression=narrowed(query, narrower))
 
@@ -335,7 +335,7 @@ def beside(expression: str, narrower: str) -> str:
 def _of_two(query: Query, second: str, schema: Sequence[Attribute]) -> Query:
     """With both attributes, which are numbers."""
     if tuple(schema) != PACKETS["packet6"]:
-        raise Complaint(f"`{query.text}`: two attributes are counted together under `schema packet6` alone")
+        raise Complaint(f"`{query.text}`: two attributes are counted together only with `schema packet6`")
     if query.verb == "scans":
         return replace(query, key="src", second="dport", expression=narrowed(query, SYN))
     if query.verb == "under":
@@ -350,7 +350,7 @@ def _of_two(query: Query, second: str, schema: Sequence[Attribute]) -> Query:
         if it not in numbers:
             known = ", ".join(numbers)
             raise Complaint(
-                f"`{query.text}`: `{it}` is none of the numbers that are counted together: {known}"
+                f"`{query.text}`: `{it}` is not one of the numbers that are counted together: {known}"
             )
     if query.key == second:
         raise Complaint(f"`{query.text}`: it needs two attributes, and both are `{second}`")
@@ -380,7 +380,7 @@ def _keyed(query: Query, bits: str | None, schema: Sequence[Attribute]) -> Query
     is_packet6 = tuple(schema) == PACKETS["packet6"]
     is_six = is_packet6 and query.key in ("src6", "dst6")
     if bits and (not is_six or bits != "/64" or query.second):
-        raise Complaint(f"`{query.text}`: only src6/64 and dst6/64 are ranked by networks, and alone")
+        raise Complaint(f"`{query.text}`: only src6/64 and dst6/64 are ranked by network, and not in pairs")
     if query.second:
         return query
     is_of_both = is_packet6 and query.key in ("src", "dst")

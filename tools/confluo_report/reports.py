@@ -479,7 +479,7 @@ def _must_be_in_order(lines: _Lines, kind: str, pairs: tuple[Pair, ...]) -> None
 
 def _must_ascend(lines: _Lines, things: str, places: Sequence[Place]) -> None:
     if len(set(map(len, places))) > 1:
-        lines.fail("a key beside each bucket or beside none", back=1)
+        lines.fail("a key with every bucket or with none", back=1)
     if not all(map(operator.lt, places, itertools.islice(places, 1, None))):
         lines.fail(f"{things} in ascending order", back=1)
 
@@ -509,7 +509,7 @@ def _alerts(lines: _Lines) -> tuple[Alert, ...]:
         alert = Alert(name, bucket, int(value), by)
         last = alerts[-1] if alerts and alerts[-1].trigger == name else None
         if last and (last.by is None) != (by is None):
-            lines.fail("a key beside each bucket of a trigger or beside none", back=1)
+            lines.fail("a key with every bucket of a trigger or with none", back=1)
         if last and last.place >= alert.place or not last and name in names:
             lines.fail("the alerts of a trigger together, by ascending buckets", back=1)
         names.add(name)

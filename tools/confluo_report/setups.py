@@ -13,6 +13,7 @@ from typing import Callable, Iterator
 
 from .expressions import (
     HALVES,
+    MORE,
     OPERATORS,
     Attribute,
     Expression,
@@ -38,10 +39,6 @@ PACKET = tuple(
         "ts:u64 caplen:u32 len:u32 dmac:b6 smac:b6 etype:u16 kind:u8 tos:u8 iplen:u16 ttl:u8 "
         "proto:u8 src:u32 dst:u32 sport:u16 dport:u16 seq:u32 ack:u32 flags:u8 win:u16 vlan:u16"
     ).split()
-)
-MORE = tuple(
-    Attribute(*it.split(":"))
-    for it in "payload:u32 icmp_type:u8 icmp_code:u8 is_fin:u8 is_syn:u8 is_rst:u8 is_ack:u8 flow:u64".split()
 )
 PACKETS = {"packet": PACKET, "packet6": PACKET + tuple(Attribute(it, "u64") for it in HALVES) + MORE}
 
@@ -303,7 +300,7 @@ class _Statement:
         if place is not None and not self.setup.schema[place].is_number:
             word = self.word(number)
             why = (
-                f"`{word.text}` is bytes; an index, a tally and what is behind `by` are of numbers "
+                f"`{word.text}` is bytes; an index, a tally and `by` take numbers "
                 f"(`ask NAME list {word.text}==0x..` finds one)"
             )
             self.fault(8, word, why)

@@ -144,7 +144,7 @@ class Questions(unittest.TestCase):
             (("list dport~53",), "`~` is not part of a condition\n    list dport~53\n              ^"),
             (("--schema", "foo", "list *"), "--schema foo: `foo` is not packet, packet6 or records"),
             (("nosuchfile", "list *"), "neither a file nor a question"),
-            ((WEB,), "there is no question"),
+            ((WEB,), "no question is given"),
         ):
             ended = tool("ask", "--setup-only", *words)
             self.assertEqual((ended.status, ended.out), (2, ""))
@@ -278,7 +278,7 @@ class Answers(unittest.TestCase):
             self.assertIn("4 of 10 packets are IPv6", out)
             ended = tool("ask", "--schema", "packet", path, "count src6==1")
             self.assertIn(
-                "`schema packet6` has it, and `schema packet` has not\n    count src6==1\n          ^",
+                "which only `schema packet6` has: leave out `--schema packet`\n    count src6==1\n          ^",
                 ended.err,
             )
             many = [f"list dport=={it}" for it in range(32)]

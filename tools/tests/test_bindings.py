@@ -179,17 +179,15 @@ class StandIn(unittest.TestCase):
         return 1000000 * major + 1000 * minor + patch
 
     def test_all_have_one_version(self):
-        version = int(
-            re.search(r"#define CONFLUO_VERSION (\d+)", (BINDINGS / "confluo.h").read_text()).group(1)
-        )
-        shown = f"{version // 1000000}.{version // 1000 % 1000}.{version % 1000}"
+        shown = (ROOT / "VERSION").read_text().strip()
+        version = self.number_of_the_release()
         cases = [
             (PACKAGE / "pyproject.toml", f'version = "{shown}"'),
             (PACKAGE / "confluo" / "calls.py", f"VERSION = {version} "),
             (BINDINGS / "rust" / "Cargo.toml", f'version = "{shown}"'),
             (BINDINGS / "rust" / "src" / "raw.rs", f"VERSION: u32 = {version // 1000}_{version % 1000:03};"),
             (ROOT / "crates" / "confluo_c" / "src" / "plain.rt", f"result ≡ {version} "),
-            (BINDINGS / "confluo.h", f"#define CONFLUO_HEADER_VERSION {self.number_of_the_release()}\n"),
+            (BINDINGS / "confluo.h", f"#define CONFLUO_VERSION {version}\n"),
         ]
         for file, said in cases:
             with self.subTest(file=file.name):
@@ -201,10 +199,10 @@ class StandIn(unittest.TestCase):
 
     def test_versions_are_compared(self):
         cases = [
-            (4999, "version 0.4.999 of the library"),
+            (21999, "version 0.21.999 of the library"),
             (1000000, "version 1.0.0 of the library"),
-            (5000, ""),
-            (9007, ""),
+            (22000, ""),
+            (29007, ""),
         ]
         for version, said in cases:
             library = self.library(f"v{version}.so", f"-DCONFLUO_STAND_IN_VERSION={version}")

@@ -67,7 +67,7 @@ BAD = (
     ("ask x fired 2: 1/7=2 1/7=3", "ascending"),
     ("ask x fired 2: 1/8=2 1/7=3", "ascending"),
     ("ask x fired 2: 2/1=2 1/7=3", "ascending"),
-    ("ask x fired 2: 1=2 1/7=3", "beside each bucket or beside none"),
+    ("ask x fired 2: 1=2 1/7=3", "with every bucket or with none"),
     ("ask x fired 1: 1/=2", "line 2"),
     ("ask x fired 1: /1=2", "line 2"),
     ("ask x fired 1: 1/2/3=2", "line 2"),
@@ -75,7 +75,7 @@ BAD = (
     ("ask g groups 1: 1/2/3=1/1/1/1", "line 2"),
     ("ask g groups 2: 1/3=1/1/1/1 1/2=1/1/1/1", "ascending"),
     ("alert t 1/2 3\nalert t 1/2 3", "ascending"),
-    ("alert t 1 3\nalert t 1/2 3", "beside each bucket of a trigger or beside none"),
+    ("alert t 1 3\nalert t 1/2 3", "with every bucket of a trigger or with none"),
     ("alert t 1/2/3 3", "line 2"),
     ("crowded a 1 @3", "line 2"),
 )
@@ -201,9 +201,9 @@ class Commands(unittest.TestCase):
         path.write_text(SETUP.replace(" by src", ""))
         ended = tool("show", "--setup", path, self.folder / "r")
         self.assertEqual(ended.status, 2)
-        self.assertIn("`x` has a key beside a bucket of `a`", ended.err)
+        self.assertIn("`x` has a key next to a bucket of `a`", ended.err)
         ended = tool("stream", "--setup", path, self.folder / "w")
-        self.assertIn("setup: an alert of `t` has a key beside a bucket of `a`", ended.err)
+        self.assertIn("setup: an alert of `t` has a key next to a bucket of `a`", ended.err)
 
     def test_merge(self) -> None:
         other = self.folder / "o"

@@ -65,7 +65,7 @@ class Texts(unittest.TestCase):
         setup = self.file("s", "schema packet\nask q list *\n")
         out = tool("explain", "--setup", setup, "--capture", cut, stdin="full: more than 4 records\n").out
         self.assertIn("It has 8 records.", out)
-        self.assertIn(f"confluo run --setup {setup} --nodes 0 --truncated {cut}\n", out)
+        self.assertIn(f"confluo run --setup {setup} --long --truncated {cut}\n", out)
 
 
 class OfTheProgram(unittest.TestCase):

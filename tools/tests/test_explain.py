@@ -273,6 +273,14 @@ class OfRuns(Folder):
         self.assertIn("--nodes 7", said)
         self.runs(said)
 
+    @needs_program
+    def test_nodes_of_a_long_run(self) -> None:
+        for options, offered in (("--nodes 6", "--long --nodes 65536 "), ("--capacity 8", "--capacity 2 ")):
+            command = f"confluo run --long --setup {self.setup} --writers 1 {options} {self.capture}"
+            said = self.explained("--command", command, stdin="nodes: more than 6 nodes\n")
+            self.assertIn(offered, said)
+            self.runs(said)
+
     def runs(self, said: str) -> None:
         """The command that is said ends with status 0."""
         command = next(it.strip() for it in said.splitlines() if it.startswith("    confluo run"))
@@ -286,14 +294,16 @@ class OfRuns(Folder):
         said = self.explained("--setup", self.setup, "--capture", many, stdin=ran.out)
         self.assertIn("It has 5000 records.", said)
         self.runs(said)
-        for name, value, options in (
-            ("MOST_RECORDS", 4999, " --long "),
-            ("sizes_for", lambda _: None, " --long --capacity 256 "),
-        ):
-            with mock.patch(f"confluo_report.explain.{name}", value):
-                said = self.explained("--setup", self.setup, "--capture", many, stdin=ran.out)
-            self.assertIn(options, said)
-            self.runs(said)
+        self.assertIn(" --long ", said)
+        with mock.patch.multiple("confluo_report.explain", MOST_NODES=1, sizes_for=lambda _: None):
+            said = self.explained("--setup", self.setup, "--capture", many, stdin=ran.out)
+        self.assertIn(" --long --capacity 256 ", said)
+        self.runs(said)
+        live = self.file("live", b"schema packet\nask q list *\nlive q\n")
+        said = self.explained("--setup", live, "--capture", many, stdin=ran.out)
+        self.assertIn(" --nodes 0 ", said)
+        self.assertNotIn(" --long ", said)
+        self.runs(said)
 
     @needs_program
     def test_memory(self) -> None:
@@ -311,7 +321,7 @@ class OfRuns(Folder):
         self.assertIn("1895 MB for trees", said)
 
     def test_without_a_refusal(self) -> None:
-        self.assertIn("is a report and no refusal", tool("explain", stdin="records 0\norder\n").err)
+        self.assertIn("is a report, not a refusal", tool("explain", stdin="records 0\norder\n").err)
         self.assertEqual(tool("explain", stdin="").status, 2)
         self.assertEqual(tool("explain", "--status", "3", stdin="setup: line 1 code 2\n").status, 2)
 

@@ -75,11 +75,11 @@ class Questions(unittest.TestCase):
             ("flows by", "Cannot read"),
             ("pings by packets", "Cannot read"),
             ("unanswered dport==443", "Cannot read"),
-            ("pings where (src==10.0.0.1", r"and not the end\n.*\n {26,}\^"),
+            ("pings where (src==10.0.0.1", r"not the end\n.*\n {26,}\^"),
         ):
             with self.assertRaisesRegex(Complaint, why):
                 parse_question(text)
-        with self.assertRaisesRegex(Complaint, "under `schema packet6` alone"):
+        with self.assertRaisesRegex(Complaint, "only .*`schema packet6`"):
             parse_question("flows", PACKETS["packet"])
 
 
@@ -246,6 +246,17 @@ class Answers(unittest.TestCase):
         report.write_text(confluo("run", "--long", "--setup", setup, path).out)
         shown = tool("show", "--setup", setup, "--capture", path, report).out
         self.assertEqual(shown.count("TCP 10.0.0.2:40002 > 10.0.1.10:80"), 4, shown)
+        named = ("--setup", setup, "--capture", path, report)
+        read = json.loads(tool("json", *named).out)
+        keys, pairs, marks = (it.get("groups", it.get("marks")) for it in read["asks"])
+        ends = [f"TCP 10.0.0.{it}:4000{it} > 10.0.1.10:80" for it in (1, 2)]
+        self.assertEqual(sorted(it["text"] for it in keys), ends)
+        for its in (pairs, marks, read["alerts"]):
+            self.assertEqual([it["text"] for it in its], ends)
+        table = tool("csv", *named).out
+        self.assertEqual(table.count(",TCP 10.0.0.2:40002 > 10.0.1.10:80,"), 4, table)
+        self.assertEqual(table.count("/TCP 10.0.0.2:40002 > 10.0.1.10:80,"), 6, table)
+        self.assertNotIn("TCP", tool("csv", "--raw", *named).out)
         setup.write_text("schema packet6\ntally t flow len *\nask h top t sum 3\n")
         report.write_text(confluo("run", "--long", "--setup", setup, path).out)
         picture = self.folder / "p.svg"

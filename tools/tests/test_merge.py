@@ -20,6 +20,13 @@ from confluo_report.setups import Lane, Question
 import pathlib
 import tempfile
 
+
+def has_gnu_parallel() -> bool:
+    """moreutils has another program of that name."""
+    found = shutil.which("parallel")
+    return bool(found) and b"GNU" in subprocess.run([found, "--version"], capture_output=True).stdout
+
+
 FIRST = """\
 records 3
 ask all list 2: 0 2
@@ -230,7 +237,7 @@ class Merges(unittest.TestCase):
             split_reports("web1\tfile: none of that name\n", "x", tagged=True)
 
     @needs_program
-    @unittest.skipUnless(shutil.which("parallel"), "parallel is missing: apt-get install parallel")
+    @unittest.skipUnless(has_gnu_parallel(), "GNU parallel is missing: apt-get install parallel")
     def test_reports_of_parallel(self) -> None:
         setup = INCIDENTS / "lost.setup"
         captures = [INCIDENTS / f"lost_{it}.pcap" for it in ("before", "behind")]

@@ -268,8 +268,8 @@ class Finding(unittest.TestCase):
                 self.assertEqual(found.others, others, words)
             for word, why in (
                 ("csv", "has no capture"),
-                ("nothing", "no file of that name"),
-                ("no*", "none that this pattern names"),
+                ("nothing", "no file has that name"),
+                ("no*", "no file has that name"),
             ):
                 with self.assertRaisesRegex(Complaint, why):
                     find([str(folder / word)])

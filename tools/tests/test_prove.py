@@ -14,12 +14,12 @@ from prove import Crate, Machine, Plan
 
 # A chain low, middle, high, and three crates beside it.
 DIAMOND = {
-    "low": Crate("low", (), 100),
-    "middle": Crate("middle", ("low",), 400),
-    "side": Crate("side", ("low",), 10),
-    "high": Crate("high", ("middle", "side"), 400),
-    "apart": Crate("apart", (), 10),
-    "apart_too": Crate("apart_too", (), 10),
+    "low": Crate("low", (), 200),
+    "middle": Crate("middle", ("low",), 900),
+    "side": Crate("side", ("low",), 20),
+    "high": Crate("high", ("middle", "side"), 900),
+    "apart": Crate("apart", (), 20),
+    "apart_too": Crate("apart_too", (), 20),
 }
 AMPLE = 100 * prove.GIGABYTE
 

@@ -97,9 +97,9 @@ class Rephrases(unittest.TestCase):
                 self.assertEqual(known[name], {str(port)}, name)
 
     def test_src6_names_the_option(self) -> None:
-        for line in ("index i src6", "ask q list dst6_low==1", "tally t src6 len *"):
+        for line in ("index i src6", "ask q list dst6_low==1", "tally t src6 len *", "ask q list payload>0"):
             (fault,) = faults_of(f"schema packet\n{line}\n".encode())
-            self.assertIn("`schema packet6` has it", fault.fault.why)
+            self.assertIn("only `schema packet6` has", fault.fault.why)
 
     @needs_program
     def test_the_program_takes_each_offered_line(self) -> None:

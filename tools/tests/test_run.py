@@ -53,14 +53,33 @@ class Runs(unittest.TestCase):
     def test_a_refusal_is_explained_and_nothing_is_printed(self) -> None:
         bad = self.file("s", b"schema packet\nask a list dport==http\n")
         cut = self.file("c", CAPTURE.read_bytes()[:-1])
+        whole, packed = (
+            self.file(name, subprocess.run(["gzip", "-c", path], capture_output=True).stdout)
+            for name, path in (("whole.gz", CAPTURE), ("c.gz", cut))
+        )
         for words, status, said in (
             (("--setp", "s", "c"), 1, "`--setp` is not an option of `run`"),
             (("--setup", bad, CAPTURE), 2, "    ask a list dport==80\n"),
             (("--setup", SETUP, cut), 3, f"confluo run --setup {SETUP} --truncated {cut}\n"),
             (("--setup", SETUP, self.place.name), 4, "is a folder"),
             (("--setup", SETUP, "--capacity", "2", CAPTURE), 6, "It has 16 records."),
+            (
+                ("--setup", SETUP, "--capacity", "2", whole),
+                6,
+                f"confluo-report run --setup {SETUP} --long {whole}\n",
+            ),
             (("--setup", SETUP, "--nodes", "1", "--writers", "1", CAPTURE), 7, "more tree nodes than 1"),
             (("--setup", SETUP, f"{self.place.name}/no"), 9, "/no does not exist"),
+            (
+                ("--long", CAPTURE, "--writers", "1", cut, "--setup", SETUP),
+                3,
+                f"confluo run --long --writers 1 --setup {SETUP} --truncated {CAPTURE} {cut}\n",
+            ),
+            (
+                ("--setup", SETUP, packed),
+                3,
+                f"confluo-report run --setup {SETUP} --truncated {packed}\n",
+            ),
         ):
             ended = ran("run", *words)
             self.assertEqual((ended.returncode, ended.stdout), (status, b""), words)
@@ -69,7 +88,7 @@ class Runs(unittest.TestCase):
     def test_a_capture_from_a_pipe_is_not_looked_at_again(self) -> None:
         for path in ("-", "/dev/stdin"):
             for words, status, said in (
-                (("--capacity", "2"), 6, f"confluo run --setup {SETUP} --segments 16 /dev/stdin\n"),
+                (("--capacity", "2"), 6, f"confluo run --setup {SETUP} --long /dev/stdin\n"),
                 ((), 3, "The capture: the file ends within a packet"),
             ):
                 ended = ran(

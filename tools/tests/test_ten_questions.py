@@ -97,7 +97,7 @@ class TenQuestions(unittest.TestCase):
 
     def test_3_segments_sent_again(self) -> None:
         wanted = self.counted("tcp.seq_raw", lambda it: int(it["tcp.len"] or "0") > 0).most_common(3)
-        found = self.table("top 3 seq by packets where proto==6 and iplen>80")
+        found = self.table("top 3 seq by packets where kind==2 and payload>0")
         self.assertEqual(sorted(found), sorted(wanted))
         self.assertEqual(dict(found), {"1000": 3, "1200": 3, "1400": 3})
 
@@ -116,6 +116,7 @@ class TenQuestions(unittest.TestCase):
         ports = self.counted("tcp.dstport", lambda it: it["flags"] == "2" and it["src"] == "10.77.0.1")
         self.same("top 1000 dport by packets where flags==2 and src==10.77.0.1", ports)
         self.assertGreater(len(ports), 50)
+        self.assertEqual(dict(self.table("scans"))["10.77.0.1"], len(ports))
         ports = self.counted("tcp.dstport", lambda it: it["flags"] == "2" and it["src"] == "fd77::1")
         self.same("top 1000 dport by packets where flags==2 and src==fd77::1", ports)
 
