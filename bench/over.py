@@ -30,12 +30,14 @@ AIM = 0.35
 
 
 def write_capture(path, count):
-    """The packets of seed 1, again and again."""
+    """The packets of seed 1, again and again. They are not held in memory, for the same reason as in speed.py."""
     speed.write_capture(path, 1, min(count, STEP))
-    data = path.read_bytes()
-    with path.open("ab") as file:
+    end = path.stat().st_size
+    with path.open("ab") as file, path.open("rb") as first:
         for _ in range(count // STEP - 1):
-            file.write(data[24:])
+            first.seek(24)
+            while piece := first.read(min(65536, end - first.tell())):
+                file.write(piece)
 
 
 def spent():
