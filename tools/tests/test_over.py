@@ -637,7 +637,7 @@ class Runs(Case):
             with subprocess.Popen(words, env=environment, stderr=subprocess.PIPE, text=True) as process:
                 ids = wait_for_lines(log, 2)
                 process.send_signal(number)
-                self.assertIn("interrupted", process.communicate(timeout=20)[1])
+                self.assertIn("interrupted", process.communicate(timeout=60)[1])
             self.assertEqual(process.returncode, 128 + number)
             self.assertEqual([it for it in ids if is_alive(it)], [])
             log.unlink()
@@ -779,10 +779,10 @@ class Clusters(Case):
         with self.start("--setup", setup, *[good] * 9) as process:
             ids = wait_for_lines(self.log, 2)
             process.send_signal(signal.SIGINT)
-            self.assertIn("interrupted", process.communicate(timeout=20)[1])
+            self.assertIn("interrupted", process.communicate(timeout=60)[1])
         self.assertEqual(process.returncode, 130)
         # (they were killed, and the worker may not have waited for them yet)
-        late = time.monotonic() + 10
+        late = time.monotonic() + 60
         while any(map(is_alive, ids)) and time.monotonic() < late:
             time.sleep(0.05)
         self.assertEqual([it for it in ids if is_alive(it)], [])

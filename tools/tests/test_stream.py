@@ -603,7 +603,7 @@ class AsAProcess(Folder):
             if it:
                 it.close()
 
-    def line(self, process: subprocess.Popen, seconds: float = 20) -> str:
+    def line(self, process: subprocess.Popen, seconds: float = 60) -> str:
         ready, _, _ = select.select([process.stdout], [], [], seconds)
         self.assertTrue(ready, "no line came")
         return process.stdout.readline().decode()
@@ -612,7 +612,7 @@ class AsAProcess(Folder):
         process.stdin.write(text.encode())
         process.stdin.flush()
 
-    def until(self, holds, seconds: float = 20) -> None:
+    def until(self, holds, seconds: float = 60) -> None:
         late = time.monotonic() + seconds
         while not holds():
             self.assertLess(time.monotonic(), late)
@@ -628,14 +628,14 @@ class AsAProcess(Folder):
         self.until(lambda: path.exists() and 'alerts_total{trigger="t"} 2' in path.read_text())
         self.assertIn("running 1", path.read_text())
         process.send_signal(signal.SIGTERM)
-        self.assertEqual(process.wait(20), 0)
+        self.assertEqual(process.wait(60), 0)
         self.assertIn("running 0", path.read_text())
         self.assertEqual(process.stderr.read(), b"")
 
     def test_silence_in_a_stream(self) -> None:
         out = pathlib.Path(self.place.name, "out")
         command = f'echo "$CONFLUO_KIND $CONFLUO_OVER $CONFLUO_RECORDS" >> {out}'
-        process = self.start("--silence", "1", "--exec", command)
+        process = self.start("--silence", "1", "--exec", command, "--exec-limit", "1")
         self.send(process, "at 5 1\n")
         self.assertEqual(self.line(process), "silence  no packet for 1 second, after 5 packets\n")
         self.send(process, "at 6 2\n")
@@ -684,7 +684,7 @@ class AsAProcess(Folder):
         with pipe.open("w") as out:
             out.write("3 packets captured\n0 packets received by filter\n9 packets dropped by kernel\n")
         process.stdin.close()
-        self.assertEqual(process.wait(20), 10)
+        self.assertEqual(process.wait(60), 10)
         self.assertIn('confluo_dropped_packets_total{by="kernel"} 9\n', path.read_text())
         self.assertIn(b"confluo-report: tcpdump: 9 packets dropped by kernel\n", process.stderr.read())
 
@@ -692,14 +692,14 @@ class AsAProcess(Folder):
         process = self.start()
         process.stdout.close()
         self.send(process, "alert t 1 60 @1\n")
-        self.assertEqual(process.wait(20), 0)
+        self.assertEqual(process.wait(60), 0)
         self.assertEqual(process.stderr.read(), b"")
 
     def test_a_command_has_the_alert(self) -> None:
         out = pathlib.Path(self.place.name, "out")
         command = f'echo "$CONFLUO_TRIGGER $CONFLUO_BUCKET $CONFLUO_VALUE $CONFLUO_RECORDS $CONFLUO_TIME" >> {out}; cat >> {out}'
         process = self.start("--setup", self.setup, "--exec", command, "--exec-limit", "1")
-        _, err = process.communicate(ONE.encode(), 30)
+        _, err = process.communicate(ONE.encode(), 60)
         self.assertEqual((process.returncode, err), (0, b""))
         lines = out.read_text().splitlines()
         self.assertEqual(lines[::2], ["t 1 60 2 1970-01-01 00:00:01Z", "t 2 100 2 1970-01-01 00:00:02Z"])
@@ -709,7 +709,7 @@ class AsAProcess(Folder):
         path = pathlib.Path(self.place.name, "m.prom")
         command = 'if [ "$CONFLUO_BUCKET" = 1 ]; then exit 3; else sleep 600 & sleep 600; fi'
         process = self.start("--exec", command, "--exec-seconds", "1", "--prometheus", str(path))
-        out, err = process.communicate(ONE.encode(), 30)
+        out, err = process.communicate(ONE.encode(), 60)
         self.assertEqual(process.returncode, 0)
         self.assertIn(b"2 packets", out)
         self.assertIn(b"the command for `alert t 1 60 @2` ended with status 3", err)
@@ -736,7 +736,7 @@ class AsAProcess(Folder):
         process.send_signal(signal.SIGTERM)
         for it in place.read_text().split():
             os.kill(int(it), signal.SIGKILL)
-        self.assertEqual(process.wait(20), 0)
+        self.assertEqual(process.wait(60), 0)
         return process.stderr.read().decode()
 
     def test_sigterm_ends_it_while_nobody_reads(self) -> None:
@@ -745,7 +745,7 @@ class AsAProcess(Folder):
         # What it has read makes more text than a pipe holds.
         self.until(lambda: self.is_waiting(process.stdout))
         process.send_signal(signal.SIGTERM)
-        self.assertEqual(process.wait(20), 0)
+        self.assertEqual(process.wait(60), 0)
 
     def test_sigterm_ends_it_while_nobody_reads_its_troubles(self) -> None:
         ended = pathlib.Path(self.place.name, "ended")
@@ -760,7 +760,7 @@ class AsAProcess(Folder):
         self.until(ended.exists)
         time.sleep(0.3)
         process.send_signal(signal.SIGTERM)
-        self.assertEqual(process.wait(20), 0)
+        self.assertEqual(process.wait(60), 0)
         os.close(read)
         os.close(write)
 
@@ -794,7 +794,7 @@ class AsAProcess(Folder):
 
     def test_metrics_that_cannot_be_written_hold_nothing_up(self) -> None:
         process = self.start("--quiet", "--prometheus", "/no/such/folder/m.prom")
-        _, err = process.communicate(ONE.encode(), 20)
+        _, err = process.communicate(ONE.encode(), 60)
         self.assertEqual(process.returncode, 0)
         self.assertIn(b"cannot be written", err)
 
@@ -803,7 +803,7 @@ class AsAProcess(Folder):
         words = ("--exec", "exec sleep 600", "--exec-limit", "1", "--exec-seconds", "600")
         process = self.start("--quiet", *words)
         self.send(process, text)
-        ready, _, _ = select.select([process.stderr], [], [], 20)
+        ready, _, _ = select.select([process.stderr], [], [], 60)
         self.assertTrue(ready)
         self.assertIn(b"65536 alerts wait for their commands: those", process.stderr.readline())
         self.assertIn("alerts have had no command", self.stopped(process, 1))
