@@ -9,7 +9,9 @@ for sanitizer in none address,undefined thread; do
     [ "$sanitizer" = none ] && flags=-O2
     cc -std=c11 -g -Wall -Wextra -Werror "$flags" -pthread -o "$folder/twin" "$here/plain_twin.c"
     for writers in 1 4; do
-        "$folder/twin" --records 9001 --lanes 4 --writers "$writers" --batch 1000 > /dev/null
+        "$folder/twin" --records 9001 --lanes 4 --writers "$writers" --batch 1000 --chains 16 --finds 32 > "$folder/said"
+        # Each record is found twice, since 32 keys are the 16 two times.
+        grep -q "^finds 32 links 18002 " "$folder/said"
     done
 done
 for words in "--writers 0" "--lanes 17" "--batch" "--records -1" "--other 1"; do

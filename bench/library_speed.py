@@ -53,13 +53,19 @@ def loads(built):
             **{name: ["rows", lanes, "THREADS"] for name in both},
         }
     yield "frames, one a call", {name: ["frames", "0", "THREADS"] for name in both}
-    yield "frames, 256 a call", {name: ["frames", "0", "THREADS", "256"] for name in both}
+    yield "frames, 256 a call", {
+        "C twin": ["--lanes", "1", "--chains", "16", "--finds", "500", "--writers", "THREADS"],
+        **{name: ["frames", "0", "THREADS", "256"] for name in both},
+    }
 
 
 def run(name, path, words, threads):
-    """Calls a second of each part: `append`, and the questions of all readers."""
+    """Calls a second of each part: `append`, and the questions of all readers. The C twin finds by one thread, and has no frames."""
     words = [str(threads) if it == "THREADS" else it for it in words]
     text = subprocess.run([path, *words], capture_output=True, text=True, check=True).stdout
+    if name == "C twin" and "--finds" in words:
+        fields = text.split()
+        return {"find": int(fields[1]) / float(fields[5])} if threads == 1 else {}
     if name == "C twin":
         return {"append": RECORDS / float(text.split()[-1])}
     found = {}

@@ -3,6 +3,7 @@
  *
  *     cc -std=c11 -O2 -pthread -o plain_twin bench/plain_twin.c
  *     ./plain_twin --records 65536 --lanes 4 --writers 2 --batch 4096
+ *     ./plain_twin --records 65536 --lanes 1 --chains 16 --finds 1000
  *
  * It says what the log's own steps cost on this machine. Each record takes a ticket by one addition to the write tail,
  * stores its 21 words (20 of a packet, one tag), links itself in front of one chain a lane, is marked finished, and
@@ -11,7 +12,9 @@
  * a capture, questions, the report.
  *
  * It prints one line, `records N lanes L writers W batch B seconds S`, and ends with 0; with 1 if the log that came out
- * is not whole (a record missing, a chain cut); with 2 for a faulty command line or want of memory.
+ * is not whole (a record missing, a chain cut); with 2 for a faulty command line or want of memory. With `--finds F` it
+ * prints before that `finds F links K seconds S`: F times the chains of one key in the first lane are walked, from the
+ * newest record to the oldest, and the first word of each is read in the order in which they came; K links in all.
  */
 #define _POSIX_C_SOURCE 200809L
 
@@ -27,7 +30,6 @@
 
 enum {
     ROW_WORDS = 21,
-    CHAINS = 256, /* chains of one lane and writer */
     MAX_LANES = 16,
     MAX_WRITERS = 15,
 };
@@ -40,6 +42,8 @@ struct log {
     uint64_t lanes;
     uint64_t writers;
     uint64_t batch;
+    uint64_t chains; /* of one lane and writer */
+    uint64_t finds;
     word write_tail;
     word read_tail;
     word *tickets;  /* of each record its words, then one link a lane, then whether it is finished */
@@ -58,7 +62,7 @@ struct job {
 static uint64_t ticket_words(const struct log *log) { return ROW_WORDS + log->lanes + 1; }
 
 static word *head_at(const struct log *log, uint64_t lane, uint64_t key, uint64_t writer) {
-    return &log->heads[(lane * CHAINS + key % CHAINS) * log->writers + writer];
+    return &log->heads[(lane * log->chains + key % log->chains) * log->writers + writer];
 }
 
 /* Moves the read tail past each finished record. */
@@ -125,8 +129,8 @@ static bool is_whole(const struct log *log) {
     }
     for (uint64_t lane = 0; lane < log->lanes; lane++) {
         uint64_t linked = 0;
-        for (uint64_t chain = 0; chain < CHAINS * log->writers; chain++) {
-            uint64_t next = atomic_load(&log->heads[lane * CHAINS * log->writers + chain]);
+        for (uint64_t chain = 0; chain < log->chains * log->writers; chain++) {
+            uint64_t next = atomic_load(&log->heads[lane * log->chains * log->writers + chain]);
             while (next != 0) {
                 linked += 1;
                 next = atomic_load(&log->tickets[(next - 1) * ticket_words(log) + ROW_WORDS + lane]);
@@ -137,6 +141,47 @@ static bool is_whole(const struct log *log) {
         }
     }
     return true;
+}
+
+static int by_offset(const void *low, const void *high) {
+    const uint32_t first = *(const uint32_t *)low, second = *(const uint32_t *)high;
+    return (first > second) - (first < second);
+}
+
+/* Puts the offsets of a key's records in the first lane in order, and answers how many these are. */
+static uint64_t find_key(const struct log *log, uint64_t key, uint32_t *found) {
+    const uint64_t words = ticket_words(log);
+    uint64_t count = 0;
+    for (uint64_t writer = 0; writer < log->writers; writer++) {
+        uint64_t next = atomic_load(head_at(log, 0, key, writer));
+        while (next != 0) {
+            found[count++] = (uint32_t)(next - 1);
+            next = atomic_load(&log->tickets[(next - 1) * words + ROW_WORDS]);
+        }
+    }
+    if (log->writers > 1) {
+        qsort(found, count, sizeof *found, by_offset);
+        return count;
+    }
+    for (uint64_t i = 0; i < count / 2; i++) {
+        const uint32_t other = found[i];
+        found[i] = found[count - 1 - i];
+        found[count - 1 - i] = other;
+    }
+    return count;
+}
+
+/* Finds keys, one after another, and reads a word of each record. Answers how many links were followed. */
+static uint64_t find_keys(const struct log *log, uint32_t *found, uint64_t *words) {
+    uint64_t links = 0;
+    for (uint64_t i = 0; i < log->finds; i++) {
+        const uint64_t count = find_key(log, i % log->chains, found);
+        for (uint64_t k = 0; k < count; k++) {
+            words[k] = atomic_load(&log->tickets[found[k] * ticket_words(log)]);
+        }
+        links += count;
+    }
+    return links;
 }
 
 /* Takes memory, and touches it, so that no page is new while time is taken. */
@@ -150,7 +195,7 @@ static void *touched(uint64_t count, size_t size) {
 
 static bool open_log(struct log *log) {
     log->tickets = touched(log->records * ticket_words(log) + 1, sizeof *log->tickets);
-    log->heads = touched(log->lanes * CHAINS * log->writers + 1, sizeof *log->heads);
+    log->heads = touched(log->lanes * log->chains * log->writers + 1, sizeof *log->heads);
     log->rows = touched(log->records * ROW_WORDS + 1, sizeof *log->rows);
     if (log->tickets == NULL || log->heads == NULL || log->rows == NULL) {
         return false;
@@ -198,6 +243,10 @@ static bool read_words(int count, char **words, struct log *log) {
             read = number_of(words[i + 1], 1, MAX_WRITERS, &log->writers);
         } else if (strcmp(words[i], "--batch") == 0) {
             read = number_of(words[i + 1], 1, UINT64_C(1) << 24, &log->batch);
+        } else if (strcmp(words[i], "--chains") == 0) {
+            read = number_of(words[i + 1], 1, 65536, &log->chains);
+        } else if (strcmp(words[i], "--finds") == 0) {
+            read = number_of(words[i + 1], 1, UINT64_C(1) << 24, &log->finds);
         }
         if (!read) {
             return false;
@@ -206,10 +255,31 @@ static bool read_words(int count, char **words, struct log *log) {
     return count % 2 == 1;
 }
 
+/* Times the finding of keys, if it is asked for. */
+static bool time_finds(const struct log *log) {
+    if (log->finds == 0 || log->lanes == 0) {
+        return true;
+    }
+    uint32_t *found = touched(log->records, sizeof *found);
+    uint64_t *words = touched(log->records, sizeof *words);
+    const bool has_memory = found != NULL && words != NULL;
+    if (has_memory) {
+        const double begun = seconds();
+        const uint64_t links = find_keys(log, found, words);
+        printf("finds %llu links %llu seconds %.6f\n", (unsigned long long)log->finds, (unsigned long long)links,
+               seconds() - begun);
+    }
+    free(found);
+    free(words);
+    return has_memory;
+}
+
 int main(int count, char **words) {
-    struct log log = {.records = 65536, .lanes = 4, .writers = 1, .batch = 4096};
+    struct log log = {.records = 65536, .lanes = 4, .writers = 1, .batch = 4096, .chains = 256};
     if (!read_words(count, words, &log)) {
-        fputs("usage: plain_twin [--records N] [--lanes 0..16] [--writers 1..15] [--batch B]\n", stderr);
+        fputs(
+            "usage: plain_twin [--records N] [--lanes 0..16] [--writers 1..15] [--batch B] [--chains C] [--finds F]\n",
+            stderr);
         return 2;
     }
     if (!open_log(&log)) {
@@ -224,7 +294,7 @@ int main(int count, char **words) {
         fault = write_batch(&log, from, from + (left < log.batch ? left : log.batch));
     }
     const double taken = seconds() - begun;
-    const bool whole = fault == 0 && is_whole(&log);
+    const bool whole = fault == 0 && is_whole(&log) && time_finds(&log);
     printf("records %llu lanes %llu writers %llu batch %llu seconds %.6f\n", (unsigned long long)log.records,
            (unsigned long long)log.lanes, (unsigned long long)log.writers, (unsigned long long)log.batch, taken);
     close_log(&log);
