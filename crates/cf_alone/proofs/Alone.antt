@@ -6,8 +6,8 @@ use Rattle.cf_row.specs.Row.{RowValue}
 use Rattle.cf_row.specs.declared.row.Entry.{Entry}
 use Rattle.cf_shape.specs.Lanes.{ShapeValue}
 use Rattle.cf_law.specs.Words.{Spot}
-use Rattle.cf_lemmas.proofs.Truths.{eq_true}
-use Rattle.cf_lemmas.proofs.Lists.{get_push_same}
+use Rattle.cf_row.proofs.Truths.{eq_true}
+use Rattle.cf_row.proofs.Lists.{get_push_same}
 use Rattle.cf_law.specs.Passes.{Own, Book, Pass}
 use Rattle.cf_law.specs.Steps.{Holds}
 use Rattle.cf_law.specs.Events.{tabulated, no_book}

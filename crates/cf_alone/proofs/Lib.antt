@@ -1,1 +1,3 @@
+pub mod Pigeons
+pub mod Nodes
 pub mod Alone

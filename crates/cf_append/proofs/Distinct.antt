@@ -1,7 +1,7 @@
 -- A spot on a row's path is one of the distinct nodes that the row needs.
 use Rattle.std.proofs.Common.{◌≡◌, ℕ, ◌+◌, ◌-◌, ◌/◌, ◌^◌, ◌<◌, List, [], ◌∷◌, ◌++◌, length, length-append, drop, Bool, true, cond, Some, slice_get, refl, ap, sym, ◌∙◌, arith}
 use Rattle.std.specs.List.{range_with_len}
-use Rattle.cf_lemmas.proofs.Lists.{Has, has_flat, has_map, has_range}
+use Rattle.cf_row.proofs.Lists.{Has, has_flat, has_map, has_range}
 use Rattle.cf_row.specs.Row.{RowValue}
 use Rattle.cf_shape.specs.Lanes.{ShapeValue, IsShape, selected_by, key_of}
 use Rattle.cf_shape.specs.Nodes.{Node, levels_of, path_of, nodes_in, nodes_for}

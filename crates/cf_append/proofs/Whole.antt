@@ -4,7 +4,7 @@ use Rattle.std.proofs.Math.Seq.{take-length}
 use Rattle.std.specs.Bool.{nat_lt}
 use Rattle.std.proofs.lemmas.Bool.{cases_lt}
 use Rattle.std.proofs.lemmas.Bool.Decides.{nat_tests}
-use Rattle.cf_lemmas.proofs.Lists.{get_push_same}
+use Rattle.cf_row.proofs.Lists.{get_push_same}
 use Rattle.cf_row.specs.Row.{RowValue}
 use Rattle.cf_row.specs.Words.{word_count}
 use Rattle.cf_row.specs.declared.row.Entry.{Entry}

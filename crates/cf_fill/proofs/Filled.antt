@@ -12,8 +12,8 @@ use Rattle.cf_plain.specs.Answered.{LoadedValue, answer_on}
 use Rattle.cf_plain.specs.declared.finding.Finding.{Finding}
 use Rattle.cf_plain.specs.declared.loaded.Live.{Live}
 use Rattle.cf_table.specs.Moves.{SealValue}
-use Rattle.cf_history.specs.Order.{IsLogOf, order_of}
-use Rattle.cf_query.specs.Tags.{nums_of}
+use Rattle.cf_plain.specs.Order.{IsLogOf, order_of}
+use Rattle.cf_load.specs.Tags.{nums_of}
 use Rattle.cf_load.specs.Loaders.{LoaderValue, IsFresh, IsLoading, IsFinished, IsFoundIn}
 use Rattle.cf_load.specs.Loading.{HasAnswered}
 use Rattle.cf_segments.specs.Segments.{SegmentsValue, HoldsRows, KeepsSegment, all_of, entries_of, room_of, sealed, told_of}

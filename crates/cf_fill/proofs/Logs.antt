@@ -7,9 +7,9 @@ use Rattle.std.proofs.lemmas.List.Sums.{AllPass-from_list_all}
 use Rattle.cf_row.specs.Row.{RowValue}
 use Rattle.cf_row.specs.declared.row.Entry.{Entry}
 use Rattle.cf_fold.specs.declared.trigger.Trigger.{Trigger}
-use Rattle.cf_history.specs.Order.{IsOrder, log_of, order_of}
-use Rattle.cf_history.specs.Tails.{Turn, AreTails, turns_of, batches_of}
-use Rattle.cf_history.proofs.Orders.{log_of_order, order_of_log}
+use Rattle.cf_plain.specs.Order.{IsOrder, log_of, order_of}
+use Rattle.cf_plain.specs.Tails.{Turn, AreTails, turns_of, batches_of}
+use Rattle.cf_plain.proofs.Orders.{log_of_order, order_of_log}
 use Rattle.cf_shape.specs.Lanes.{ShapeValue}
 use Rattle.cf_plain.specs.Asks.{Suits, SuitsTrigger, suits_of, suits_trigger}
 use Rattle.cf_plain.specs.declared.ask.Ask.{Ask}

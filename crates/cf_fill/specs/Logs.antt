@@ -2,7 +2,7 @@
 use Rattle.std.specs.Prelude.{◌≡◌, ◌<◌, ◌≤◌, ◌*◌, ℕ, List, length, map}
 use Rattle.cf_row.specs.Row.{RowValue}
 use Rattle.cf_row.specs.declared.row.Entry.{Entry}
-use Rattle.cf_history.specs.Order.{IsLogOf, order_of}
+use Rattle.cf_plain.specs.Order.{IsLogOf, order_of}
 use Rattle.cf_shape.specs.Lanes.{ShapeValue}
 use Rattle.cf_shape.specs.Nodes.{distinct}
 use Rattle.cf_setup.specs.Setups.{SetupValue}
@@ -11,7 +11,7 @@ use Rattle.cf_plain.specs.declared.finding.Finding.{Finding}
 use Rattle.cf_table.specs.Moves.{SealValue}
 use Rattle.cf_load.specs.Loading.{HasAnswered}
 use Rattle.cf_load.specs.Planned.{asks_of, finding_on, marks_on, tails_of}
-use Rattle.cf_query.specs.Tags.{nums_of}
+use Rattle.cf_load.specs.Tags.{nums_of}
 use Rattle.cf_load.specs.declared.plan.LivePlan.{LivePlan}
 use Rattle.cf_segments.specs.Blocks.{block}
 use Rattle.cf_segments.specs.declared.segments.Sealing.{Sealing}

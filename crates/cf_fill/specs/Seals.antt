@@ -2,7 +2,7 @@
 use Rattle.std.specs.Prelude.{◌≡◌, ◌+◌, ◌-◌, ◌*◌, ◌/◌, ℕ, max, List, [], length, map, slice_get, Some}
 use Rattle.cf_row.specs.Row.{RowValue}
 use Rattle.cf_row.specs.declared.row.Entry.{Entry}
-use Rattle.cf_history.specs.Order.{IsOrder, IsLogOf, log_of}
+use Rattle.cf_plain.specs.Order.{IsOrder, IsLogOf, log_of}
 use Rattle.cf_setup.specs.Setups.{SetupValue, shaped}
 use Rattle.cf_plain.specs.Answered.{LoadedValue}
 use Rattle.cf_report.specs.Meaning.{IsReport, AreMeant, final_text}

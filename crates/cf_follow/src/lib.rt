@@ -15,6 +15,7 @@ mod said;
 mod truncated;
 mod watch;
 
+pub use cf_rounds::Intervals;
 pub use ending::Ending;
 pub use laws::{one_ending_is_due, watching_means_the_same};
 pub use left::Left;

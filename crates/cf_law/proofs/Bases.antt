@@ -1,6 +1,6 @@
 -- What each kind of step makes of the words, tickets and nodes keeps their law.
 use Rattle.std.proofs.Common.{◌≡◌, ℕ, ◌+◌, ◌<◌, ◌≤◌, ◌⊎◌, suc, List, [], ◌∷◌, ◌++◌, length, set, get_or, Some, None, slice_get, true, false, inl, inr, refl, arith, ap, sym, ◌∙◌, subst, length-set, length-append}
-use Rattle.cf_lemmas.proofs.Lists.{get_push_other, get_push_same}
+use Rattle.cf_row.proofs.Lists.{get_push_other, get_push_same}
 use Rattle.cf_row.specs.Row.{RowValue}
 use Rattle.cf_shape.specs.Places.{head_slot}
 use Rattle.std.proofs.lemmas.Bool.{cases_eq, cases_lt}

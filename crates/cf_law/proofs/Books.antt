@@ -1,6 +1,6 @@
 -- The book of a writer, as the tickets change.
 use Rattle.std.proofs.Common.{◌≡◌, ℕ, ◌+◌, ◌<◌, ◌==◌, ◌≢◌, zero, suc, List, [], ◌∷◌, ◌++◌, length, set, Option, Some, None, slice_get, cond, Bool, true, false, inl, inr, refl, arith, ap, ap₂, sym, ◌∙◌, subst}
-use Rattle.cf_lemmas.proofs.Truths.{eq_false, eq_from, eq_true}
+use Rattle.cf_row.proofs.Truths.{eq_false, eq_from, eq_true}
 use Rattle.cf_row.specs.Row.{RowValue}
 use Rattle.std.proofs.lemmas.Bool.{cases_Bool}
 use Rattle.cf_law.specs.Words.{Ticket, fresh_ticket}

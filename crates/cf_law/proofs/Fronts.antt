@@ -1,7 +1,7 @@
 -- What was seen, as the tickets change, and what the words spell.
 use Rattle.std.proofs.Common.{◌≡◌, ℕ, ◌<◌, ◌≤◌, zero, suc, List, [], ◌∷◌, ◌++◌, length, take, get_or, Option, Some, None, slice_get, cond, Bool, true, inl, inr, refl, arith, ap, ap₂, sym, ◌∙◌, subst, length-append}
-use Rattle.cf_lemmas.proofs.Lists.{get_push_other, get_push_same}
-use Rattle.cf_lemmas.proofs.Truths.{eq_false, lt_true}
+use Rattle.cf_row.proofs.Lists.{get_push_other, get_push_same}
+use Rattle.cf_row.proofs.Truths.{eq_false, lt_true}
 use Rattle.cf_row.specs.Row.{RowValue}
 use Rattle.cf_row.specs.declared.row.Entry.{Entry}
 use Rattle.std.specs.Bool.{nat_lt}

@@ -1,7 +1,7 @@
 -- A head, a cell's word, a done word and a new ticket keep what the words mean.
 use Rattle.std.proofs.Common.{◌≡◌, ℕ, ◌+◌, ◌*◌, ◌/◌, ◌%◌, ◌<◌, ◌==◌, zero, suc, List, [], ◌∷◌, ◌++◌, length, set, Option, Some, None, slice_get, cond, Bool, true, false, inl, inr, refl, arith, ap, ap₂, sym, ◌∙◌, subst, length-set, length-append}
-use Rattle.cf_lemmas.proofs.Lists.{get_push_other, get_push_same}
-use Rattle.cf_lemmas.proofs.Truths.{eq_false, eq_true, lt_false, lt_true}
+use Rattle.cf_row.proofs.Lists.{get_push_other, get_push_same}
+use Rattle.cf_row.proofs.Truths.{eq_false, eq_true, lt_false, lt_true}
 use Rattle.cf_row.specs.Row.{RowValue}
 use Rattle.cf_shape.specs.Places.{head_slot}
 use Rattle.cf_shape.specs.Uses.{Use}

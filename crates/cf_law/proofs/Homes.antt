@@ -1,6 +1,6 @@
 -- What a pass learns of its own finished tickets, and, with all books at home, of all tickets.
 use Rattle.std.proofs.Common.{◌≡◌, ℕ, ◌+◌, ◌<◌, ◌≤◌, ◌⊎◌, ◌==◌, zero, suc, List, [], ◌∷◌, length, Option, Some, None, slice_get, cond, Bool, true, inl, inr, refl, arith, ap, ap₂, sym, ◌∙◌}
-use Rattle.cf_lemmas.proofs.Truths.{eq_from, eq_true}
+use Rattle.cf_row.proofs.Truths.{eq_from, eq_true}
 use Rattle.cf_row.specs.declared.row.Entry.{Entry}
 use Rattle.std.specs.Bool.{nat_lt}
 use Rattle.std.proofs.lemmas.Bool.{cases_Bool, cases_lt}

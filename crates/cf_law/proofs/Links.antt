@@ -2,7 +2,7 @@
 use Rattle.std.proofs.Common.{◌≡◌, ℕ, ◌/◌, ◌%◌, ◌<◌, ◌≤◌, ◌⊎◌, zero, suc, List, [], ◌∷◌, length, get_or, set, Option, Some, None, slice_get, Bool, true, false, inl, inr, refl, arith, ap, ap₂, sym, ◌∙◌, subst}
 use Rattle.std.proofs.lemmas.Bool.{cases_eq, cases_lt, cases_Bool}
 use Rattle.std.proofs.lemmas.Nat.{mul-add-lt}
-use Rattle.cf_lemmas.proofs.Truths.{lt_true}
+use Rattle.cf_row.proofs.Truths.{lt_true}
 use Rattle.cf_shape.specs.Places.{Sizes, Slot, place, IsReal, word_total}
 use Rattle.cf_shape.specs.Places.Slot.{tail, cell, root, body}
 use Rattle.cf_law.proofs.Forms.{stocks_with_label, stocks_with_node, stocks_with_mark, CanLink}

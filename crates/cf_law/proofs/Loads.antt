@@ -1,6 +1,6 @@
 -- Loads, and growing knowledge, keep the law of a pass.
 use Rattle.std.proofs.Common.{◌≡◌, ℕ, ◌%◌, ◌^◌, ◌<◌, ◌≤◌, ◌⊎◌, ◌==◌, zero, suc, List, [], ◌∷◌, length, get_or, take, Option, Some, None, slice_get, cond, Bool, false, inl, inr, refl, arith, ap, sym, ◌∙◌, subst}
-use Rattle.cf_lemmas.proofs.Truths.{eq_from, eq_true}
+use Rattle.cf_row.proofs.Truths.{eq_from, eq_true}
 use Rattle.cf_row.specs.declared.row.Entry.{Entry}
 use Rattle.cf_shape.specs.Places.{head_slot}
 use Rattle.std.specs.Bool.{nat_lt}
@@ -118,12 +118,12 @@ sees_law sh m p n es law le spelt_here old = go (nat_lt (length p.seen) n) (case
         → PassLaw sh m (cond (nat_lt (length p.seen) n) (record p { seen = take n es; cursor = None }) p)
     go b (inr ge) =
         subst (λ (c : Bool). PassLaw sh m (cond c (record p { seen = take n es; cursor = None }) p))
-        (sym (Rattle.cf_lemmas.proofs.Truths.lt_false (length p.seen) n (λ h. omega arith))) old
+        (sym (Rattle.cf_row.proofs.Truths.lt_false (length p.seen) n (λ h. omega arith))) old
     go b (inl lt) =
         let seen : take n es ≡ front n m.log = ap (take n) spelt_here ∙ front_take m.log n m.tails.1 le in
         let len : length (take n es) ≡ n = ap (length {A = Entry}) seen ∙ front_length m.log n (omega (arith, law.covered)) in
         subst (λ (c : Bool). PassLaw sh m (cond c (record p { seen = take n es; cursor = None }) p))
-        (sym (Rattle.cf_lemmas.proofs.Truths.lt_true (length p.seen) n lt)) (record {
+        (sym (Rattle.cf_row.proofs.Truths.lt_true (length p.seen) n lt)) (record {
           within = omega (arith, len);
           seen = seen ∙ ap (λ (k : ℕ). front k m.log) (sym len);
           olds = λ k old_seen at. let h = old.olds k old_seen at in ((let q = h.0 in omega (arith, len)), h.1);

@@ -1,6 +1,6 @@
 -- Splits and joins keep the law, the opening has it, and so every list of events does.
 use Rattle.std.proofs.Common.{◌≡◌, ◌≢◌, ℕ, ◌+◌, ◌<◌, ◌≤◌, ◌⊎◌, ◌==◌, zero, suc, List, [], ◌∷◌, ◌++◌, length, set, take, Option, Some, None, slice_get, cond, Bool, true, false, inl, inr, refl, arith, ap, sym, ◌∙◌, subst, length-set}
-use Rattle.cf_lemmas.proofs.Truths.{lt_false, lt_true}
+use Rattle.cf_row.proofs.Truths.{lt_false, lt_true}
 use Rattle.cf_row.specs.declared.row.Entry.{Entry}
 use Rattle.std.proofs.lemmas.Bool.{cases_eq, cases_lt}
 use Rattle.cf_law.specs.Words.{Layout}
@@ -11,7 +11,7 @@ use Rattle.cf_law.specs.Lawful.{Base, front, book_at, PassLaw, HoldsAt, Stands, 
 use Rattle.cf_law.proofs.Heads.{get_set_same, get_set_other}
 use Rattle.cf_law.proofs.Bases.{get_from_set, get_from_push}
 use Rattle.cf_law.proofs.Fronts.{front_take}
-use Rattle.cf_lemmas.proofs.Lists.{has_left}
+use Rattle.cf_row.proofs.Lists.{has_left}
 
 -- the place in the whole list
 abbrev skip : ℕ → ℕ → ℕ

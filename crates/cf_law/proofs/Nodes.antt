@@ -5,8 +5,8 @@ use Rattle.std.proofs.lemmas.List.{get_or-set_same, get_or-set_other, get_or_pas
 use Rattle.std.proofs.lemmas.Nat.{div-add-mod', div-mul-add, mul-add-lt}
 use Rattle.std.proofs.lemmas.Bool.{cases_eq, cases_lt}
 use Rattle.std.proofs.lemmas.Option.{slice_get_past, slice_get_within}
-use Rattle.cf_lemmas.proofs.Lists.{get_push_other, get_push_same}
-use Rattle.cf_lemmas.proofs.Truths.{eq_false, eq_true}
+use Rattle.cf_row.proofs.Lists.{get_push_other, get_push_same}
+use Rattle.cf_row.proofs.Truths.{eq_false, eq_true}
 use Rattle.cf_law.proofs.Forms.{stocks_with_label, stocks_with_node, stocks_with_mark}
 use Rattle.cf_law.specs.Words.{Spot, NodeStock, stock_of, node_at, spare_label, free_of, marked_books}
 

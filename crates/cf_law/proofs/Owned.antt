@@ -1,6 +1,6 @@
 -- A writer's chains are made by what it has finished.
 use Rattle.std.proofs.Common.{◌≡◌, ℕ, ◌+◌, ◌<◌, ◌≤◌, ◌⊎◌, ◌==◌, zero, suc, cond, Bool, true, false, List, [], ◌∷◌, ◌++◌, Option, Some, None, slice_get, inl, inr, refl, arith, ap, ap₂, sym, ◌∙◌, subst, append_assoc, length, length-append}
-use Rattle.cf_lemmas.proofs.Truths.{eq_from, eq_true, lt_false, lt_true}
+use Rattle.cf_row.proofs.Truths.{eq_from, eq_true, lt_false, lt_true}
 use Rattle.cf_row.specs.Row.{RowValue}
 use Rattle.cf_shape.specs.Uses.{Use}
 use Rattle.std.proofs.lemmas.List.{append-nil}

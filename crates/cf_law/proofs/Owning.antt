@@ -1,6 +1,6 @@
 -- What a writer's book says of its own words, and of what was seen of it.
 use Rattle.std.proofs.Common.{◌≡◌, ℕ, ◌+◌, ◌<◌, ◌≤◌, ◌==◌, zero, suc, cond, Bool, true, false, List, [], ◌∷◌, ◌++◌, length, take, Option, Some, None, slice_get, inl, inr, refl, arith, ap, ap₂, sym, ◌∙◌, subst}
-use Rattle.cf_lemmas.proofs.Truths.{eq_from, eq_true, lt_false}
+use Rattle.cf_row.proofs.Truths.{eq_from, eq_true, lt_false}
 use Rattle.cf_row.specs.Row.{RowValue}
 use Rattle.cf_row.specs.declared.row.Entry.{Entry}
 use Rattle.std.proofs.lemmas.Bool.{cases_Bool, cases_eq}

@@ -1,6 +1,6 @@
 -- What a pass knows stays true, and what its loads tell.
 use Rattle.std.proofs.Common.{◌≡◌, ℕ, ◌+◌, ◌*◌, ◌%◌, ◌^◌, ◌<◌, ◌≤◌, ◌⊎◌, zero, suc, List, [], ◌∷◌, length, get_or, Option, Some, None, slice_get, cond, Bool, true, false, inl, inr, refl, arith, ap, ap₂, sym, ◌∙◌, subst}
-use Rattle.cf_lemmas.proofs.Truths.{eq_false, lt_true}
+use Rattle.cf_row.proofs.Truths.{eq_false, lt_true}
 use Rattle.cf_row.specs.Row.{RowValue}
 use Rattle.cf_shape.specs.Places.{head_slot}
 use Rattle.std.proofs.lemmas.Bool.{cases_eq}

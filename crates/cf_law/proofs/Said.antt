@@ -2,7 +2,7 @@
 use Rattle.std.proofs.Common.{◌≡◌, ℕ, ◌+◌, ◌<◌, ◌≤◌, ◌⊎◌, ◌==◌, suc, List, [], ◌∷◌, length, set, take, Option, Some, None, slice_get, cond, Bool, inl, inr, refl, arith, ap, sym, ◌∙◌, subst}
 use Rattle.std.specs.Bool.{nat_lt}
 use Rattle.std.proofs.lemmas.Option.{slice_get_within}
-use Rattle.cf_lemmas.proofs.Truths.{eq_false, eq_true, lt_false, lt_true}
+use Rattle.cf_row.proofs.Truths.{eq_false, eq_true, lt_false, lt_true}
 use Rattle.cf_row.specs.declared.row.Entry.{Entry}
 use Rattle.cf_shape.specs.Lanes.{ShapeValue}
 use Rattle.cf_shape.specs.Places.{place}

@@ -19,7 +19,7 @@ use Rattle.cf_plain.specs.declared.ask.Ask.{Ask}
 use Rattle.cf_plain.specs.declared.finding.Finding.{Finding}
 use Rattle.cf_plain.specs.declared.ask.Ask.TheVariants as asks_are
 use Rattle.cf_table.specs.Values.{PassValue, LogValue}
-use Rattle.cf_walk.specs.Walks.{OnlyWalked}
+use Rattle.cf_query.specs.Walks.{OnlyWalked}
 use Rattle.cf_query.proofs.Walking.{walked_seen}
 use Rattle.cf_load.specs.Planned.{IsMarks, as_marks, body_of, finding_on, marks_on}
 use Rattle.cf_load.specs.Readers.{AreReaders, CanBeAsked, IsQuestion, answer_by, finding_by, seen_by}

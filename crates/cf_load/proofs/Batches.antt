@@ -6,10 +6,10 @@ use Rattle.std.proofs.lemmas.List.Concat.{flat_map-append}
 use Rattle.std.proofs.lemmas.List.Sums.{fold-append}
 use Rattle.std.proofs.lemmas.Option.{slice_get_within, slice_get-get_or}
 use Rattle.std.specs.List.{All, AllZip, AllByRecursion, flat_map, list_any}
-use Rattle.cf_lemmas.proofs.Lists.{has_left, has_right}
+use Rattle.cf_row.proofs.Lists.{has_left, has_right}
 use Rattle.cf_row.specs.Row.{RowValue}
 use Rattle.cf_row.specs.declared.row.Entry.{Entry}
-use Rattle.cf_history.specs.Order.{rows_of, written_by}
+use Rattle.cf_plain.specs.Order.{rows_of, written_by}
 use Rattle.cf_shape.specs.Lanes.{ShapeValue, IsShape}
 use Rattle.cf_shape.specs.Nodes.{Node, nodes_for, nodes_of, same_node, add_node, distinct}
 use Rattle.cf_law.specs.Words.{Spot}
@@ -30,8 +30,8 @@ use Rattle.cf_segments.proofs.Pigeons.{in_either}
 use Rattle.cf_segments.proofs.Nodes.{too_many}
 use Rattle.cf_segments.proofs.Zips.{zip_at, zip_back, zip_long}
 use Rattle.cf_segments.proofs.Loaded.{settled_still}
-use Rattle.cf_history.proofs.Orders.{written_append}
-use Rattle.cf_walk.proofs.Written.{mine_rows, fit_exist}
+use Rattle.cf_plain.proofs.Orders.{written_append}
+use Rattle.cf_query.proofs.Written.{mine_rows, fit_exist}
 
 -- the one book of a pass at rest
 pub only_book : (p : Pass) → Rests p → (j : ℕ) (b : Book) → Holds p j b → b ≡ book_of p

@@ -2,13 +2,13 @@
 use Rattle.std.proofs.Common.{◌≡◌, ◌<◌, ◌≤◌, ◌+◌, ◌*◌, ◌%◌, ℕ, zero, suc, inl, inr, List, [], ◌∷◌, length, get_or, All, Some, slice_get, refl, sym, ap, subst, ◌∙◌, arith, eq-eqb}
 use Rattle.std.proofs.lemmas.Bool.{ne_eqb, cases_eq}
 use Rattle.std.proofs.lemmas.Option.{slice_get_within, slice_get-get_or}
-use Rattle.cf_lemmas.proofs.Lists.{Has}
+use Rattle.cf_row.proofs.Lists.{Has}
 use Rattle.cf_row.specs.Row.{RowValue, Fits}
 use Rattle.cf_row.specs.declared.row.Entry.{Entry}
 use Rattle.cf_shape.specs.Lanes.{IsShape}
 use Rattle.cf_shape.specs.Nodes.{distinct}
-use Rattle.cf_history.specs.Order.{rows_of, written_by}
-use Rattle.cf_history.proofs.Logs.{written_own, written_other}
+use Rattle.cf_plain.specs.Order.{rows_of, written_by}
+use Rattle.cf_plain.proofs.Logs.{written_own, written_other}
 use Rattle.cf_table.specs.Values.{PassValue, LogValue}
 use Rattle.cf_segments.specs.Loaded.{HasLoaded}
 use Rattle.cf_segments.proofs.Nodes.{few_enough}

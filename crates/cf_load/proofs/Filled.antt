@@ -6,10 +6,10 @@ use Rattle.std.proofs.lemmas.List.Concat.{flat_map-append}
 use Rattle.std.proofs.lemmas.Option.{slice_get_within}
 use Rattle.std.proofs.Math.Seq.{take-append_seam, take_at}
 use Rattle.std.specs.List.{flat_map}
-use Rattle.cf_lemmas.proofs.Lists.{get_push_same, get_push_other}
+use Rattle.cf_row.proofs.Lists.{get_push_same, get_push_other}
 use Rattle.cf_row.specs.Row.{RowValue}
 use Rattle.cf_row.specs.declared.row.Entry.{Entry}
-use Rattle.cf_history.specs.Order.{rows_of, written_by}
+use Rattle.cf_plain.specs.Order.{rows_of, written_by}
 use Rattle.cf_shape.specs.Lanes.{ShapeValue}
 use Rattle.cf_shape.specs.Nodes.{distinct}
 use Rattle.cf_table.specs.Values.{PassValue, LogValue, IsOf}
@@ -26,7 +26,7 @@ use Rattle.cf_segments.specs.declared.segments.Segment.{Segment}
 use Rattle.cf_segments.proofs.Chains.{rows_are_log, told_push}
 use Rattle.cf_segments.proofs.Kept.{kept_base, kept_holds}
 use Rattle.cf_segments.proofs.Parts.{part_before, rows_append}
-use Rattle.cf_history.proofs.Orders.{written_append}
+use Rattle.cf_plain.proofs.Orders.{written_append}
 
 -- the segments, with that root in the current one
 abbrev pub filled : SegmentsValue → PassValue → SegmentsValue

@@ -10,7 +10,7 @@ use Rattle.std.specs.declared.alloc.AllocError.{AllocError}
 use Rattle.cf_row.specs.Row.{RowValue, Fits}
 use Rattle.cf_row.specs.declared.row.Entry.{Entry}
 use Rattle.cf_fold.specs.declared.trigger.Trigger.{Trigger}
-use Rattle.cf_history.specs.Order.{rows_of, written_by}
+use Rattle.cf_plain.specs.Order.{rows_of, written_by}
 use Rattle.cf_shape.specs.Lanes.{ShapeValue, IsShape}
 use Rattle.cf_shape.specs.Nodes.{distinct}
 use Rattle.cf_plain.specs.Answered.{LoadedValue, answer_on}

@@ -7,7 +7,7 @@ use Rattle.std.specs.List.{AllZip}
 use Rattle.std.proofs.lemmas.Bool.{ne_eqb}
 use Rattle.std.proofs.lemmas.List.{map-append, drop_all}
 use Rattle.std.proofs.Math.Seq.{take-length}
-use Rattle.cf_lemmas.proofs.Lists.{has_left, has_right}
+use Rattle.cf_row.proofs.Lists.{has_left, has_right}
 use Rattle.cf_row.specs.Row.{RowValue}
 use Rattle.cf_shape.specs.Lanes.{ShapeValue}
 use Rattle.cf_law.specs.Passes.{Book, Own}
@@ -20,7 +20,7 @@ use Rattle.cf_append.specs.Paths.{IsOnPath, with_nodes}
 use Rattle.cf_append.specs.Appends.{PassGoesOn, Rests, IsAppended, IsNodesFull, HasAppendAnswer, with_own, with_mark, IsReady}
 use Rattle.cf_append.specs.declared.appends.AppendFault.{AppendFault}
 use Rattle.cf_append.specs.declared.appends.AppendFault.TheVariants.{Full, NodesFull}
-use Rattle.cf_history.specs.Order.{rows_of}
+use Rattle.cf_plain.specs.Order.{rows_of}
 use Rattle.cf_segments.specs.Needed.{IsNeeded}
 use Rattle.cf_load.specs.Writing.{rows_of_book, RanOut, RunsOut, HasWritten}
 use Rattle.cf_segments.proofs.Pigeons.{in_either}

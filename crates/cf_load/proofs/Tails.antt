@@ -5,8 +5,8 @@ use Rattle.std.proofs.lemmas.List.{append-nil, map-append, map-id, map_push, tak
 use Rattle.std.proofs.lemmas.List.FromFn.{map-range_with_len_more}
 use Rattle.std.specs.List.{flat_map, range_with_len, AllByRecursion}
 use Rattle.cf_row.specs.declared.row.Entry.{Entry}
-use Rattle.cf_history.specs.History.{NeverFall}
-use Rattle.cf_history.specs.Tails.{Turn, turns_of, batches_of, IsWithinBatch}
+use Rattle.cf_plain.specs.History.{NeverFall}
+use Rattle.cf_plain.specs.Tails.{Turn, turns_of, batches_of, IsWithinBatch}
 use Rattle.cf_shape.specs.Lanes.{ShapeValue}
 use Rattle.cf_plain.specs.Asks.{eval}
 use Rattle.cf_plain.specs.declared.ask.Ask.{Ask}

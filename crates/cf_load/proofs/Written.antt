@@ -3,11 +3,11 @@ use Rattle.std.proofs.Common.{◌≡◌, ◌⊎◌, ℕ, zero, suc, ◌+◌, ◌
 use Rattle.std.proofs.lemmas.Bool.{eq-eqb, ne_eqb, cases_eq, cases_lt}
 use Rattle.std.proofs.lemmas.List.{append-nil, nil_from_length}
 use Rattle.std.specs.List.{AllByRecursion}
-use Rattle.cf_lemmas.proofs.Sums.{more_at, more_elsewhere, more_there, total, total_more, total_most, total_none, total_same}
+use Rattle.cf_row.proofs.Sums.{more_at, more_elsewhere, more_there, total, total_more, total_most, total_none, total_same}
 use Rattle.cf_row.specs.Row.{RowValue}
 use Rattle.cf_row.specs.declared.row.Entry.{Entry}
-use Rattle.cf_history.specs.Order.{rows_of, written_by}
-use Rattle.cf_history.proofs.Logs.{written_own, written_other}
+use Rattle.cf_plain.specs.Order.{rows_of, written_by}
+use Rattle.cf_plain.proofs.Logs.{written_own, written_other}
 use Rattle.cf_segments.specs.Loaded.{IsLogFrom}
 use Rattle.cf_segments.proofs.Alls.{all_append}
 use Rattle.cf_segments.proofs.Parts.{part_after, part_before, part_there}

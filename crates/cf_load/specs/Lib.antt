@@ -7,3 +7,4 @@ pub mod Loads
 pub mod Loaders
 pub mod Readers
 pub mod Rounds
+pub use Rattle.cf_query.specs.Tags

@@ -3,9 +3,9 @@ use Rattle.std.specs.Prelude.{◌≡◌, ◌⊎◌, ◌<◌, ◌≤◌, ℕ, Lis
 use Rattle.std.specs.List.{flat_map, range_with_len, AllByRecursion}
 use Rattle.cf_row.specs.Row.{RowValue}
 use Rattle.cf_row.specs.declared.row.Entry.{Entry}
-use Rattle.cf_history.specs.History.{NeverFall}
-use Rattle.cf_history.specs.Order.{rows_of, written_by}
-use Rattle.cf_history.specs.Tails.{AreTails}
+use Rattle.cf_plain.specs.History.{NeverFall}
+use Rattle.cf_plain.specs.Order.{rows_of, written_by}
+use Rattle.cf_plain.specs.Tails.{AreTails}
 use Rattle.cf_shape.specs.Lanes.{ShapeValue}
 use Rattle.cf_shape.specs.Nodes.{distinct}
 use Rattle.cf_plain.specs.Asks.{eval}

@@ -3,7 +3,7 @@ use Rattle.std.specs.Prelude.{◌≡◌, ◌⊎◌, ◌<◌, ◌≤◌, ◌*◌,
 use Rattle.std.specs.declared.alloc.AllocError.{AllocError}
 use Rattle.cf_row.specs.Row.{RowValue}
 use Rattle.cf_shape.specs.Nodes.{distinct}
-use Rattle.cf_history.specs.Order.{rows_of, written_by}
+use Rattle.cf_plain.specs.Order.{rows_of, written_by}
 use Rattle.cf_plain.specs.Answered.{LoadedValue, answer_on}
 use Rattle.cf_load.specs.declared.plan.LivePlan.{LivePlan}
 use Rattle.cf_load.specs.declared.loads.LoadFault.{LoadFault}

@@ -7,7 +7,7 @@ use Rattle.cf_table.specs.Values.{PassValue, LogValue, book_of}
 use Rattle.cf_table.specs.Moves.{Begins}
 use Rattle.cf_append.specs.Appends.{Rests}
 use Rattle.cf_append.specs.Paths.{IsOnPath}
-use Rattle.cf_history.specs.Order.{rows_of}
+use Rattle.cf_plain.specs.Order.{rows_of}
 use Rattle.cf_segments.specs.Needed.{IsNeeded, IsOut}
 
 -- the rows of a book's finished tickets, in order

@@ -6,7 +6,7 @@ ghost use Rattle.cf_plain.specs.Answered.{answer_on};
 ghost use Rattle.cf_table.specs.Values.{IsOf};
 ghost use Rattle.cf_table.specs.Moves.{HoldsAllBooks, IsReading};
 ghost use Rattle.cf_table.specs.Loads.{CountsLoads};
-ghost use Rattle.cf_walk.specs.Walks.{OnlyWalked};
+ghost use Rattle.cf_query.specs.Walks.{OnlyWalked};
 ghost use Rattle.cf_query.specs.Asking.{HasAsked};
 ghost use Rattle.cf_query.specs.Walking.{AsksOne, AsksBucket};
 ghost use Rattle.cf_load.specs.Costs.{bucket_steps, key_steps};

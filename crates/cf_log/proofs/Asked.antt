@@ -8,7 +8,7 @@ use Rattle.cf_plain.specs.Answered.{answer_on}
 use Rattle.cf_plain.specs.declared.ask.Ask.{Ask}
 use Rattle.cf_plain.specs.declared.answer.Answer.{Answer}
 use Rattle.cf_table.specs.Values.{PassValue}
-use Rattle.cf_walk.specs.Walks.{OnlyWalked}
+use Rattle.cf_query.specs.Walks.{OnlyWalked}
 
 seen_still : (m n : PassValue) → OnlyWalked m n → (n.view).seen ≡ (m.view).seen
 seen_still m n walked = ap (λ (h : PassValue). (h.view).seen) walked.same

@@ -4,7 +4,7 @@ use Rattle.std.proofs.lemmas.List.{map-append, take-append-drop}
 use Rattle.std.proofs.lemmas.Option.{slice_get_within}
 use Rattle.cf_row.specs.Row.{RowValue}
 use Rattle.cf_shape.specs.Lanes.{ShapeValue}
-use Rattle.cf_history.specs.Order.{written_by}
+use Rattle.cf_plain.specs.Order.{written_by}
 use Rattle.cf_law.specs.Passes.{Own, Book, Pass}
 use Rattle.cf_law.specs.Steps.{Holds}
 use Rattle.cf_law.specs.Events.{tabulated, no_book}
@@ -23,7 +23,7 @@ use Rattle.cf_log.specs.Writers.{rows_by, IsWriter, AreWriters, IsOpened, Append
 use Rattle.cf_log.specs.declared.passes.Opened.{Opened}
 use Rattle.cf_log.proofs.Chained.{took_more}
 use Rattle.cf_table.proofs.Homing.{book_in, some_at, still_one}
-use Rattle.cf_walk.proofs.Written.{mine_rows, fit_exist}
+use Rattle.cf_query.proofs.Written.{mine_rows, fit_exist}
 
 -- the rows of a book's tickets
 abbrev pub rows_in_book : Book → List RowValue

@@ -7,7 +7,7 @@ ghost use Rattle.cf_plain.specs.Asks.{Suits, eval, is_aggregate, is_keyed_betwee
 ghost use Rattle.cf_plain.specs.Answered.{answer_on};
 ghost use Rattle.cf_plain.specs.Groups.{groups as groups_by, as_group};
 ghost use Rattle.cf_plain.specs.Segments.{finding_in};
-ghost use Rattle.cf_walk.specs.Walks.{OnlyWalked};
+ghost use Rattle.cf_query.specs.Walks.{OnlyWalked};
 ghost use Rattle.cf_query.specs.Asking.{HasAsked};
 
 use crate::counted::{

@@ -4,7 +4,7 @@ use Rattle.std.specs.List.{flat_map, range_with_len}
 use Rattle.std.proofs.lemmas.List.{get_or-map}
 use Rattle.cf_row.specs.Row.{RowValue}
 use Rattle.cf_fold.specs.Sort.{sort}
-use Rattle.cf_history.specs.History.{AskReply}
+use Rattle.cf_plain.specs.History.{AskReply}
 use Rattle.cf_shape.specs.Lanes.{ShapeValue}
 use Rattle.cf_plain.specs.Answered.{no_ask}
 use Rattle.cf_plain.specs.Asks.{counts_for, eval_rows, places, row_at}

@@ -3,7 +3,7 @@ use Rattle.std.proofs.Common.{◌≡◌, ◌⊎◌, inl, inr, ℕ, ◌<◌, ◌�
 use Rattle.std.proofs.lemmas.Bool.{cases_lt}
 use Rattle.std.proofs.lemmas.Bool.Decides.{nat_tests}
 use Rattle.std.proofs.lemmas.List.{take_all, drop_all, take-append-drop, drop-append-le}
-use Rattle.cf_lemmas.proofs.Lists.{take_past}
+use Rattle.cf_row.proofs.Lists.{take_past}
 use Rattle.cf_pcap.specs.declared.limit.Length.{Length}
 use Rattle.cf_pcap.specs.declared.limit.Length.TheVariants.{Limited, Any}
 use Rattle.cf_pcap.specs.Limits.{IsShort, IsLong, IsAtLimit, HasRoom, IsTotal, total_on, count_on}

@@ -1,7 +1,7 @@
 -- The bytes of a stream that count.
 use Rattle.std.proofs.Common.{◌≡◌, ◌⊎◌, inl, inr, ℕ, ◌+◌, ◌-◌, ◌^◌, List, [], ◌∷◌, ◌++◌, length, take, refl, sym, ap, subst, ◌∙◌, arith, append_assoc, append-nil, length-append}
 use Rattle.std.proofs.lemmas.List.{take_all, take-append-le}
-use Rattle.cf_lemmas.proofs.Lists.{take_past}
+use Rattle.cf_row.proofs.Lists.{take_past}
 use Rattle.cf_pcap.specs.declared.limit.Length.{Length}
 use Rattle.cf_pcap.specs.declared.limit.Length.TheVariants.{Limited, Any}
 use Rattle.cf_pcap.specs.Limits.{IsShort, IsLong, IsAtLimit}

@@ -1,7 +1,7 @@
 -- What the bytes at the front show.
 use Rattle.std.proofs.Common.{◌≡◌, inl, inr, ℕ, ◌<◌, ◌≤◌, ◌+◌, ◌*◌, List, [], ◌∷◌, ◌++◌, length, Option, Some, None, refl, sym, ap, subst, ◌∙◌, arith}
 use Rattle.std.proofs.lemmas.Bool.{cases_lt}
-use Rattle.cf_lemmas.proofs.Truths.{lt_true}
+use Rattle.cf_row.proofs.Truths.{lt_true}
 use Rattle.cf_pcap.specs.Limits.{count_on, num_of}
 use Rattle.cf_pcap.proofs.Limits.{count_none}
 use Rattle.cf_pcap.specs.Format.{Found, Wants, Bad, Takes}

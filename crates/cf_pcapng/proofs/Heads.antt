@@ -2,7 +2,7 @@
 use Rattle.std.proofs.Common.{◌≡◌, inl, inr, ℕ, ◌<◌, ◌≤◌, ◌%◌, ◌^◌, ◌&&◌, ◌==◌, cond, nat_lt, nat_le, Bool, true, false, List, ◌++◌, length, Option, Some, None, refl, sym, ap, ◌∙◌, arith}
 use Rattle.std.proofs.lemmas.Bool.{cases_lt}
 use Rattle.std.proofs.lemmas.Bool.Decides.{nat_tests}
-use Rattle.cf_lemmas.proofs.Truths.{both}
+use Rattle.cf_row.proofs.Truths.{both}
 use Rattle.cf_pcap.specs.declared.form.Order.{Order}
 use Rattle.cf_pcap.specs.declared.form.Order.TheVariants.{Little, Big}
 use Rattle.cf_pcap.specs.Capture.{number_in}

@@ -14,3 +14,7 @@ pub mod Ones
 pub mod Halves
 pub mod Ascending
 pub mod Beyond
+pub use Rattle.cf_history.proofs.Logs
+pub use Rattle.cf_history.proofs.OneWriter
+pub use Rattle.cf_history.proofs.Orders
+pub use Rattle.cf_history.proofs.Spelled

@@ -24,7 +24,7 @@ use Rattle.cf_plain.specs.declared.ask.Ask.{Ask}
 use Rattle.cf_plain.specs.declared.ask.Ask.TheVariants as asks
 use Rattle.cf_plain.specs.declared.answer.Body.TheVariants as bodies
 use Rattle.cf_plain.specs.declared.finding.Finding.TheVariants as findings
-use Rattle.cf_lemmas.proofs.Truths.{both}
+use Rattle.cf_row.proofs.Truths.{both}
 use Rattle.cf_project.specs.Keeping.{is_kept, new_place}
 use Rattle.cf_project.specs.Laws.{IsAskAlike}
 use Rattle.cf_project.specs.Named.{KeepsShape, keeps_ask, keeps_expr}

@@ -3,7 +3,7 @@ use Rattle.std.proofs.Common.{◌≡◌, ◌∙◌, ℕ, zero, suc, ◌+◌, ◌
 use Rattle.std.specs.List.{list_all, list_any, range_with_len}
 use Rattle.std.proofs.lemmas.Bool.{cases_Bool}
 use Rattle.std.proofs.lemmas.List.{map_push, take_more}
-use Rattle.cf_lemmas.proofs.Truths.{both}
+use Rattle.cf_row.proofs.Truths.{both}
 pub use Rattle.cf_row.proofs.Keeping.{keep_all, keep_end, keep_fewer, keep_more, keep_none}
 use Rattle.cf_project.specs.Keeping.{is_kept, keep, new_place}
 

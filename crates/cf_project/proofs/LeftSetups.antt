@@ -12,7 +12,7 @@ use Rattle.cf_plain.specs.Asks.{suits_of}
 use Rattle.cf_plain.specs.declared.ask.Ask.{Ask}
 use Rattle.cf_plain.specs.declared.ask.Ask.TheVariants as asks
 use Rattle.cf_setup.specs.Setups.{IsSetup, SetupValue, shaped}
-use Rattle.cf_lemmas.proofs.Truths.{both}
+use Rattle.cf_row.proofs.Truths.{both}
 use Rattle.cf_project.specs.Keeping.{keep}
 use Rattle.cf_project.specs.Named.{KeepsShape, keeps_ask}
 use Rattle.cf_project.specs.Projected.{ask_kept, lane_kept}

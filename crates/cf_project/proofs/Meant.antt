@@ -16,7 +16,7 @@ use Rattle.cf_shape.specs.Nodes.{Node, add_node, distinct, levels_of, nibbles_of
 use Rattle.cf_shape.specs.declared.lane.Lane.{Lane}
 use Rattle.cf_shape.specs.declared.lane.Key.{Key}
 use Rattle.cf_shape.specs.declared.lane.Key.TheVariants as keys
-use Rattle.cf_lemmas.proofs.Truths.{both}
+use Rattle.cf_row.proofs.Truths.{both}
 use Rattle.cf_project.specs.Keeping.{is_kept, keep, new_place}
 use Rattle.cf_project.specs.Laws.{IsLaneAlike}
 use Rattle.cf_project.specs.Named.{KeepsShape, keeps_expr, keeps_key, keeps_lane, keeps_measure}

@@ -13,7 +13,7 @@ use Rattle.cf_shape.specs.declared.lane.Key.TheVariants as keys
 use Rattle.cf_plain.specs.Asks.{Suits, suits_of}
 use Rattle.cf_plain.specs.declared.ask.Ask.{Ask}
 use Rattle.cf_plain.specs.declared.ask.Ask.TheVariants as asks
-use Rattle.cf_lemmas.proofs.Truths.{both, eq_true}
+use Rattle.cf_row.proofs.Truths.{both, eq_true}
 use Rattle.cf_project.specs.Keeping.{is_kept}
 use Rattle.cf_project.specs.Named.{KeepsAsks, KeepsShape, ask_names, expr_names, is_named, keeps_ask, keeps_expr, keeps_key, keeps_lane, keeps_measure, key_names, lane_names, measure_names, named_in}
 use Rattle.cf_project.proofs.Schemas.{any_within, ts_first}

@@ -6,7 +6,7 @@ use Rattle.cf_row.specs.declared.schema.Attr.{Attr}
 use Rattle.cf_row.specs.declared.row.Value.{Value}
 use Rattle.cf_row.specs.Row.{is_of_kind, values_fit}
 use Rattle.cf_row.specs.Schema.{IsSchema, has_good_size, has_name_twice, is_named, is_time_stamp, ts_place}
-use Rattle.cf_lemmas.proofs.Truths.{both, lt_true}
+use Rattle.cf_row.proofs.Truths.{both, lt_true}
 use Rattle.cf_project.specs.Keeping.{is_kept, keep, new_place}
 use Rattle.cf_project.proofs.Keeping.{keep_all, keep_any, keep_fewer, neither}
 

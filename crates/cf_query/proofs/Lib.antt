@@ -5,3 +5,8 @@ pub mod Sealing
 pub mod Selecting
 pub mod Tagged
 pub mod Walking
+pub use Rattle.cf_walk.proofs.Keys
+pub use Rattle.cf_walk.proofs.Tallied
+pub use Rattle.cf_walk.proofs.Turns
+pub use Rattle.cf_walk.proofs.Walked
+pub use Rattle.cf_walk.proofs.Written

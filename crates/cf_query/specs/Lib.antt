@@ -4,3 +4,4 @@ pub mod Selecting
 pub mod Stretches
 pub mod Tags
 pub mod Walking
+pub use Rattle.cf_walk.specs.Walks

@@ -8,8 +8,8 @@ use Rattle.std.proofs.lemmas.List.FromFn.{length-range_with_len, get_or-range_wi
 use Rattle.std.proofs.lemmas.List.Elements.{All-filter, All-map, All-append, All-nil, All-from_recursion, recursion_from_All}
 use Rattle.cf_row.specs.declared.row.Entry.{Entry}
 use Rattle.cf_row.specs.Row.{RowValue}
-use Rattle.cf_history.specs.History.{AskReply}
-use Rattle.cf_history.specs.Tails.{Turn, turns_of, batches_of}
+use Rattle.cf_plain.specs.History.{AskReply}
+use Rattle.cf_plain.specs.Tails.{Turn, turns_of, batches_of}
 use Rattle.cf_shape.specs.Lanes.{ShapeValue}
 use Rattle.cf_plain.specs.Asks.{rows_in, row_at, counts_for, eval, eval_rows, marks_over}
 use Rattle.cf_plain.specs.declared.ask.Ask.{Ask}

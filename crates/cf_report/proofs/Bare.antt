@@ -3,8 +3,8 @@ use Rattle.std.proofs.Common.{◌≡◌, ◌<◌, ◌∙◌, ℕ, zero, suc, Lis
 use Rattle.std.specs.List.{range_with_len, flat_map}
 use Rattle.cf_row.specs.declared.row.Entry.{Entry}
 use Rattle.cf_fold.specs.Sort.{sort}
-use Rattle.cf_history.specs.History.{AskReply}
-use Rattle.cf_history.specs.Order.{order_of}
+use Rattle.cf_plain.specs.History.{AskReply}
+use Rattle.cf_plain.specs.Order.{order_of}
 use Rattle.cf_plain.specs.Answered.{LoadedValue}
 use Rattle.cf_plain.specs.Asks.{rows_in, row_at}
 use Rattle.cf_plain.specs.declared.ask.Ask.{Ask}

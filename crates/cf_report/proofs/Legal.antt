@@ -3,9 +3,9 @@ use Rattle.std.proofs.Common.{◌≡◌, ℕ, ◌≤◌, List, [], ◌∷◌, le
 use Rattle.std.proofs.lemmas.List.{take_all, length-map}
 use Rattle.std.specs.List.{AllByRecursion}
 use Rattle.cf_row.specs.declared.row.Entry.{Entry}
-use Rattle.cf_history.specs.History.{AskReply, IsToldBy, AreToldBy, NeverFall, NeverGoBack, spell, IsHistoryOf}
-use Rattle.cf_history.specs.Tails.{Turn, IsWithinBatch}
-use Rattle.cf_history.proofs.Spelled.{spelled_is_history}
+use Rattle.cf_plain.specs.History.{AskReply, IsToldBy, AreToldBy, NeverFall, NeverGoBack, spell, IsHistoryOf}
+use Rattle.cf_plain.specs.Tails.{Turn, IsWithinBatch}
+use Rattle.cf_plain.proofs.Spelled.{spelled_is_history}
 use Rattle.cf_shape.specs.Lanes.{ShapeValue}
 use Rattle.cf_plain.specs.Asks.{rows_in, eval}
 use Rattle.cf_plain.specs.declared.ask.Ask.{Ask}

@@ -3,10 +3,10 @@ use Rattle.std.proofs.Common.{◌≡◌, ℕ, ◌<◌, List, [], ◌∷◌, leng
 use Rattle.std.specs.List.{AllByRecursion, flat_map, range_with_len}
 use Rattle.cf_row.specs.Row.{RowValue}
 use Rattle.cf_row.specs.declared.row.Entry.{Entry}
-use Rattle.cf_history.specs.History.{AskReply}
-use Rattle.cf_history.specs.Order.{IsOrder, log_of}
-use Rattle.cf_history.specs.Tails.{Turn, AreTails, batches_of}
-use Rattle.cf_history.proofs.Orders.{log_of_order}
+use Rattle.cf_plain.specs.History.{AskReply}
+use Rattle.cf_plain.specs.Order.{IsOrder, log_of}
+use Rattle.cf_plain.specs.Tails.{Turn, AreTails, batches_of}
+use Rattle.cf_plain.proofs.Orders.{log_of_order}
 use Rattle.cf_shape.specs.Lanes.{ShapeValue}
 use Rattle.cf_plain.specs.Asks.{rows_in}
 use Rattle.cf_plain.specs.declared.ask.Ask.{Ask}

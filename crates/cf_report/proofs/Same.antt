@@ -9,9 +9,9 @@ use Rattle.cf_row.specs.Times.{number_at}
 use Rattle.cf_fold.specs.Sort.{sort}
 use Rattle.cf_fold.specs.declared.trigger.Trigger.{Trigger}
 use Rattle.cf_fold.proofs.Sorted.{AsOften, sort_is_one, quad_is_one}
-use Rattle.cf_history.specs.Order.{IsOrder, log_of}
-use Rattle.cf_history.proofs.Logs.{same_rows}
-use Rattle.cf_history.proofs.Orders.{log_of_order}
+use Rattle.cf_plain.specs.Order.{IsOrder, log_of}
+use Rattle.cf_plain.proofs.Logs.{same_rows}
+use Rattle.cf_plain.proofs.Orders.{log_of_order}
 use Rattle.cf_shape.specs.Lanes.{ShapeValue}
 use Rattle.cf_plain.specs.Asks.{rows_in, row_at, places, counts_for, marks_in, marks_over, eval_rows}
 use Rattle.cf_plain.specs.declared.ask.Ask.{Ask}

@@ -5,8 +5,8 @@ use Rattle.std.proofs.lemmas.List.Elements.{filter_agree}
 use Rattle.cf_row.specs.Row.{RowValue}
 use Rattle.cf_fold.specs.Quads.{quad_of}
 use Rattle.cf_fold.specs.declared.trigger.Trigger.{Trigger}
-use Rattle.cf_history.specs.History.{AskReply}
-use Rattle.cf_history.specs.Order.{IsOrder, log_of}
+use Rattle.cf_plain.specs.History.{AskReply}
+use Rattle.cf_plain.specs.Order.{IsOrder, log_of}
 use Rattle.cf_shape.specs.Lanes.{ShapeValue, lane_at, key_by, key_of, by_of, both_keys, group_key, selected_by, measure_of}
 use Rattle.cf_shape.specs.declared.lane.Key.{Key}
 use Rattle.cf_shape.specs.declared.lane.Key.TheVariants as keys

@@ -1,6 +1,6 @@
 -- Which answers of a load a report can tell.
 use Rattle.std.specs.Prelude.{◌≡◌, ℕ, ◌<◌, Bool, true, false, List, [], ◌∷◌, All, length, slice_index_or}
-use Rattle.cf_history.specs.History.{AskReply}
+use Rattle.cf_plain.specs.History.{AskReply}
 use Rattle.cf_plain.specs.Answered.{LoadedValue, no_ask}
 use Rattle.cf_plain.specs.declared.ask.Ask.{Ask}
 use Rattle.cf_plain.specs.declared.ask.Ask.TheVariants as asks

@@ -2,8 +2,8 @@
 use Rattle.std.specs.Prelude.{◌≡◌, ℕ, ◌<◌, List, length}
 use Rattle.cf_row.specs.Row.{RowValue}
 use Rattle.cf_row.specs.declared.row.Entry.{Entry}
-use Rattle.cf_history.specs.History.{IsHistoryOf, spell}
-use Rattle.cf_history.specs.Order.{IsOrder, log_of}
+use Rattle.cf_plain.specs.History.{IsHistoryOf, spell}
+use Rattle.cf_plain.specs.Order.{IsOrder, log_of}
 use Rattle.cf_plain.specs.Asks.{rows_in, eval}
 use Rattle.cf_setup.specs.Setups.{SetupValue, IsSetup, shaped}
 use Rattle.cf_shape.specs.Lanes.{ShapeValue}

@@ -3,9 +3,9 @@ use Rattle.std.specs.Prelude.{◌≡◌, ℕ, List, [], ◌∷◌, length, map, 
 use Rattle.std.specs.List.{AllByRecursion}
 use Rattle.cf_row.specs.Row.{RowValue}
 use Rattle.cf_row.specs.declared.row.Entry.{Entry}
-use Rattle.cf_history.specs.History.{AskReply, IsHistoryOf, AreToldBy, spell}
-use Rattle.cf_history.specs.Order.{IsOrder, log_of}
-use Rattle.cf_history.specs.Tails.{AreTails}
+use Rattle.cf_plain.specs.History.{AskReply, IsHistoryOf, AreToldBy, spell}
+use Rattle.cf_plain.specs.Order.{IsOrder, log_of}
+use Rattle.cf_plain.specs.Tails.{AreTails}
 use Rattle.cf_shape.specs.Lanes.{ShapeValue}
 use Rattle.cf_plain.specs.Asks.{rows_in, eval, eval_rows, marks_over}
 use Rattle.cf_plain.specs.declared.ask.Ask.{Ask}

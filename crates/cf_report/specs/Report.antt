@@ -7,8 +7,8 @@ use Rattle.std.specs.declared.option.Option.TheVariants.{Some, None}
 use Rattle.cf_row.specs.Row.{RowValue}
 use Rattle.cf_row.specs.declared.row.Entry.{Entry}
 use Rattle.cf_fold.specs.Sort.{sort}
-use Rattle.cf_history.specs.History.{AskReply}
-use Rattle.cf_history.specs.Order.{runs_of}
+use Rattle.cf_plain.specs.History.{AskReply}
+use Rattle.cf_plain.specs.Order.{runs_of}
 use Rattle.cf_plain.specs.Asks.{rows_in}
 use Rattle.cf_plain.specs.declared.ask.Ask.{Ask}
 use Rattle.cf_plain.specs.declared.answer.Body.{Body}

@@ -3,7 +3,7 @@
 use Rattle.std.specs.Prelude.{ℕ, List, [], ◌++◌, length, take, slice_index_or, codes, decimal}
 use Rattle.std.specs.List.{flat_map, range_with_len}
 use Rattle.cf_row.specs.Row.{RowValue}
-use Rattle.cf_history.specs.History.{AskReply}
+use Rattle.cf_plain.specs.History.{AskReply}
 use Rattle.cf_plain.specs.declared.ask.Ask.{Ask}
 use Rattle.cf_plain.specs.declared.answer.Body.{Body}
 use Rattle.cf_setup.specs.Setups.{SetupValue}

@@ -1,7 +1,7 @@
 -- The text of a report of some answers over a log, by its form.
 use Rattle.std.specs.Prelude.{ℕ, List}
 use Rattle.cf_row.specs.declared.row.Entry.{Entry}
-use Rattle.cf_history.specs.Order.{order_of}
+use Rattle.cf_plain.specs.Order.{order_of}
 use Rattle.cf_plain.specs.Asks.{rows_in}
 use Rattle.cf_setup.specs.Setups.{SetupValue}
 use Rattle.cf_report.specs.declared.text.Form.{Form}

@@ -1,6 +1,6 @@
 // The line of a log's order.
 ghost use Rattle.std.specs.Prelude.{◌≡◌, ◌<◌, ◌≤◌, ◌++◌, ◌∷◌, [], length, drop, OnOk, string_bytes};
-ghost use Rattle.cf_history.specs.Order.{order_of};
+ghost use Rattle.cf_plain.specs.Order.{order_of};
 ghost use Rattle.cf_report.specs.Report.{order_line};
 ghost use Rattle.cf_report.specs.Runs.{IsRun, IsWriterAt};
 

@@ -1,3 +1,7 @@
+pub mod Lists
+pub mod Truths
+pub mod Sums
+pub mod Ranges
 pub mod Fitting
 pub mod Counts
 pub mod Bytes

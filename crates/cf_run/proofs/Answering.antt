@@ -36,7 +36,7 @@ use Rattle.cf_fill.specs.Work.{draws, drawn_rows}
 use Rattle.cf_run.specs.Hosts.{rows_told, ends_told}
 use Rattle.cf_run.specs.declared.reply.WorkReply.{WorkReply}
 use Rattle.cf_run.specs.declared.reply.WorkReply.TheVariants as replies
-use Rattle.cf_load.specs.Planned.{tails_of}
+use Rattle.cf_fill.specs.Planned.{tails_of}
 use Rattle.cf_run.proofs.Counted.{seals_within}
 use Rattle.cf_run.proofs.Deciding.{one_due, lawful_done}
 use Rattle.cf_intake.proofs.Several.{files_refusal}

@@ -3,8 +3,8 @@ use Rattle.std.proofs.Common.{◌≡◌, ℕ, ◌+◌, ◌-◌, ◌*◌, ◌/◌
 use Rattle.std.proofs.Math.Nat.{mul-div-le, lt_of_mul-lt-mul_left}
 use Rattle.cf_command.specs.declared.words.LogSizes.{LogSizes}
 use Rattle.cf_command.specs.Call.{AreSizes}
-use Rattle.cf_history.specs.Order.{IsOrder, log_of}
-use Rattle.cf_history.proofs.Orders.{log_of_order}
+use Rattle.cf_plain.specs.Order.{IsOrder, log_of}
+use Rattle.cf_plain.proofs.Orders.{log_of_order}
 use Rattle.cf_row.specs.Row.{RowValue}
 use Rattle.cf_row.specs.declared.row.Entry.{Entry}
 use Rattle.cf_table.specs.Moves.{SealValue}

@@ -9,8 +9,8 @@ use Rattle.std.proofs.lemmas.List.FromFn.{get_or-map-range_with_len, length-rang
 use Rattle.cf_row.specs.Row.{RowValue}
 use Rattle.cf_row.specs.declared.row.Entry.{Entry}
 use Rattle.cf_follow.specs.Followed.{truncated_line}
-use Rattle.cf_history.specs.History.{AskReply}
-use Rattle.cf_history.proofs.OneWriter.{alone}
+use Rattle.cf_plain.specs.History.{AskReply}
+use Rattle.cf_plain.proofs.OneWriter.{alone}
 use Rattle.cf_plain.specs.Asks.{Suits, eval_rows, rows_in}
 use Rattle.cf_plain.specs.declared.ask.Ask.{Ask}
 use Rattle.cf_plain.specs.declared.answer.Answer.{Answer}

@@ -24,7 +24,7 @@ use Rattle.cf_outside.specs.Causes.{Rose}
 use Rattle.cf_outside.specs.declared.shelf.OpenFault.{OpenFault}
 use Rattle.cf_outside.specs.declared.shelf.OpenFault.TheVariants as open_faults
 use Rattle.cf_row.specs.declared.packet6.PacketSchema.{PacketSchema}
-use Rattle.cf_rounds.specs.Held.{RoundsValue}
+use Rattle.cf_follow.specs.Held.{RoundsValue}
 use Rattle.cf_setup.specs.Setups.{SetupValue}
 use Rattle.cf_setup.specs.declared.source.Source.{Source}
 use Rattle.cf_setup.specs.declared.source.Source.TheVariants.{Packets, Records}

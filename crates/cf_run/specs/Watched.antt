@@ -8,7 +8,7 @@ use Rattle.cf_intake.specs.Files.{HasFile, HasLeft, IsFileAs, setups}
 use Rattle.cf_intake.specs.Reads.{view_by}
 use Rattle.cf_outside.specs.Files.{File}
 use Rattle.cf_row.specs.declared.packet6.PacketSchema.{PacketSchema}
-use Rattle.cf_rounds.specs.Held.{RoundsValue}
+use Rattle.cf_follow.specs.Held.{RoundsValue}
 use Rattle.cf_setup.specs.Setups.{SetupValue}
 use Rattle.cf_setup.specs.declared.source.Source.TheVariants.{Packets}
 use Rattle.cf_run.specs.Refusals.{ending_status}

@@ -12,10 +12,9 @@ ghost use Rattle.cf_run.specs.Watched.{IsOpened};
 
 use crate::Status;
 use cf_command::WatchCommand;
-use cf_follow::{Watch, follow};
+use cf_follow::{Intervals, Watch, follow};
 use cf_intake::{Halt, Refusal, Stop, read_setup, write_all};
 use cf_outside::{OpenFault, Shelf, Sink};
-use cf_rounds::Intervals;
 use cf_row::PacketSchema;
 use cf_setup::{Setup, Source};
 use std::alloc::Global;

@@ -6,7 +6,7 @@ ghost use Rattle.cf_plain.specs.Asks.{Suits, rows_in};
 ghost use Rattle.cf_plain.specs.Segments.{finding_in};
 ghost use Rattle.cf_query.specs.Stretches.{goes_over_all as goes_over_all_of};
 ghost use Rattle.cf_table.specs.Moves.{IsReading};
-ghost use Rattle.cf_walk.specs.Walks.{OnlyWalked};
+ghost use Rattle.cf_query.specs.Walks.{OnlyWalked};
 ghost use Rattle.cf_scan.specs.Parts.{HasScanned, IsPart, IsScanned, behind, entries_in};
 
 use crate::parts::{Part, push_parts};

@@ -6,10 +6,10 @@ use Rattle.std.proofs.lemmas.List.{length-take, map-append, take-append-drop, dr
 use Rattle.std.proofs.lemmas.Option.{slice_get-get_or}
 use Rattle.std.proofs.lemmas.List.Concat.{flat_map-append}
 use Rattle.std.specs.List.{All, flat_map, AllZip}
-use Rattle.cf_lemmas.proofs.Lists.{get_push_same, get_push_other, has_left}
+use Rattle.cf_row.proofs.Lists.{get_push_same, get_push_other, has_left}
 use Rattle.cf_row.specs.Row.{RowValue}
 use Rattle.cf_row.specs.declared.row.Entry.{Entry}
-use Rattle.cf_history.specs.Order.{rows_of, written_by, IsLogOf}
+use Rattle.cf_plain.specs.Order.{rows_of, written_by, IsLogOf}
 use Rattle.cf_law.specs.Passes.{Pass}
 use Rattle.cf_shape.specs.Lanes.{ShapeValue}
 use Rattle.cf_table.specs.Values.{PassValue, LogValue, IsOf}
@@ -23,7 +23,7 @@ use Rattle.cf_segments.proofs.Loaded.{opened, settled_still}
 use Rattle.cf_segments.proofs.Zips.{zip_back, zip_long, zip_append}
 use Rattle.cf_segments.proofs.Blocks.{first_block, whole_block, next_block}
 use Rattle.cf_segments.proofs.Parts.{part_after, part_before, rows_append}
-use Rattle.cf_history.proofs.Orders.{written_append}
+use Rattle.cf_plain.proofs.Orders.{written_append}
 
 -- a part of what lies behind a list
 part_behind : {X : Type 0} (m i j : ℕ) (xs ys : List X) → i ≡ length xs + j → take m (drop i (xs ++ ys)) ≡ take m (drop j ys)

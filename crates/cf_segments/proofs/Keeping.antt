@@ -7,7 +7,7 @@ use Rattle.cf_row.specs.Row.{RowValue}
 use Rattle.cf_table.specs.Values.{PassValue, LogValue, IsOf}
 use Rattle.cf_table.specs.Moves.{HoldsAllBooks}
 use Rattle.cf_query.specs.Asking.{HasAsked}
-use Rattle.cf_walk.specs.Walks.{OnlyWalked}
+use Rattle.cf_query.specs.Walks.{OnlyWalked}
 use Rattle.cf_segments.specs.Loaded.{HasLoaded}
 use Rattle.cf_segments.specs.Segments.{Keeps}
 use Rattle.cf_segments.proofs.Loaded.{still_loaded}

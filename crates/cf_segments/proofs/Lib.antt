@@ -1,6 +1,6 @@
 pub mod Zips
-pub mod Pigeons
-pub mod Nodes
+pub use Rattle.cf_alone.proofs.Pigeons
+pub use Rattle.cf_alone.proofs.Nodes
 pub mod Alls
 pub mod Parts
 pub mod Loaded

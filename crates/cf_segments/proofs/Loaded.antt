@@ -4,7 +4,7 @@ use Rattle.std.proofs.lemmas.List.{take_all, drop_all}
 use Rattle.std.proofs.lemmas.Option.{slice_get_within}
 use Rattle.cf_row.specs.Row.{RowValue}
 use Rattle.cf_row.specs.declared.row.Entry.{Entry}
-use Rattle.cf_history.specs.Order.{rows_of, written_by}
+use Rattle.cf_plain.specs.Order.{rows_of, written_by}
 use Rattle.cf_shape.specs.Lanes.{ShapeValue}
 use Rattle.cf_law.specs.Words.{Spot}
 use Rattle.cf_law.specs.Events.{tabulated, no_book}
@@ -15,7 +15,7 @@ use Rattle.cf_table.specs.Values.{PassValue, LogValue, IsOf}
 use Rattle.cf_table.specs.Rule.{root_pass}
 use Rattle.cf_table.specs.Moves.{HoldsAllBooks}
 use Rattle.cf_table.proofs.Homing.{opened as opened_settled}
-use Rattle.cf_segments.specs.Needed.{HasNodes}
+use Rattle.cf_alone.specs.Needed.{HasNodes}
 use Rattle.cf_segments.specs.Loaded.{IsLogFrom, HasLoaded}
 
 -- no part of an empty list has anything

@@ -3,7 +3,7 @@ use Rattle.std.proofs.Common.{◌≡◌, ℕ, suc, ◌+◌, ◌%◌, ◌≤◌, 
 use Rattle.std.proofs.lemmas.Bool.{eq-eqb, ne_eqb, cases_eq}
 use Rattle.std.proofs.lemmas.List.{length-drop, take_all, take-append-le, drop_at, drop_all, drop-append-le}
 use Rattle.cf_row.specs.Row.{RowValue}
-use Rattle.cf_history.specs.Order.{rows_of}
+use Rattle.cf_plain.specs.Order.{rows_of}
 
 -- a writer's rows of two parts
 pub rows_append : (writers w k : ℕ) (rows more : List RowValue)

@@ -1,5 +1,5 @@
 pub mod Blocks
-pub mod Needed
+pub use Rattle.cf_alone.specs.Needed
 pub mod Loaded
 pub mod Segments
 pub mod Readers

@@ -3,10 +3,10 @@ use Rattle.std.specs.Prelude.{◌≡◌, ◌<◌, ◌+◌, ◌*◌, ℕ, List, l
 use Rattle.std.specs.List.{AllByRecursion}
 use Rattle.cf_row.specs.Row.{RowValue}
 use Rattle.cf_row.specs.declared.row.Entry.{Entry}
-use Rattle.cf_history.specs.Order.{batch, rows_of, written_by}
+use Rattle.cf_plain.specs.Order.{batch, rows_of, written_by}
 use Rattle.cf_table.specs.Values.{PassValue, LogValue, IsOf}
 use Rattle.cf_table.specs.Moves.{HoldsAllBooks}
-use Rattle.cf_segments.specs.Needed.{HasNodes}
+use Rattle.cf_alone.specs.Needed.{HasNodes}
 
 -- A log of rows of which the first is row number `first`, so that each row stands in it once: in each batch each writer's entries
 -- are its rows of that batch, in order.

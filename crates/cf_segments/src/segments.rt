@@ -1,7 +1,7 @@
 // A log goes on through several segments.
 ghost use Rattle.std.specs.Prelude.{◌≡◌, ◌+◌, ◌<◌, ◌≤◌, ◌↔◌, ◌++◌, [], All, length, map, vec_capacity, IfOk, MatchResult, OnErr, OnOk};
 ghost use Rattle.std.specs.List.{AllZip, flat_map};
-ghost use Rattle.cf_history.specs.Order.{order_of};
+ghost use Rattle.cf_plain.specs.Order.{order_of};
 ghost use Rattle.cf_shape.specs.Lanes.{ShapeValue, IsShape};
 ghost use Rattle.cf_table.specs.Values.{IsOf};
 ghost use Rattle.cf_query.specs.Tags.{nums_of};

@@ -6,7 +6,7 @@ use Rattle.std.proofs.lemmas.Option.{slice_get-get_or}
 use Rattle.std.proofs.lemmas.List.Sums.{fold-append}
 use Rattle.cf_append.specs.declared.appends.AppendFault.{AppendFault}
 use Rattle.cf_append.specs.declared.appends.AppendFault.TheVariants.{NodesFull}
-use Rattle.cf_lemmas.proofs.Lists.{has_left}
+use Rattle.cf_row.proofs.Lists.{has_left}
 use Rattle.cf_plain.specs.Answered.{answer_on}
 use Rattle.cf_plain.specs.Asks.{rows_in, eval, eval_rows}
 use Rattle.cf_plain.specs.declared.ask.Ask.{Ask}
@@ -14,8 +14,8 @@ use Rattle.cf_plain.specs.declared.answer.Answer.{Answer}
 use Rattle.cf_plain.specs.declared.answer.Body.{Body}
 use Rattle.cf_row.specs.Row.{RowValue, Fits}
 use Rattle.cf_row.specs.declared.row.Entry.{Entry}
-use Rattle.cf_segments.proofs.Pigeons.{in_either}
-use Rattle.cf_segments.specs.Needed.{IsNeeded}
+use Rattle.cf_alone.proofs.Pigeons.{in_either}
+use Rattle.cf_alone.specs.Needed.{IsNeeded}
 use Rattle.cf_shape.specs.Lanes.{ShapeValue}
 use Rattle.cf_shape.specs.Nodes.{distinct}
 use Rattle.cf_law.specs.Words.{Spot}

@@ -12,9 +12,9 @@ use Rattle.cf_plain.specs.Asks.{rows_in}
 use Rattle.cf_row.proofs.Bytes.{both}
 use Rattle.cf_row.specs.Row.{RowValue, Fits}
 use Rattle.cf_row.specs.declared.row.Entry.{Entry}
-use Rattle.cf_segments.proofs.Nodes.{few_enough, too_many}
-use Rattle.cf_segments.proofs.Pigeons.{from_map, in_either}
-use Rattle.cf_segments.specs.Needed.{HasNodes, IsNeeded, IsOut}
+use Rattle.cf_alone.proofs.Nodes.{few_enough, too_many}
+use Rattle.cf_alone.proofs.Pigeons.{from_map, in_either}
+use Rattle.cf_alone.specs.Needed.{HasNodes, IsNeeded, IsOut}
 use Rattle.cf_shape.specs.Lanes.{IsShape}
 use Rattle.cf_table.specs.Moves.{HasPaths}
 use Rattle.cf_table.specs.Values.{LogValue, PassValue, book_of}

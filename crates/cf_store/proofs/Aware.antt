@@ -8,11 +8,11 @@ use Rattle.cf_law.specs.Passes.{Pass}
 use Rattle.cf_plain.specs.Asks.{row_at, rows_in}
 use Rattle.cf_table.specs.Values.{PassValue, LogValue, IsOf}
 use Rattle.cf_table.specs.Moves.{AreFit, OnlyLooked, IsReading}
-use Rattle.cf_walk.specs.Walks.{OnlyWalked}
+use Rattle.cf_query.specs.Walks.{OnlyWalked}
 use Rattle.cf_query.specs.Asking.{HasAsked}
 use Rattle.cf_table.proofs.Reading.{no_entry}
 use Rattle.cf_query.proofs.Walking.{walked_looked}
-use Rattle.cf_walk.proofs.Tallied.{row_is, fits_of}
+use Rattle.cf_query.proofs.Tallied.{row_is, fits_of}
 
 pub asked_aware : (log : LogValue) (m n : PassValue) → IsOf m log → HasAsked log.shape m n → IsReading log n
 asked_aware log m n of asked = record {

@@ -4,7 +4,7 @@ use Rattle.cf_row.specs.declared.row.Entry.{Entry}
 use Rattle.cf_shape.specs.Lanes.{ShapeValue}
 use Rattle.cf_setup.specs.Setups.{IsSetup, SetupValue}
 use Rattle.cf_table.specs.Values.{LogValue, PassValue}
-use Rattle.cf_walk.specs.Walks.{OnlyWalked}
+use Rattle.cf_query.specs.Walks.{OnlyWalked}
 use Rattle.cf_report.specs.Answered.{IsAnswering}
 use Rattle.cf_report.specs.Meaning.{AreMeant}
 use Rattle.cf_report.specs.Tags.{bare}

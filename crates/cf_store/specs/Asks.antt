@@ -16,7 +16,7 @@ use Rattle.cf_setup.specs.Setups.{SetupValue}
 use Rattle.cf_setup.specs.SetupText.{SetupText}
 use Rattle.cf_plain.specs.Asks.{Suits, eval, row_at, rows_in}
 use Rattle.cf_plain.specs.Groups.{groups, first_key, other_key}
-use Rattle.cf_walk.specs.Walks.{OnlyWalked}
+use Rattle.cf_query.specs.Walks.{OnlyWalked}
 use Rattle.cf_table.specs.Moves.{OnlyLooked}
 use Rattle.cf_table.specs.Values.{PassValue}
 use Rattle.cf_query.specs.Asking.{HasAsked}

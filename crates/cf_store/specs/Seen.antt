@@ -2,7 +2,7 @@
 use Rattle.std.specs.Prelude.{◌≤◌, ℕ, List, [], map}
 use Rattle.cf_row.specs.declared.row.Entry.{Entry}
 use Rattle.cf_shape.specs.Lanes.{ShapeValue}
-use Rattle.cf_history.specs.History.{IsHistoryOf, spell}
+use Rattle.cf_plain.specs.History.{IsHistoryOf, spell}
 use Rattle.cf_plain.specs.Asks.{eval, rows_in}
 use Rattle.cf_plain.specs.Answered.{LoadedValue, answer_on}
 use Rattle.cf_setup.specs.Setups.{SetupValue}

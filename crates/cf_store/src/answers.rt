@@ -4,7 +4,7 @@ ghost use Rattle.cf_plain.specs.Asks.{Suits, SuitsTrigger, marks_over, rows_in};
 ghost use Rattle.cf_plain.specs.Answered.{answer_on};
 ghost use Rattle.cf_table.specs.Values.{IsOf};
 ghost use Rattle.cf_table.specs.Moves.{AreFit, IsReading};
-ghost use Rattle.cf_walk.specs.Walks.{OnlyWalked};
+ghost use Rattle.cf_query.specs.Walks.{OnlyWalked};
 
 use cf_fold::Trigger;
 use cf_log::ask_seen;

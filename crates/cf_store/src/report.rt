@@ -2,7 +2,7 @@
 ghost use Rattle.std.specs.Prelude.{◌≡◌, All, IfOk};
 ghost use Rattle.cf_plain.specs.Asks.{Suits, SuitsTrigger};
 ghost use Rattle.cf_setup.specs.Setups.{IsSetup};
-ghost use Rattle.cf_walk.specs.Walks.{OnlyWalked};
+ghost use Rattle.cf_query.specs.Walks.{OnlyWalked};
 ghost use Rattle.cf_table.specs.Moves.{IsReading};
 ghost use Rattle.cf_store.specs.Seen.{answered_on, seen_text};
 

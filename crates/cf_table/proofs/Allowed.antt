@@ -3,7 +3,7 @@ use Rattle.std.proofs.Common.{◌≡◌, ℕ, ◌+◌, ◌==◌, ◌<◌, ◌≤
 use mathlib.Core.Option.{some, some-injective, some-ne-none}
 use lib.ListN.{get_elem?}
 use prog.Atomic.{either}
-use Rattle.cf_lemmas.proofs.Truths.{eq_false}
+use Rattle.cf_row.proofs.Truths.{eq_false}
 use Rattle.atomic_table.specs.Table.{State, Allows, Act, keeps, stepped}
 use Rattle.atomic_table.proofs.Lists.{set_else}
 use Rattle.std.proofs.lemmas.Bool.{cases_Bool}

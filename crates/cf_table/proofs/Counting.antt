@@ -4,7 +4,7 @@ use Rattle.std.specs.Bool.{nat_lt}
 use Rattle.std.proofs.Math.Seq.{take-length}
 use Rattle.std.proofs.lemmas.Bool.{cases_lt, cases_Bool}
 use Rattle.std.proofs.lemmas.Bool.Decides.{nat_tests}
-use Rattle.cf_lemmas.proofs.Sums.{more_at, total, total_more, total_most, total_none, total_same}
+use Rattle.cf_row.proofs.Sums.{more_at, total, total_more, total_most, total_none, total_same}
 use Rattle.cf_row.specs.declared.row.Entry.{Entry}
 use Rattle.cf_shape.specs.Lanes.{ShapeValue}
 use Rattle.cf_law.specs.Passes.{Own, Book, Pass}

@@ -1,7 +1,7 @@
 -- The passes come home one by one.
 use Rattle.std.proofs.Common.{◌≡◌, ℕ, ◌+◌, ◌<◌, inl, inr, zero, suc, List, [], ◌∷◌, ◌++◌, length, get_or, take, append_assoc, append-nil, Some, None, slice_get, refl, sym, ap, subst, ◌∙◌, arith}
 use Rattle.std.proofs.Math.Seq.{take-length}
-use Rattle.cf_lemmas.proofs.Lists.{get_back, has_left}
+use Rattle.cf_row.proofs.Lists.{get_back, has_left}
 use Rattle.cf_shape.specs.Lanes.{ShapeValue}
 use Rattle.cf_law.specs.Passes.{Book, Pass}
 use Rattle.cf_law.specs.Steps.{IsAtRest, Holds}

@@ -4,8 +4,8 @@ use Rattle.std.proofs.Math.Seq.{drop-cons}
 use Rattle.std.proofs.lemmas.Bool.{cases_Bool}
 use Rattle.std.proofs.lemmas.Option.{slice_get-get_or, slice_get-map}
 use Rattle.std.proofs.lemmas.List.{length-map, map-append}
-use Rattle.cf_lemmas.proofs.Lists.{get_push_other, get_push_same}
-use Rattle.cf_lemmas.proofs.Truths.{eq_from, eq_true}
+use Rattle.cf_row.proofs.Lists.{get_push_other, get_push_same}
+use Rattle.cf_row.proofs.Truths.{eq_from, eq_true}
 use Rattle.cf_table.proofs.Calls.{Holding}
 use Rattle.cf_law.specs.Passes.{Book}
 use Rattle.cf_law.specs.Steps.{new_pass, without}

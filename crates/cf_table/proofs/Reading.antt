@@ -5,7 +5,7 @@ use Rattle.std.proofs.lemmas.Bool.{cases_Bool}
 use Rattle.std.proofs.lemmas.Bool.Decides.{nat_tests}
 use Rattle.std.proofs.lemmas.Option.{get_or_from_slice_get, slice_get-get_or, slice_get_within}
 use Rattle.std.proofs.lemmas.List.{get_or-set_same, get_or-set_other, take_more}
-use Rattle.cf_lemmas.proofs.Truths.{eq_from, eq_true}
+use Rattle.cf_row.proofs.Truths.{eq_from, eq_true}
 use Rattle.cf_row.specs.Row.{values_fit}
 use Rattle.cf_row.specs.Words.{IsEntry, word_count, spelled}
 use Rattle.cf_row.specs.declared.row.Entry.{Entry}

@@ -3,3 +3,4 @@ pub mod Effects
 pub mod Rule
 pub mod Moves
 pub mod Loads
+pub use Rattle.cf_law.specs.Passes

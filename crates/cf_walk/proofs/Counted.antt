@@ -1,7 +1,7 @@
 -- What walks went by past what was seen: how many steps that takes.
 use Rattle.std.proofs.Common.{◌≡◌, ◌∙◌, ℕ, zero, suc, ◌+◌, ◌-◌, ◌<◌, ◌≤◌, ◌⊎◌, inl, inr, List, [], ◌∷◌, ◌++◌, length, Bool, true, false, cond, slice_get, refl, sym, ap, ap₂, subst, arith}
 use Rattle.std.proofs.lemmas.Bool.{cases_Bool, cases_eq}
-use Rattle.cf_lemmas.proofs.Truths.{eq_false}
+use Rattle.cf_row.proofs.Truths.{eq_false}
 use Rattle.cf_shape.specs.Lanes.{ShapeValue}
 use Rattle.cf_law.specs.Words.{has}
 use Rattle.cf_law.proofs.Chains.{has_more, has_first, has_rest, has_nothing}

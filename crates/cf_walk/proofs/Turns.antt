@@ -1,7 +1,7 @@
 -- The way down a lane's tree.
 use Rattle.std.proofs.Common.{◌≡◌, ◌∙◌, ℕ, zero, suc, ◌+◌, ◌-◌, ◌*◌, ◌/◌, ◌%◌, ◌^◌, ◌<◌, ◌≤◌, List, [], ◌∷◌, ◌++◌, length, Bool, cond, Some, slice_get, refl, sym, ap, ap₂, subst, arith}
 use Rattle.std.proofs.Math.Nat.{pow-suc, pow-succ', div-div-eq-div-mul}
-use Rattle.cf_lemmas.proofs.Truths.{eq_false, eq_true}
+use Rattle.cf_row.proofs.Truths.{eq_false, eq_true}
 use Rattle.cf_row.specs.declared.row.Entry.{Entry}
 use Rattle.cf_shape.specs.Lanes.{ShapeValue, IsShape}
 use Rattle.cf_shape.specs.Nodes.{levels_of}

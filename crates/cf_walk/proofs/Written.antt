@@ -3,7 +3,7 @@ use Rattle.std.proofs.Common.{◌≡◌, ℕ, suc, ◌<◌, ◌==◌, List, [], 
 use Rattle.std.proofs.lemmas.Bool.{cases_Bool}
 use Rattle.std.specs.List.{AllByRecursion}
 use Rattle.cf_row.specs.declared.row.Entry.{Entry}
-use Rattle.cf_history.specs.Order.{written_by}
+use Rattle.cf_plain.specs.Order.{written_by}
 use Rattle.cf_law.specs.Passes.{Own}
 use Rattle.cf_law.specs.Readers.{mine_from}
 

@@ -23,8 +23,8 @@ use Rattle.cf_plain.specs.declared.ask.Ask.TheVariants as asks
 use Rattle.cf_plain.specs.declared.finding.Finding.{Finding}
 use Rattle.cf_plain.specs.declared.finding.Finding.TheVariants as findings
 use Rattle.cf_plain.proofs.Totals.{map_agree}
-use Rattle.cf_segments.proofs.Nodes.{fold_apart, fold_from, nothing_apart}
-use Rattle.cf_segments.proofs.Pigeons.{no_more}
+use Rattle.cf_alone.proofs.Nodes.{fold_apart, fold_from, nothing_apart}
+use Rattle.cf_alone.proofs.Pigeons.{no_more}
 use Rattle.cf_window.specs.Segments.{HasEnough, WindowSegmentValue, most_nodes, with_nodes}
 use Rattle.cf_window.specs.Windows.{takes}
 use Rattle.cf_window.proofs.Holding.{length_range, path_long}

@@ -4,12 +4,12 @@ use Rattle.std.specs.List.{flat_map, range_with_len, fold}
 use Rattle.std.proofs.lemmas.Bool.Decides.{nat_tests}
 use Rattle.std.proofs.lemmas.List.{length-map}
 use Rattle.std.proofs.lemmas.List.Elements.{All-append}
-use Rattle.cf_lemmas.proofs.Lists.{get_push_same}
+use Rattle.cf_row.proofs.Lists.{get_push_same}
 use Rattle.cf_row.specs.Row.{RowValue}
 use Rattle.cf_shape.specs.Lanes.{ShapeValue, IsShape, selected_by, key_of}
 use Rattle.cf_shape.specs.Nodes.{Node, levels_of, path_of, nodes_in, nodes_for, add_node, distinct}
-use Rattle.cf_segments.proofs.Nodes.{fold_apart, fold_from, nothing_apart}
-use Rattle.cf_segments.proofs.Pigeons.{no_more}
+use Rattle.cf_alone.proofs.Nodes.{fold_apart, fold_from, nothing_apart}
+use Rattle.cf_alone.proofs.Pigeons.{no_more}
 use Rattle.cf_window.specs.Segments.{WindowSegmentValue, with_row}
 use Rattle.cf_window.specs.Held.{IsOfShape, IsOpenLast, IsWindow}
 use Rattle.cf_window.specs.Windows.{takes}

@@ -3,7 +3,7 @@ use Rattle.std.proofs.Common.{◌≡◌, ◌∙◌, ℕ, ◌*◌, ◌<◌, ◌�
 use Rattle.std.proofs.lemmas.Bool.{cases_Bool}
 use Rattle.std.proofs.lemmas.Bool.Decides.{nat_tests}
 use Rattle.std.proofs.lemmas.List.{length-map, map-append}
-use Rattle.cf_lemmas.proofs.Lists.{has_left, get_push_same}
+use Rattle.cf_row.proofs.Lists.{has_left, get_push_same}
 use Rattle.cf_row.specs.Row.{RowValue, Fits}
 use Rattle.cf_row.specs.declared.row.Entry.{Entry}
 use Rattle.cf_row.proofs.Bytes.{both}
@@ -22,9 +22,9 @@ use Rattle.cf_append.specs.declared.appends.AppendFault.{AppendFault}
 use Rattle.cf_append.specs.declared.appends.AppendFault.TheVariants.{Full, NodesFull}
 use Rattle.cf_append.specs.Paths.{IsOnPath}
 use Rattle.cf_plain.specs.Asks.{rows_in}
-use Rattle.cf_segments.specs.Needed.{IsNeeded, IsOut, HasNodes}
-use Rattle.cf_segments.proofs.Nodes.{too_many, few_enough}
-use Rattle.cf_segments.proofs.Pigeons.{in_either, from_map}
+use Rattle.cf_alone.specs.Needed.{IsNeeded, IsOut, HasNodes}
+use Rattle.cf_alone.proofs.Nodes.{too_many, few_enough}
+use Rattle.cf_alone.proofs.Pigeons.{in_either, from_map}
 use Rattle.cf_alone.specs.Alone.{IsAlone, HasCovered, HasUsedFor}
 use Rattle.std.specs.declared.alloc.AllocError.{AllocError}
 use Rattle.cf_plain.specs.Segments.{finding_in}

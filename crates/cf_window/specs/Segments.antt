@@ -2,7 +2,7 @@
 use Rattle.std.specs.Prelude.{◌≡◌, ◌⊎◌, ℕ, ◌*◌, ◌≤◌, Bool, true, false, List, [], ◌∷◌, ◌++◌, length}
 use Rattle.cf_row.specs.Row.{RowValue}
 use Rattle.cf_shape.specs.Lanes.{ShapeValue}
-use Rattle.cf_segments.specs.Needed.{HasNodes}
+use Rattle.cf_alone.specs.Needed.{HasNodes}
 use Rattle.cf_plain.specs.Asks.{rows_in}
 use Rattle.cf_alone.specs.Alone.{IsAlone}
 use Rattle.cf_table.specs.Values.{PassValue, LogValue}

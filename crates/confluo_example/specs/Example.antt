@@ -5,7 +5,7 @@ use Rattle.cf_row.specs.Row.{RowValue}
 use Rattle.cf_row.specs.declared.row.Entry.{Entry}
 use Rattle.cf_row.specs.declared.row.Value.TheVariants.{Num}
 use Rattle.cf_shape.specs.Lanes.{ShapeValue}
-use Rattle.cf_history.specs.Order.{written_by}
+use Rattle.cf_plain.specs.Order.{written_by}
 use Rattle.cf_plain.specs.Answered.{answer_on}
 use Rattle.cf_plain.specs.declared.answer.Body.{Body}
 use Rattle.cf_plain.specs.declared.answer.Body.TheVariants as bodies

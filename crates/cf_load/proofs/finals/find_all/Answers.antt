@@ -5,7 +5,7 @@ use Rattle.cf_row.specs.declared.row.Entry.{Entry}
 use Rattle.cf_shape.specs.Lanes.{ShapeValue}
 use denote.Ref.{Bor}
 use Rattle.cf_table.specs.Values.{LogValue, PassValue}
-use Rattle.cf_walk.specs.Walks.{OnlyWalked}
+use Rattle.cf_query.specs.Walks.{OnlyWalked}
 use Rattle.cf_load.specs.Costs.{bucket_steps, key_steps}
 use Rattle.cf_load.specs.Priors.{HasFound}
 use Rattle.cf_table.specs.Moves.{IsReading}

@@ -1,7 +1,7 @@
 use Rattle.std.proofs.Common.{◌≡◌, take, ◌≤◌, ◌+◌, ◌*◌}
 use Rattle.std.specs.List.{flat_map}
 use Rattle.cf_query.specs.Walking.{AsksOne, AsksBucket}
-use Rattle.cf_walk.specs.Walks.{OnlyWalked}
+use Rattle.cf_query.specs.Walks.{OnlyWalked}
 use Rattle.cf_load.specs.Costs.{CountLoads, bucket_steps_in, key_steps_in}
 use Rattle.cf_load.specs.Priors.{HasFound}
 use Rattle.cf_load.specs.Readers.{seen_by}

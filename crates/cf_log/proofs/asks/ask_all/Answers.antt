@@ -1,4 +1,4 @@
-use Rattle.cf_walk.proofs.Walked.{of_walked}
+use Rattle.cf_query.proofs.Walked.{of_walked}
 use Rattle.cf_query.proofs.Walking.{asked_walked}
 use Rattle.cf_log.proofs.Asked.{answers_more}
 use Rattle.cf_log.proofs.asks.ask_all.Goals as goal

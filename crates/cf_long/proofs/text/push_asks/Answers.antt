@@ -1,6 +1,6 @@
 use Rattle.std.proofs.Common.{◌≡◌, ◌∙◌, ◌<◌, ◌++◌, get_or, length, rules, ap, string_bytes}
 use Rattle.std.proofs.lemmas.List.{get_or_default}
-use Rattle.cf_lemmas.proofs.Ranges.{step_range}
+use Rattle.cf_row.proofs.Ranges.{step_range}
 use Rattle.cf_plain.specs.declared.answer.Body.{Body}
 use Rattle.cf_long.specs.Texts.{no_body, placed_line, placed_line_at}
 use Rattle.cf_long.proofs.text.push_asks.Goals as goal

@@ -1,5 +1,5 @@
 use Rattle.std.proofs.Common.{string_bytes}
-use Rattle.cf_lemmas.proofs.Ranges.{step_range}
+use Rattle.cf_row.proofs.Ranges.{step_range}
 use Rattle.cf_report.specs.Report.{alert_lines_at}
 use Rattle.cf_report.proofs.lines.push_alerts.Goals as goal
 

@@ -1,6 +1,6 @@
 use Rattle.std.proofs.Common.{◌≡◌, ◌<◌, get_or, length, sym, ap, ap₂, ◌∙◌, string_bytes, ◌++◌}
-use Rattle.cf_lemmas.proofs.Ranges.{step_range}
-use Rattle.cf_history.specs.History.{AskReply}
+use Rattle.cf_row.proofs.Ranges.{step_range}
+use Rattle.cf_plain.specs.History.{AskReply}
 use Rattle.cf_plain.specs.Asks.{rows_in}
 use Rattle.cf_plain.specs.declared.ask.Ask.{Ask}
 use Rattle.cf_plain.specs.declared.answer.Body.{Body}

@@ -1,6 +1,6 @@
 use Rattle.std.proofs.Common.{◌≡◌, ◌<◌, ◌++◌, length, get_or, ap, ◌∙◌, string_bytes}
 use Rattle.std.proofs.lemmas.List.{get_or_default}
-use Rattle.cf_lemmas.proofs.Ranges.{step_range}
+use Rattle.cf_row.proofs.Ranges.{step_range}
 use Rattle.cf_row.specs.Row.{value_at}
 use Rattle.cf_row.specs.declared.schema.Attr.{Attr}
 use Rattle.cf_report.specs.Dump.{attr_at, no_attr, field_at, field_text}

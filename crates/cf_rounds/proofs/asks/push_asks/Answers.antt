@@ -1,5 +1,5 @@
 use Rattle.std.proofs.Common.{◌≡◌, ◌∙◌, ◌++◌, List, ap, arith, length, string_bytes}
-use Rattle.cf_lemmas.proofs.Ranges.{step_range}
+use Rattle.cf_row.proofs.Ranges.{step_range}
 use Rattle.cf_plain.specs.declared.ask.Ask.{Ask}
 use Rattle.cf_window.specs.Held.{WindowValue}
 use Rattle.cf_rounds.specs.Held.{view_in}

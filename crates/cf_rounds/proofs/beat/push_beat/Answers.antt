@@ -1,5 +1,5 @@
 use Rattle.std.proofs.Common.{string_bytes}
-use Rattle.cf_lemmas.proofs.Ranges.{step_range}
+use Rattle.cf_row.proofs.Ranges.{step_range}
 use Rattle.cf_rounds.specs.Lines.{total_line_at}
 use Rattle.cf_rounds.proofs.beat.push_beat.Goals as goal
 

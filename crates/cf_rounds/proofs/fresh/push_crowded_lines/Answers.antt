@@ -1,6 +1,6 @@
 use Rattle.std.proofs.Common.{◌<◌, ◌∙◌, ◌++◌, List, [], ℕ, ap, ap₂, arith, length, sym, string_bytes}
 use Rattle.std.specs.List.{flat_map}
-use Rattle.cf_lemmas.proofs.Ranges.{step_range}
+use Rattle.cf_row.proofs.Ranges.{step_range}
 use Rattle.cf_watch.specs.Watched.{watched_count, watched_crowds, watched_crowds_told}
 use Rattle.cf_watch.specs.declared.watched.Watched.{Watched}
 use Rattle.cf_watch.proofs.Told.{told_more}

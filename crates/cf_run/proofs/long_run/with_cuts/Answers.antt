@@ -1,5 +1,5 @@
 use Rattle.std.proofs.Common.{[], string_bytes}
-use Rattle.cf_lemmas.proofs.Ranges.{step_range}
+use Rattle.cf_row.proofs.Ranges.{step_range}
 use Rattle.cf_run.specs.Lengths.{cut_line_at}
 use Rattle.cf_run.proofs.long_run.with_cuts.Goals as goal
 

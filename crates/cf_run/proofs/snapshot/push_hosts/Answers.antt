@@ -6,7 +6,7 @@ use Rattle.cf_report.specs.Tags.{bare_entry}
 use Rattle.cf_row.specs.Row.{RowValue}
 use Rattle.cf_run.specs.Hosts.{host_lines_at, rows_covered}
 use Rattle.cf_snapshot.specs.Courses.{CourseValue}
-use Rattle.cf_lemmas.proofs.Ranges.{step_range}
+use Rattle.cf_row.proofs.Ranges.{step_range}
 use Rattle.cf_run.proofs.Taken.{answers_within, host_answered, host_lines, rows_front}
 use Rattle.cf_run.proofs.snapshot.push_hosts.Goals as goal
 

@@ -3,7 +3,7 @@ use Rattle.std.specs.List.{flat_map}
 use Rattle.std.proofs.lemmas.List.{flat_map_more}
 use Rattle.std.proofs.lemmas.List.Elements.{All-append, All-from_recursion}
 use Rattle.cf_row.specs.declared.row.Entry.{Entry}
-use Rattle.cf_law.specs.Passes.{Pass}
+use Rattle.cf_table.specs.Passes.{Pass}
 use Rattle.cf_table.specs.Values.{PassValue}
 use Rattle.cf_query.specs.Stretches.{stretch}
 use Rattle.cf_scan.specs.Parts.{IsPart, entries_in}

@@ -1,6 +1,6 @@
 use Rattle.std.proofs.Common.{◌≡◌, ◌++◌, take}
 use Rattle.std.specs.List.{flat_map}
-use Rattle.cf_history.specs.Order.{order_of}
+use Rattle.cf_plain.specs.Order.{order_of}
 use Rattle.cf_query.specs.Tags.{nums_of}
 use Rattle.cf_segments.specs.Segments.{HasLooked, seen_of}
 use Rattle.cf_segments.proofs.Changing.{Changed}

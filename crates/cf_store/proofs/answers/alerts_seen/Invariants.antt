@@ -1,6 +1,6 @@
 use Rattle.std.proofs.Common.{◌≡◌, map, take}
 use Rattle.cf_plain.specs.Asks.{marks_over, rows_in}
-use Rattle.cf_walk.specs.Walks.{OnlyWalked}
+use Rattle.cf_query.specs.Walks.{OnlyWalked}
 use Rattle.cf_store.proofs.answers.alerts_seen.Given as goal
 
 abbrev pub invariant-loop-k : goal.invariant-loop-k

@@ -1,6 +1,6 @@
 use Rattle.std.proofs.Common.{◌≡◌, map, take}
 use Rattle.cf_plain.specs.Answered.{answer_on}
-use Rattle.cf_walk.specs.Walks.{OnlyWalked}
+use Rattle.cf_query.specs.Walks.{OnlyWalked}
 use Rattle.cf_store.proofs.answers.answers_seen.Given as goal
 
 abbrev pub invariant-loop-q : goal.invariant-loop-q

@@ -3,7 +3,7 @@ use Rattle.std.proofs.lemmas.Result.{IfOk-weaker}
 use Rattle.cf_row.specs.declared.row.Entry.{Entry}
 use Rattle.cf_plain.specs.Answered.{LoadedValue}
 use Rattle.cf_query.proofs.Walking.{walked_looked, walked_seen}
-use Rattle.cf_walk.proofs.Walked.{walked_then}
+use Rattle.cf_query.proofs.Walked.{walked_then}
 use Rattle.cf_report.specs.Answered.{IsAnswering}
 use Rattle.cf_report.specs.Tags.{bare}
 use Rattle.cf_report.specs.Text.{text_of}

@@ -1,6 +1,6 @@
 use Rattle.std.proofs.Common.{◌≡◌, ◌∙◌, length, ap, ap₂, sym, rules}
 use Rattle.std.proofs.lemmas.List.{length-map}
-use Rattle.cf_history.specs.Order.{order_of}
+use Rattle.cf_plain.specs.Order.{order_of}
 use Rattle.cf_row.specs.declared.row.Entry.{Entry}
 use Rattle.cf_query.specs.Tags.{nums_of}
 use Rattle.cf_report.specs.Tags.{bare_log}

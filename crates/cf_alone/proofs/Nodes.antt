@@ -5,8 +5,8 @@ use Rattle.std.proofs.lemmas.List.{length-map}
 use Rattle.std.proofs.lemmas.Nat.{pow-add}
 use Rattle.std.proofs.Math.Nat.{pow-suc, div-lt_iff_lt-mul}
 use Rattle.std.proofs.lemmas.Bool.{cases_Bool, and_from}
-use Rattle.cf_lemmas.proofs.Lists.{Has, has_flat, has_map}
-use Rattle.cf_lemmas.proofs.Truths.{eq_from}
+use Rattle.cf_row.proofs.Lists.{Has, has_flat, has_map}
+use Rattle.cf_row.proofs.Truths.{eq_from}
 use Rattle.cf_row.specs.Row.{RowValue, Fits}
 use Rattle.cf_row.specs.declared.row.Entry.{Entry}
 use Rattle.cf_row.proofs.Bytes.{both}
@@ -19,10 +19,10 @@ use Rattle.cf_law.specs.Shapes.{path_in}
 use Rattle.cf_law.proofs.Nibbles.{length-nibbles, nibbles_more, same_from_nibbles}
 use Rattle.cf_append.proofs.Distinct.{on_path_node}
 use Rattle.cf_law.proofs.Paths.{path_some}
-use Rattle.cf_walk.proofs.Turns.{nibbles_split}
-use Rattle.cf_walk.proofs.Keys.{key_small}
-use Rattle.cf_segments.specs.Needed.{IsNeeded, IsOut, HasNodes}
-use Rattle.cf_segments.proofs.Pigeons.{AreApart, no_more, from_flat, flat_most, from_map}
+use Rattle.cf_query.proofs.Turns.{nibbles_split}
+use Rattle.cf_query.proofs.Keys.{key_small}
+use Rattle.cf_alone.specs.Needed.{IsNeeded, IsOut, HasNodes}
+use Rattle.cf_alone.proofs.Pigeons.{AreApart, no_more, from_flat, flat_most, from_map}
 
 -- the spot of a node
 abbrev pub spot_at : Node → Spot

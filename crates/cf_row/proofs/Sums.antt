@@ -1,7 +1,7 @@
 -- Sums of a function over the numbers below one.
 use Rattle.std.proofs.Common.{◌≡◌, ℕ, ◌+◌, ◌<◌, ◌≤◌, ◌==◌, zero, suc, cond, Bool, inl, inr, refl, ap, ◌∙◌, arith}
 use Rattle.std.proofs.lemmas.Bool.{cases_lt, cases_Bool}
-use Rattle.cf_lemmas.proofs.Truths.{eq_from, eq_true}
+use Rattle.cf_row.proofs.Truths.{eq_from, eq_true}
 
 -- the sum over the numbers below n
 abbrev pub total : ℕ → (ℕ → ℕ) → ℕ

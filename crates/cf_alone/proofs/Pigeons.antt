@@ -2,7 +2,7 @@
 use Rattle.std.proofs.Common.{◌≡◌, ◌⊎◌, ℕ, ◌*◌, ◌≤◌, zero, suc, inl, inr, List, [], ◌∷◌, ◌++◌, length, length-append, map, Some, slice_get, refl, ap, sym, ◌∙◌, arith}
 use Rattle.std.specs.List.{flat_map}
 use Rattle.std.proofs.Math.Nat.{suc-mul}
-use Rattle.cf_lemmas.proofs.Lists.{Has}
+use Rattle.cf_row.proofs.Lists.{Has}
 
 -- nothing stands at two places
 abbrev pub AreApart : {A : Type 0} → List A → Type 0

@@ -1,4 +1,0 @@
-pub mod Lists
-pub mod Truths
-pub mod Sums
-pub mod Ranges
