@@ -34,7 +34,10 @@ def build(folder):
     here = ROOT / "bench"
     flags = ["cc", "-std=c11", "-O2", "-pthread"]
     library = ROOT / "bindings" / "out" / "libconfluo.a"
-    subprocess.run([*flags, f"-I{ROOT / 'bindings'}", here / "library_speed.c", library, "-o", folder / "library"], check=True)
+    subprocess.run(
+        [*flags, f"-I{ROOT / 'bindings'}", here / "library_speed.c", library, "-o", folder / "library"],
+        check=True,
+    )
     subprocess.run([*flags, here / "plain_twin.c", "-o", folder / "twin"], check=True)
     built = {"library": folder / "library", "C twin": folder / "twin"}
     if shutil.which("rustc"):

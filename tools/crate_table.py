@@ -3,8 +3,9 @@
 
     tools/crate_table.py [--check]
 
-The comment lines of crates.txt name the layers. With --check nothing is written: ends with 1 if the table differs, or if a
-crate stands before one of its own layer that it needs. Needs only the standard library.
+The comment lines of crates.txt name the layers. With --check nothing is written: ends with 1 if the table differs, if a crate
+stands before one of its own layer that it needs, or if it lists one that its text does not name. The command that proves the crates
+goes over each path from a crate to those below it, so one needless name near the top costs minutes. Needs only the standard library.
 """
 
 import pathlib
@@ -56,6 +57,21 @@ def out_of_order(layers):
             yield from (f"{crate} stands before {it}" for it in needs if it in names[at:])
 
 
+def text_of(crate):
+    """All that a crate says in its code, definitions and proofs."""
+    folder = ROOT / "crates" / crate
+    files = (it for part in ("src", "specs", "proofs") for it in (folder / part).rglob("*.*"))
+    return "\n".join(it.read_text() for it in sorted(files) if it.suffix in (".rt", ".antt"))
+
+
+def unnamed(layers, said=text_of):
+    """Crates that list one, of ours or of the kit's, that they do not name."""
+    for _, crates in layers:
+        for crate, needs in crates:
+            words = set(re.findall(r"\w+", said(crate)))
+            yield from (f"{crate} lists {it}, and does not name it" for it in needs if it not in words)
+
+
 def page_with(table, page):
     """The page with that table in place of its own."""
     start = page.index(HEAD)
@@ -69,7 +85,7 @@ def wrong():
     page = PAGE.read_text()
     if page != page_with(table_of(layers), page):
         yield "docs/ARCHITECTURE.md has another table of crates than tools/crate_table.py writes"
-    yield from (f"crates.txt: {it}" for it in out_of_order(layers))
+    yield from (f"crates.txt: {it}" for it in [*out_of_order(layers), *unnamed(layers)])
 
 
 def main():

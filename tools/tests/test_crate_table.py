@@ -30,6 +30,16 @@ class CrateTable(unittest.TestCase):
         found = list(crate_table.out_of_order([("base", [("high", ["low"]), ("low", [])])]))
         self.assertEqual(found, ["high stands before low"])
 
+    def test_a_crate_that_is_listed_and_not_named_is_found(self):
+        texts = {
+            "low": "",
+            "high": "use low::Row;",
+            "program": "use high::run;",
+            "ffi": "ghost use Rattle.low.specs.Row",
+        }
+        found = list(crate_table.unnamed(crate_table.layers_of(LIST), texts.get))
+        self.assertEqual(found, ["program lists low, and does not name it"])
+
     def test_the_repository_agrees_with_its_list(self):
         self.assertEqual(list(crate_table.wrong()), [])
 
