@@ -222,7 +222,20 @@ class Program(Cases):
         words = ("run", "--setup", "s", "--writers", "1", "--nodes", "24", "c")
         self.check(words, 0, "records 4\nask a find 2: 1 2\norder 0*4\n")
         # A scan needs no node.
-        words = ("run", "--setup", "s", "--writers", "1", "--capacity", "2", "--nodes", "0", "--live", "1", "c")
+        words = (
+            "run",
+            "--setup",
+            "s",
+            "--writers",
+            "1",
+            "--capacity",
+            "2",
+            "--nodes",
+            "0",
+            "--live",
+            "1",
+            "c",
+        )
         setup, rows = b"schema records ts:u64,len:u16\nask b list len>=100\n", b"ts,len\n0,60\n0,100\n"
         self.check(words, 0, "records 2\nask b list 1: 1\norder 0*2\n", s=setup, c=rows)
 
