@@ -1,15 +1,16 @@
-use Rattle.std.proofs.Common.{◌∙◌, ◌+◌, ◌-◌, ◌*◌, ◌≤◌, inr, length, map, List, ap, sym, arith}
+use Rattle.std.proofs.Common.{◌∙◌, ◌+◌, ◌-◌, ◌*◌, ◌≤◌, inr, length, map, List, ap, refl, sym, arith, rules}
 use Rattle.cf_row.specs.Words.{word_count}
 use Rattle.cf_row.specs.declared.row.Entry.{Entry}
 use Rattle.cf_shape.specs.Lanes.{ShapeValue}
-use Rattle.cf_append.specs.Appends.{HasMade}
-use Rattle.cf_append.specs.Paths.{KeepsSeen}
-use Rattle.cf_append.proofs.Appending.{may_begin}
+use Rattle.cf_table.specs.Values.{book_of}
+use Rattle.cf_append.specs.Appends.{HasMade, with_mark, with_own}
+use Rattle.cf_append.specs.Paths.{KeepsSeen, with_nodes}
+use Rattle.cf_append.proofs.Appending.{may_begin, rests_by}
 use Rattle.cf_append.proofs.Pathing.{filings_still, filings_leaves, leaf_of, remembers_still}
 use Rattle.cf_append.proofs.Cells.{may_close}
 use Rattle.cf_append.proofs.Settling.{knows_still, goes_then}
 use Rattle.cf_append.proofs.Walking.{strides_then}
-use Rattle.cf_append.proofs.Whole.{goes_by, HasBegun, HasCells, HasEnded, begun_book, begun_self, begun_filings, cells_self, cells_writer, ended_strides, appended, appended_stops, late, late_strides, all_steps, path_within}
+use Rattle.cf_append.proofs.Whole.{goes_by, HasBegun, HasCells, HasEnded, begun_book, begun_self, begun_filings, cells_self, cells_writer, ended_strides, appended, appended_stops, late, late_strides, took_first, all_steps, path_within}
 use Rattle.cf_append.proofs.appends.append_near.Given.{Over}
 use Rattle.cf_append.proofs.appends.append_near.Goals as goal
 use Rattle.cf_append.proofs.appends.append_near.Goals.{After-fill, After-fill_cells}
@@ -25,15 +26,16 @@ take_ticket-found-requires-clause-lawful g c =
     let is = c.num-number.ensures in
     let low = c.num-number.type_inv in
     let over = ap (λ b. b.over) (Rattle.cf_table.proofs.Mays.the_book c.make_paths.new.pass.view _ c.make_paths.ensures.made.used.books) in
-    may_begin c.args.log.now.shape c.make_paths.new.pass.view c.args.row.now c.requires.fits (omega (arith, is, low)) c.make_paths.ensures.made.rest
+    may_begin c.args.log.now.shape c.make_paths.new.pass.view c.args.row.now c.requires.may.fits (omega (arith, is, low)) c.make_paths.ensures.made.rest
     (over ∙ (sym c.over.ensures ∙ c.if-over.false))
 
-pub returns-then-found-from-clause-answer : goal.returns-then-found-from-clause-answer
-returns-then-found-from-clause-answer g c =
+pub returns-then-found-from-clause-appended : goal.returns-then-found-from-clause-appended
+returns-then-found-from-clause-appended g c =
     let s = c.args.log.now.shape in
     let row = c.args.row.now in
     let m = c.args.pass.now in
     let p = c.make_paths.new.pass in
+    let q = c.take_ticket-found.new.pass in
     let past = c.if-found-from.true in
     let wide = c.from.ensures in
     let room = c.capacity.ensures.capacity ∙ ap (λ (x : ShapeValue). x.capacity) c.shape.ensures.shape in
@@ -44,8 +46,16 @@ returns-then-found-from-clause-answer g c =
       leaves = map leaf_of c.in-Some.filed;
       whole = filings_leaves s row p.view c.in-Some.filed (length s.lanes) c.shape.ensures.lawful (omega arith) c.in-Some.ensures.made.answer;
     } in
-    inr (late s row m p c.take_ticket-found.new.pass c.take_ticket-found.result (sym c.over.ensures ∙ c.if-over.false) P
-    (omega (arith, past, wide, room)) c.take_ticket-found.ensures.made)
+    let is = late s row m p q c.take_ticket-found.result (sym c.over.ensures ∙ c.if-over.false) P (omega (arith, past, wide, room))
+    c.take_ticket-found.ensures.made in
+    record {
+      goes_on = goes_by m q (strides_then m p q c.make_paths.ensures.made.strides (late_strides s p q c.take_ticket-found.result row c.take_ticket-found.ensures.made));
+      rest = rests_by q.view (with_mark (with_nodes is.paths.used.spots is.paths.used.label (book_of m.view))) is.books c.requires.may.rest.free;
+      answer = inr is;
+      begins = λ so. took_first s p q c.take_ticket-found.result row c.take_ticket-found.ensures.made;
+      stops = search rules;
+      alone = λ one. search rules;
+    }
 
 pub returns-then-found-from-clause-steps : goal.returns-then-found-from-clause-steps
 returns-then-found-from-clause-steps g c =
@@ -175,33 +185,29 @@ stepped g c =
     let seven = c.move_tail.ensures.steps in
     omega (arith, before, after, two, three, four, five, six, seven)
 
-pub returns-clause-answer : goal.returns-clause-answer
-returns-clause-answer g c =
-    appended c.args.log.now.shape c.args.row.now c.args.pass.now c.make_paths.new.pass c.take_ticket-found.new.pass c.fill.new.pass c.fill_cells.new.pass
-    c.link_all.new.pass c.finish_record.new.pass c.move_tail.new.pass c.take_ticket-found.result
-    (sym c.over.ensures ∙ c.if-over.false) (made g c) (ended g c) c.move_tail.ensures.books c.move_tail.ensures.stops
-
-pub returns-clause-stops : goal.returns-clause-stops
-returns-clause-stops g c =
-    appended_stops c.args.log.now.shape c.args.row.now c.args.pass.now c.make_paths.new.pass c.take_ticket-found.new.pass c.fill.new.pass
-    c.fill_cells.new.pass c.link_all.new.pass c.finish_record.new.pass c.move_tail.new.pass c.take_ticket-found.result (made g c) (ended g c)
-    c.move_tail.ensures.stops
-
-pub returns-then-found-from-clause-goes_on : goal.returns-then-found-from-clause-goes_on
-returns-then-found-from-clause-goes_on g c =
+pub returns-clause-appended : goal.returns-clause-appended
+returns-clause-appended g c =
     let s = c.args.log.now.shape in
+    let row = c.args.row.now in
     let m = c.args.pass.now in
     let p = c.make_paths.new.pass in
-    let t = c.take_ticket-found.new.pass in
-    goes_by m t (strides_then m p t c.make_paths.ensures.made.strides
-    (late_strides s p t c.take_ticket-found.result c.args.row.now c.take_ticket-found.ensures.made))
-
-pub returns-clause-goes_on : goal.returns-clause-goes_on
-returns-clause-goes_on g c =
-    let m = c.args.pass.now in
     let d = c.finish_record.new.pass in
-    goes_then m d c.move_tail.new.pass (goes_by m d (strides_then m c.make_paths.new.pass d c.make_paths.ensures.made.strides (went g c)))
-    c.move_tail.ensures.goes_on
+    let z = c.move_tail.new.pass in
+    let o = c.take_ticket-found.result in
+    let made = made g c in
+    let ended = ended g c in
+    let moved = c.move_tail.ensures.moved in
+    let is = appended s row m p c.take_ticket-found.new.pass c.fill.new.pass c.fill_cells.new.pass c.link_all.new.pass d z o
+    (sym c.over.ensures ∙ c.if-over.false) made ended moved.books moved.stops in
+    let rest = rests_by z.view (with_own o row (with_nodes is.paths.used.spots is.paths.used.label (book_of m.view))) is.books refl in
+    record {
+      goes_on = goes_then m d z (goes_by m d (strides_then m p d c.make_paths.ensures.made.strides (went g c))) moved.goes_on;
+      rest = rest;
+      answer = is;
+      begins = λ so. moved.begins;
+      stops = appended_stops s row m p c.take_ticket-found.new.pass c.fill.new.pass c.fill_cells.new.pass c.link_all.new.pass d z o made ended moved.stops;
+      alone = λ one. moved.alone one rest;
+    }
 
 pub returns-then-found-from-clause-near : goal.returns-then-found-from-clause-near
 returns-then-found-from-clause-near g c =

@@ -1,4 +1,4 @@
-use Rattle.std.proofs.Common.{ℕ, List, ◌*◌, ◌∙◌, ◌≡◌, ◌+◌, ◌-◌, ◌/◌, ◌%◌, ◌∷◌, Some, false, true, ap, sym, subst, arith}
+use Rattle.std.proofs.Common.{ℕ, List, ◌∙◌, ◌≡◌, ◌-◌, ◌/◌, ◌%◌, ◌∷◌, Some, false, true, ap, sym, subst, arith}
 use Rattle.std.proofs.lemmas.Grind.{common_steps}
 use Rattle.cf_shape.proofs.Bounds.{ticket_few}
 use Rattle.cf_shape.specs.Nodes.{levels_of}
