@@ -9,7 +9,6 @@ use Rattle.cf_fold.specs.declared.cell.CellWords.{CellWords}
 use Rattle.cf_fold.proofs.Lawful.{AreLow, quad_is_lawful}
 use Rattle.cf_shape.specs.Lanes.{ShapeValue, IsShape, lane_at, measure_of}
 use Rattle.cf_shape.specs.Places.Slot.{cell}
-use Rattle.cf_shape.specs.Places.WordName.{version}
 use Rattle.cf_shape.proofs.Measured.{measure_low}
 use Rattle.cf_shape.proofs.Used.{before_fits, version_at}
 use Rattle.cf_row.specs.Words.{word_count}

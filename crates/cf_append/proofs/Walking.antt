@@ -9,10 +9,12 @@ use Rattle.cf_law.specs.Events.{no_book}
 use Rattle.cf_law.specs.Steps.{Holds, free_node, Knows, Reaches, IsChild, pass_with_node, pass_with_look, book_with_label, book_with_node, pass_with_book}
 use Rattle.cf_law.specs.Shapes.{layout}
 use Rattle.cf_law.proofs.Moves.{at_either}
-use Rattle.cf_table.specs.Values.{PassValue, book_of}
+use Rattle.cf_table.specs.Values.{PassValue, LogValue, book_of}
+use Rattle.cf_table.specs.Loads.{CountsLoads}
 use Rattle.cf_table.specs.Effects.{HasStepped, HasSteppedUnseen, child_effect, label_effect, link_effect}
 use Rattle.cf_table.proofs.Mays.{the_book}
 use Rattle.cf_append.specs.Appends.{Rests}
+use Rattle.cf_append.specs.Calls.{HasMadeNodes}
 use Rattle.cf_append.specs.Paths.{KeepsSeen, HasUsed, LacksNode, IsNodeOf, with_nodes}
 use Rattle.cf_append.proofs.Appending.{rests_by}
 
@@ -199,6 +201,21 @@ only : (s r : Spot) (j : ℕ) → slice_get (s ∷ []) j ≡ Some r → r ≡ s
 only s r zero at = cc at
 only s r (suc j) at = absurd (cc at)
 
+-- a node was labelled and linked
+pub used_won : (shape : ShapeValue) (m n o z : PassValue) (s : Spot) (t : Slot) (node value found : ℕ) → Rests m.view → (n.view).books ≡ (m.view).books
+    → HasSteppedUnseen shape (label_effect n.view node value) n o → HasStepped shape (link_effect o.view s t node) o found z → found ≡ 0
+    → HasUsed (λ r. r ≡ s) m z
+used_won shape m n o z s t node value found rest same stored made won =
+    let here = label_books shape n o node value (rests_same m n rest same) stored in
+    let before = ap (λ (b : Book). book_with_label value b) (same_book m n same) in
+    let after = the_book o.view (book_with_label value (book_of n.view)) here in
+    let still = rests_by o.view (book_with_label value (book_of n.view)) here (ap (λ (b : Book). b.flight) before ∙ rest.free) in record {
+      spots = s ∷ [];
+      label = 0;
+      books = link_won shape o z s t node found made won still ∙ ap (λ (b : Book). book_with_node s b ∷ []) (after ∙ before);
+      on = λ j r at. only s r j at;
+    }
+
 pub used_then : (On : Spot → Type 0) (m n o : PassValue) → HasUsed On m n → HasUsed On n o → HasUsed On m o
 used_then On m n o a b =
     let same : book_of n.view ≡ with_nodes a.spots a.label (book_of m.view) = the_book n.view (with_nodes a.spots a.label (book_of m.view)) a.books in record {
@@ -232,10 +249,53 @@ stuck_by shape P Q l m n more went a = record {
 }
 
 -- what is answered at last: where none was left, that is so since an earlier time too
-pub stuck_or : (shape : ShapeValue) (P Q : Spot → Type 0) (l m n : PassValue) (Good : ℕ → Type 0) (r : Option ℕ) → ((s : Spot) → P s → Q s) → KeepsSeen l m
+pub stuck_or : {T : Type 0} (shape : ShapeValue) (P Q : Spot → Type 0) (l m n : PassValue) (Good : T → Type 0) (r : Option T) → ((s : Spot) → P s → Q s) → KeepsSeen l m
     → MatchOption r (LacksNode shape P m n) Good → MatchOption r (LacksNode shape Q l n) Good
 stuck_or shape P Q l m n Good None more went a = stuck_by shape P Q l m n more went a
-stuck_or shape P Q l m n Good (Some node) more went a = a
+stuck_or shape P Q l m n Good (Some answer) more went a = a
 
 pub one_book : (p : Pass) (b : Book) → p.books ≡ b ∷ [] → p.books ≡ book_of p ∷ []
 one_book p b one = one ∙ ap (λ (c : Book). c ∷ []) (sym (the_book p b one))
+
+-- Nodes were made for spots that are Q, too.
+pub made_by : {T : Type 0} (log : LogValue) (P Q : Spot → Type 0) (Means : Pass → T → Type 0) (m n : PassValue) (k l : ℕ) (r : Option T)
+    → ((s : Spot) → P s → Q s) → HasMadeNodes log P Means m n k l r → HasMadeNodes log Q Means m n k l r
+made_by log P Q Means m n k l r more a = record {
+  of = a.of;
+  rest = a.rest;
+  strides = a.strides;
+  used = used_by P Q m n more a.used;
+  answer = stuck_or log.shape P Q m m n (Means n.view) r more (strides_none m) a.answer;
+  begins = a.begins;
+  loads = a.loads;
+}
+
+-- none was left, whatever an answer would have meant
+pub made_none : {T U : Type 0} (log : LogValue) (P Q : Spot → Type 0) (Means : Pass → T → Type 0) (Other : Pass → U → Type 0) (m n : PassValue) (k l : ℕ)
+    → ((s : Spot) → P s → Q s) → HasMadeNodes log P Means m n k l None → HasMadeNodes log Q Other m n k l None
+made_none log P Q Means Other m n k l more a = record {
+  of = a.of;
+  rest = a.rest;
+  strides = a.strides;
+  used = used_by P Q m n more a.used;
+  answer = stuck_by log.shape P Q m m n more (strides_none m) a.answer;
+  begins = a.begins;
+  loads = a.loads;
+}
+
+-- after others were made for such spots
+pub made_then : {T : Type 0} (log : LogValue) (Q : Spot → Type 0) (Means : Pass → T → Type 0) (m n o : PassValue) (k l i : ℕ) (r : Option T) → KeepsSeen m n
+    → HasUsed Q m n → CountsLoads m n k l → HasMadeNodes log Q Means n o l i r → HasMadeNodes log Q Means m o k i r
+made_then log Q Means m n o k l i r went used loads a = record {
+  of = a.of;
+  rest = a.rest;
+  strides = strides_then m n o went a.strides;
+  used = used_then Q m n o used a.used;
+  answer = stuck_or log.shape Q Q m n o (Means o.view) r (λ s on. on) went a.answer;
+  begins = a.begins;
+  loads = (let more = a.loads in omega (arith, loads, more));
+}
+
+-- the pass is at rest after nodes were used
+pub rests_used : (On : Spot → Type 0) (m n : PassValue) → Rests m.view → HasUsed On m n → Rests n.view
+rests_used On m n rest used = rests_by n.view (with_nodes used.spots used.label (book_of m.view)) used.books rest.free

@@ -1,16 +1,18 @@
 -- What appending and settling do to a writer's pass.
-use Rattle.std.specs.Prelude.{ℕ, ◌+◌, ◌-◌, ◌*◌, ◌≡◌, ◌<◌, ◌≤◌, ◌⊎◌, List, [], ◌∷◌, ◌++◌, true, false, length, Some, None}
+use Rattle.std.specs.Prelude.{ℕ, ◌+◌, ◌-◌, ◌*◌, ◌≡◌, ◌<◌, ◌≤◌, ◌⊎◌, List, [], ◌∷◌, ◌++◌, true, false, length, Some, None, IfOk}
 use Rattle.std.specs.declared.result.Result.{Result}
 use Rattle.std.specs.declared.result.Result.TheVariants.{Ok, Err}
-use Rattle.cf_row.specs.Row.{RowValue}
+use Rattle.cf_row.specs.Row.{RowValue, Fits}
 use Rattle.cf_row.specs.Words.{word_count}
 use Rattle.cf_shape.specs.Lanes.{ShapeValue}
 use Rattle.cf_law.specs.Words.{Spot}
 use Rattle.cf_law.specs.Passes.{Book, Pass}
 use Rattle.cf_law.specs.Steps.{Knows}
+use Rattle.cf_law.specs.Readers.{IsBounded}
+use Rattle.cf_law.specs.Shapes.{layout}
 use Rattle.cf_table.specs.Values.{PassValue, LogValue, IsOf, book_of}
 use Rattle.cf_table.specs.Effects.{HasStepped, take_effect}
-use Rattle.cf_table.specs.Moves.{Begins, IsUnfinished}
+use Rattle.cf_table.specs.Moves.{HasAll, HasPaths, SeenFirst, AreFit, Begins, IsUnfinished, MarkedIsFull, Stops}
 use Rattle.cf_append.specs.Paths.{KeepsSeen, HasUsed, IsOnPath, LacksNode, HasLeaves, with_nodes}
 use Rattle.cf_append.specs.Linking.{lane_steps}
 use Rattle.cf_append.specs.declared.appends.AppendFault.{AppendFault}
@@ -44,6 +46,12 @@ pub record Rests (pass : Pass) : Type 0 where
 -- the pass is one of the log's, with one book and no ticket in flight
 pub record IsReady (log : LogValue) (pass : PassValue) : Type 0 where
   pub of : IsOf pass log
+  pub rest : Rests pass.view
+
+-- a writer may append the row by the pass: it is one of the log's, with one book and no ticket in flight, and the row fits
+pub record MayAppend (log : LogValue) (row : RowValue) (pass : PassValue) : Type 0 where
+  pub of : IsOf pass log
+  pub fits : Fits log.shape.schema row
   pub rest : Rests pass.view
 
 -- with that book alone
@@ -110,3 +118,38 @@ abbrev pub HasAppendAnswer : ShapeValue → RowValue → PassValue → PassValue
 HasAppendAnswer shape row m n (Ok o) = IsAppended shape o row m n
 HasAppendAnswer shape row m n (Err Full) = IsOver m n ⊎ IsLate shape row m n
 HasAppendAnswer shape row m n (Err NodesFull) = IsNodesFull shape row m n
+
+-- The row was appended by the pass, or why it was not, apart from the steps that it took.
+pub record HasAppended (shape : ShapeValue) (row : RowValue) (m n : PassValue) (r : Result ℕ AppendFault) : Type 0 where
+  pub goes_on : PassGoesOn m n
+  pub rest : Rests n.view
+  pub answer : HasAppendAnswer shape row m n r
+  pub begins : (((book_of m.view).over ≡ false) ⊎ SeenFirst m.view) → SeenFirst n.view
+  pub stops : IfOk r (λ _. Stops shape m.view n.view)
+  pub alone : shape.writers ≡ 1 → IfOk r (λ _. HasAll n.view)
+
+-- The read tail was moved over each finished record, up to the first that isn't.
+pub record HasMovedTail (shape : ShapeValue) (m n : PassValue) : Type 0 where
+  pub goes_on : PassGoesOn m n
+  pub books : (n.view).books ≡ (m.view).books
+  pub stops : Stops shape m.view n.view
+  pub begins : SeenFirst n.view
+  pub fit : AreFit shape n.view
+  pub alone : shape.writers ≡ 1 → Rests n.view → HasAll n.view
+  pub full : shape.writers ≡ 1 → Rests n.view → MarkedIsFull shape n.view
+  pub paths : shape.writers ≡ 1 → Rests n.view → HasPaths shape n.view
+  pub bounds : IsBounded (layout shape) n.view
+
+-- It was, and that is the answer on the record at this offset.
+pub record HasSettledTo (shape : ShapeValue) (offset : ℕ) (m n : PassValue) (r : Settled) : Type 0 where
+  pub moved : HasMovedTail shape m n
+  pub answer : IsSettledTo shape offset m.view n.view r
+
+-- It was moved on, if need be, until the record at this offset was covered.
+pub record HasWaited (shape : ShapeValue) (offset : ℕ) (m n : PassValue) : Type 0 where
+  pub goes_on : PassGoesOn m n
+  pub books : (n.view).books ≡ (m.view).books
+  pub covered : offset < length (n.view).seen
+  pub stops : (n ≡ m) ⊎ Stops shape m.view n.view
+  pub begins : SeenFirst m.view → SeenFirst n.view
+  pub alone : shape.writers ≡ 1 → Rests m.view → HasAll m.view → HasAll n.view

@@ -1,12 +1,11 @@
 // A row becomes a record of the log.
-ghost use Rattle.std.specs.Prelude.{◌≡◌, ◌⊎◌, ◌+◌, ◌-◌, ◌*◌, ◌<◌, ◌≤◌, length, false, IfOk};
+ghost use Rattle.std.specs.Prelude.{◌≡◌, ◌+◌, ◌-◌, ◌*◌, ◌<◌, ◌≤◌, length, IfOk};
 ghost use Rattle.cf_row.specs.Row.{Fits};
 ghost use Rattle.cf_row.specs.Words.{word_count as word_count_of, spelled};
 ghost use Rattle.cf_row.specs.declared.words.TheConstants.{MOST_WORDS};
 ghost use Rattle.cf_table.specs.Loads.{CountsLoads};
 ghost use Rattle.cf_table.specs.Values.{IsOf, book_of};
-ghost use Rattle.cf_table.specs.Moves.{HasAll, SeenFirst, Stops};
-ghost use Rattle.cf_append.specs.Appends.{PassGoesOn, Rests, HasAppendAnswer, append_steps, flying};
+ghost use Rattle.cf_append.specs.Appends.{HasAppended, MayAppend, append_steps, flying};
 ghost use Rattle.cf_append.specs.Paths.{Remembers, KeepsLeaves};
 
 use crate::leaves::Leaves;
@@ -90,15 +89,8 @@ pub fn append<L: Ledger>(
     row: &Row,
     steps: &mut Steps<L>,
 ) -> Result<u32, AppendFault>
-    requires of { IsOf pass.old log.now }
-    requires fits { Fits log.now.shape.schema row.now }
-    requires rest { Rests pass.old.view }
-    ensures goes_on { PassGoesOn pass.old pass.new }
-    ensures rest { Rests pass.new.view }
-    ensures answer { HasAppendAnswer log.now.shape row.now pass.old pass.new result }
-    ensures begins { (((book_of pass.old.view).over ≡ false) ⊎ SeenFirst pass.old.view) → SeenFirst pass.new.view }
-    ensures stops { IfOk result (λ _. Stops log.now.shape pass.old.view pass.new.view) }
-    ensures alone { log.now.shape.writers ≡ 1 → IfOk result (λ _. HasAll pass.new.view) }
+    requires may { MayAppend log.now row.now pass.old }
+    ensures appended { HasAppended log.now.shape row.now pass.old pass.new result }
     ensures steps { steps.new ≤ steps.old + append_steps log.now.shape pass.old.view pass.new.view }
     ensures loads { CountsLoads pass.old pass.new steps.old steps.new }
 {
@@ -116,16 +108,9 @@ pub fn append_near<L: Ledger>(
     leaves: &mut Leaves,
     steps: &mut Steps<L>,
 ) -> Result<u32, AppendFault>
-    requires of { IsOf pass.old log.now }
-    requires fits { Fits log.now.shape.schema row.now }
-    requires rest { Rests pass.old.view }
+    requires may { MayAppend log.now row.now pass.old }
     requires near { Remembers log.now.shape pass.old.view leaves.old }
-    ensures goes_on { PassGoesOn pass.old pass.new }
-    ensures rest { Rests pass.new.view }
-    ensures answer { HasAppendAnswer log.now.shape row.now pass.old pass.new result }
-    ensures begins { (((book_of pass.old.view).over ≡ false) ⊎ SeenFirst pass.old.view) → SeenFirst pass.new.view }
-    ensures stops { IfOk result (λ _. Stops log.now.shape pass.old.view pass.new.view) }
-    ensures alone { log.now.shape.writers ≡ 1 → IfOk result (λ _. HasAll pass.new.view) }
+    ensures appended { HasAppended log.now.shape row.now pass.old pass.new result }
     ensures near { Remembers log.now.shape pass.new.view leaves.new }
     ensures kept { IfOk result (λ _. KeepsLeaves log.now.shape row.now leaves.new (length log.now.shape.lanes)) }
     ensures near_steps { KeepsLeaves log.now.shape row.now leaves.old (length log.now.shape.lanes)
@@ -161,15 +146,8 @@ pub fn append_wait<R: Wait, L: Ledger>(
     row: &Row,
     steps: &mut Steps<L>,
 ) -> Result<u32, AppendFault>
-    requires of { IsOf pass.old log.now }
-    requires fits { Fits log.now.shape.schema row.now }
-    requires rest { Rests pass.old.view }
-    ensures goes_on { PassGoesOn pass.old pass.new }
-    ensures rest { Rests pass.new.view }
-    ensures answer { HasAppendAnswer log.now.shape row.now pass.old pass.new result }
-    ensures begins { (((book_of pass.old.view).over ≡ false) ⊎ SeenFirst pass.old.view) → SeenFirst pass.new.view }
-    ensures stops { IfOk result (λ _. Stops log.now.shape pass.old.view pass.new.view) }
-    ensures alone { log.now.shape.writers ≡ 1 → IfOk result (λ _. HasAll pass.new.view) }
+    requires may { MayAppend log.now row.now pass.old }
+    ensures appended { HasAppended log.now.shape row.now pass.old pass.new result }
     ensures covered { IfOk result (λ o. o < length pass.new.view.seen) }
     ensures loads { CountsLoads pass.old pass.new steps.old steps.new }
 {

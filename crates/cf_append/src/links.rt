@@ -14,7 +14,8 @@ ghost use Rattle.cf_law.specs.Shapes.{layout as layout_of, path_in};
 ghost use Rattle.cf_table.specs.Loads.{CountsLoads};
 ghost use Rattle.cf_table.specs.Values.{IsOf, book_of};
 ghost use Rattle.cf_table.specs.Effects.{IsLawfulStep, HasSteppedUnseen, head_effect};
-ghost use Rattle.cf_append.specs.Paths.{KeepsSeen, IsNodeOf, IsFiledIn, HasFilings};
+ghost use Rattle.cf_append.specs.Calls.{HasKept, OnlyReads};
+ghost use Rattle.cf_append.specs.Paths.{IsNodeOf, IsFiledIn, HasFilings};
 ghost use Rattle.cf_append.specs.Linking.{HasFilled, HasLinked, IsBookOf, IsNewest, IsCell, amounts_in_chain, key_path, row_chain, cell_from};
 
 use crate::paths::Filing;
@@ -54,12 +55,9 @@ fn own_head<L: Ledger>(
     requires writer { (book_of pass.old.view).writer < log.now.shape.writers }
     requires leaf { IsNodeOf log.now.shape pass.old.view at leaf }
     requires level { suc (length at.path) ≡ levels_of log.now.shape at.lane }
-    ensures of { IsOf pass.new log.now }
-    ensures strides { KeepsSeen pass.old pass.new }
-    ensures books { pass.new.view.books ≡ pass.old.view.books }
+    ensures reads { OnlyReads log.now pass.old pass.new steps.old steps.new }
     ensures head { result ≡ own_top (layout_of log.now.shape) (book_of pass.old.view) (spot at.lane (key % 16 ∷ at.path)) }
     ensures steps { steps.new ≡ steps.old + 1 }
-    ensures loads { CountsLoads pass.old pass.new steps.old steps.new }
 {
     let writer = pass.writer();
     log.load_head(pass, leaf, (key % 16) as u8, writer, steps)
@@ -80,12 +78,9 @@ fn cell_quad<L: Ledger>(
     requires book { IsBookOf log.now.shape (book_of pass.old.view) }
     requires lane { (lane < length log.now.shape.lanes) × (is_measured log.now.shape lane ≡ true) }
     requires newest { IsNewest (layout_of log.now.shape) (spot lane path) (book_of pass.old.view).mine offset }
-    ensures of { IsOf pass.new log.now }
-    ensures strides { KeepsSeen pass.old pass.new }
-    ensures books { pass.new.view.books ≡ pass.old.view.books }
+    ensures reads { OnlyReads log.now pass.old pass.new steps.old steps.new }
     ensures quad { result ≡ quad_of (amounts_in_chain log.now.shape lane (mine_chain (layout_of log.now.shape) (spot lane path) (book_of pass.old.view).mine)) }
     ensures steps { steps.new ≡ steps.old + 3 }
-    ensures loads { CountsLoads pass.old pass.new steps.old steps.new }
 {
     let _lawful = log.shape();
     let first = log.load_cell(pass, offset, lane, 0, steps);
@@ -111,12 +106,9 @@ fn quad_with<L: Ledger>(
     requires lane { lane < length log.now.shape.lanes }
     requires measured { is_measured log.now.shape lane ≡ true }
     requires previous { previous ≡ link_to_newest (row_chain log.now.shape lane row.now (book_of pass.old.view)) }
-    ensures of { IsOf pass.new log.now }
-    ensures strides { KeepsSeen pass.old pass.new }
-    ensures books { pass.new.view.books ≡ pass.old.view.books }
+    ensures reads { OnlyReads log.now pass.old pass.new steps.old steps.new }
     ensures quad { result ≡ quad_of (measure_of log.now.shape lane row.now ∷ amounts_in_chain log.now.shape lane (row_chain log.now.shape lane row.now (book_of pass.old.view))) }
     ensures steps { steps.new ≤ steps.old + 3 }
-    ensures loads { CountsLoads pass.old pass.new steps.old steps.new }
 {
     let value = Quad::EMPTY.add(measure(log.shape(), lane, row));
     if previous == 0 {
@@ -142,11 +134,9 @@ fn store_three<L: Ledger>(
     requires leads { path_in log.now.shape _row.now cell.lane ≡ Some (key_path log.now.shape cell.lane (key_of log.now.shape cell.lane _row.now)) }
     requires filled { HasFilled log.now.shape cell.offset _row.now (cell_from log.now.shape cell.lane) pass.old pass.old }
     requires words { IsCell log.now.shape cell.lane (row_chain log.now.shape cell.lane _row.now (book_of pass.old.view)) _row.now words.first words.sum words.ends }
-    ensures of { IsOf pass.new log.now }
-    ensures strides { KeepsSeen pass.old pass.new }
+    ensures kept { HasKept log.now pass.old pass.new steps.old steps.new }
     ensures filled { HasFilled log.now.shape cell.offset _row.now (cell_from log.now.shape (cell.lane + 1)) pass.old pass.new }
     ensures steps { steps.new ≡ steps.old + 3 }
-    ensures loads { CountsLoads pass.old pass.new steps.old steps.new }
 {
     let _lawful = log.shape();
     log.store_cell(pass, cell.offset, cell.from, words.first, steps);
@@ -172,12 +162,10 @@ fn store_version<L: Ledger>(
     requires book { IsBookOf log.now.shape (book_of pass.old.view) }
     requires filled { HasFilled log.now.shape cell.offset row.now (cell_from log.now.shape cell.lane) pass.old pass.old }
     requires filing { IsFiledIn log.now.shape row.now pass.old.view cell.lane filing }
-    ensures of { IsOf pass.new log.now }
-    ensures strides { KeepsSeen pass.old pass.new }
+    ensures kept { HasKept log.now pass.old pass.new steps.old steps.new }
     ensures filled { HasFilled log.now.shape cell.offset row.now (cell_from log.now.shape (cell.lane + 1)) pass.old pass.new }
     ensures next { result ≡ cell_from log.now.shape (cell.lane + 1) }
     ensures steps { steps.new ≤ steps.old + 7 }
-    ensures loads { CountsLoads pass.old pass.new steps.old steps.new }
 {
     let shape = log.shape();
     let Some(at) = filing else {
@@ -209,11 +197,9 @@ pub(crate) fn fill_cells<L: Ledger>(
     requires book { IsBookOf log.now.shape (book_of pass.old.view) }
     requires filled { HasFilled log.now.shape offset row.now (word_count_of log.now.shape.schema + 1) pass.old pass.old }
     requires filed { HasFilings log.now.shape row.now pass.old.view filed.now (length log.now.shape.lanes) }
-    ensures of { IsOf pass.new log.now }
-    ensures strides { KeepsSeen pass.old pass.new }
+    ensures kept { HasKept log.now pass.old pass.new steps.old steps.new }
     ensures filled { HasFilled log.now.shape offset row.now (word_count_of log.now.shape.schema + 1 + cell_count log.now.shape.lanes) pass.old pass.new }
     ensures steps { steps.new ≤ steps.old + 7 * length log.now.shape.lanes }
-    ensures loads { CountsLoads pass.old pass.new steps.old steps.new }
 {
     let shape = log.shape();
     let lanes = shape.lanes().len() as u8;
@@ -258,11 +244,9 @@ fn link_in<L: Ledger>(
     requires writer { (book_of pass.old.view).writer < log.now.shape.writers }
     requires linked { HasLinked log.now.shape offset _row.now filed.lane pass.old pass.old }
     requires filing { IsFiledIn log.now.shape _row.now pass.old.view filed.lane filed.filing }
-    ensures of { IsOf pass.new log.now }
-    ensures strides { KeepsSeen pass.old pass.new }
+    ensures kept { HasKept log.now pass.old pass.new steps.old steps.new }
     ensures linked { HasLinked log.now.shape offset _row.now (filed.lane + 1) pass.old pass.new }
     ensures steps { steps.new ≤ steps.old + 1 }
-    ensures loads { CountsLoads pass.old pass.new steps.old steps.new }
 {
     let _lawful = log.shape();
     let Some(at) = filed.filing else {
@@ -284,11 +268,9 @@ pub(crate) fn link_all<L: Ledger>(
     requires writer { (book_of pass.old.view).writer < log.now.shape.writers }
     requires linked { HasLinked log.now.shape offset row.now 0 pass.old pass.old }
     requires filed { HasFilings log.now.shape row.now pass.old.view filed.now (length log.now.shape.lanes) }
-    ensures of { IsOf pass.new log.now }
-    ensures strides { KeepsSeen pass.old pass.new }
+    ensures kept { HasKept log.now pass.old pass.new steps.old steps.new }
     ensures linked { HasLinked log.now.shape offset row.now (length log.now.shape.lanes) pass.old pass.new }
     ensures steps { steps.new ≤ steps.old + length log.now.shape.lanes }
-    ensures loads { CountsLoads pass.old pass.new steps.old steps.new }
 {
     let lanes = log.shape().lanes().len() as u8;
     for lane in 0..lanes {

@@ -1,5 +1,5 @@
 // The paths of a row are made: in each lane that selects it a node for each proper prefix of its key.
-ghost use Rattle.std.specs.Prelude.{ℕ, ◌≡◌, ◌+◌, ◌-◌, ◌*◌, ◌<◌, ◌≤◌, true, length, slice_get, MatchOption, IfNone, IfSome};
+ghost use Rattle.std.specs.Prelude.{ℕ, ◌≡◌, ◌+◌, ◌-◌, ◌*◌, ◌<◌, ◌≤◌, true, length, slice_get, IfSome};
 ghost use Rattle.cf_row.specs.Row.{Fits};
 ghost use Rattle.cf_shape.specs.Lanes.{selected_by};
 ghost use Rattle.cf_shape.specs.Nodes.{levels_of};
@@ -7,11 +7,9 @@ ghost use Rattle.cf_shape.specs.Places.{Slot, place as place_by, sizes_of};
 ghost use Rattle.cf_law.specs.Words.{Spot};
 ghost use Rattle.cf_law.specs.Steps.{IsChild};
 ghost use Rattle.cf_law.specs.Shapes.{layout as layout_of};
-ghost use Rattle.cf_table.specs.Loads.{CountsLoads};
-ghost use Rattle.cf_table.specs.Values.{IsOf};
-ghost use Rattle.cf_table.specs.Moves.{SeenFirst};
-ghost use Rattle.cf_append.specs.Appends.{Rests};
-ghost use Rattle.cf_append.specs.Paths.{KeepsSeen, HasUsed, IsPrefix, IsAlong, IsOnPath, LacksNode, IsNodeOf, IsFiled, HasFilings, Remembers, KeepsLeaf, KeepsLeaves, spot_of, spot_before, path_steps};
+ghost use Rattle.cf_append.specs.Appends.{IsReady};
+ghost use Rattle.cf_append.specs.Calls.{HasMadeNodes};
+ghost use Rattle.cf_append.specs.Paths.{IsPrefix, IsAlong, IsOnPath, IsNodeOf, IsFiled, HasFilings, Remembers, KeepsLeaf, KeepsLeaves, spot_of, spot_before, path_steps};
 
 use crate::leaves::Leaves;
 use cf_row::Row;
@@ -45,19 +43,12 @@ fn take_child<L: Ledger>(
     steps: &mut Steps<L>,
 ) -> Option<u32>
     ghost to: { Spot × Slot }
-    requires of { IsOf pass.old log.now }
-    requires rest { Rests pass.old.view }
+    requires ready { IsReady log.now pass.old }
     requires child { IsChild (layout_of log.now.shape) pass.old.view to.0 to.1 }
     requires place { place ≡ place_by (sizes_of log.now.shape) to.1 }
     requires level { level ≡ length to.0.path }
-    ensures of { IsOf pass.new log.now }
-    ensures rest { Rests pass.new.view }
-    ensures strides { KeepsSeen pass.old pass.new }
-    ensures used { HasUsed (λ s. s ≡ to.0) pass.old pass.new }
-    ensures answer { MatchOption result (LacksNode log.now.shape (λ s. s ≡ to.0) pass.old pass.new) (IsNodeOf log.now.shape pass.new.view to.0) }
-    ensures begins { IfNone result (SeenFirst pass.new.view) }
+    ensures made { HasMadeNodes log.now (λ s. s ≡ to.0) (λ p. IsNodeOf log.now.shape p to.0) pass.old pass.new steps.old steps.new result }
     ensures steps { steps.new ≤ steps.old + 3 }
-    ensures loads { CountsLoads pass.old pass.new steps.old steps.new }
 {
     let _lawful = log.shape();
     let found = log.load_child(pass, place, steps);
@@ -82,18 +73,11 @@ fn first_node<L: Ledger>(
     at: Prefix,
     steps: &mut Steps<L>,
 ) -> Option<u32>
-    requires of { IsOf pass.old log.now }
-    requires rest { Rests pass.old.view }
+    requires ready { IsReady log.now pass.old }
     requires prefix { IsPrefix log.now.shape at }
     requires one { at.level ≡ 1 }
-    ensures of { IsOf pass.new log.now }
-    ensures rest { Rests pass.new.view }
-    ensures strides { KeepsSeen pass.old pass.new }
-    ensures used { HasUsed (λ s. s ≡ spot_of at) pass.old pass.new }
-    ensures answer { MatchOption result (LacksNode log.now.shape (λ s. s ≡ spot_of at) pass.old pass.new) (IsNodeOf log.now.shape pass.new.view (spot_of at)) }
-    ensures begins { IfNone result (SeenFirst pass.new.view) }
+    ensures made { HasMadeNodes log.now (λ s. s ≡ spot_of at) (λ p. IsNodeOf log.now.shape p (spot_of at)) pass.old pass.new steps.old steps.new result }
     ensures steps { steps.new ≤ steps.old + 3 }
-    ensures loads { CountsLoads pass.old pass.new steps.old steps.new }
 {
     let place = place_root(log.shape(), at.lane, (at.front % 16) as u8);
     take_child(log, pass, place, at.level, (at, 0), steps)
@@ -107,19 +91,12 @@ fn next_node<L: Ledger>(
     above: u32,
     steps: &mut Steps<L>,
 ) -> Option<u32>
-    requires of { IsOf pass.old log.now }
-    requires rest { Rests pass.old.view }
+    requires ready { IsReady log.now pass.old }
     requires prefix { IsPrefix log.now.shape at }
     requires more { 1 < at.level }
     requires above { IsNodeOf log.now.shape pass.old.view (spot_before at) above }
-    ensures of { IsOf pass.new log.now }
-    ensures rest { Rests pass.new.view }
-    ensures strides { KeepsSeen pass.old pass.new }
-    ensures used { HasUsed (λ s. s ≡ spot_of at) pass.old pass.new }
-    ensures answer { MatchOption result (LacksNode log.now.shape (λ s. s ≡ spot_of at) pass.old pass.new) (IsNodeOf log.now.shape pass.new.view (spot_of at)) }
-    ensures begins { IfNone result (SeenFirst pass.new.view) }
+    ensures made { HasMadeNodes log.now (λ s. s ≡ spot_of at) (λ p. IsNodeOf log.now.shape p (spot_of at)) pass.old pass.new steps.old steps.new result }
     ensures steps { steps.new ≤ steps.old + 3 }
-    ensures loads { CountsLoads pass.old pass.new steps.old steps.new }
 {
     let place = place_child(log.shape(), above, (at.front % 16) as u8);
     take_child(log, pass, place, at.level, (at, above), steps)
@@ -132,17 +109,10 @@ fn make_node<L: Ledger>(
     at: Prefix,
     steps: &mut Steps<L>,
 ) -> Option<u32>
-    requires of { IsOf pass.old log.now }
-    requires rest { Rests pass.old.view }
+    requires ready { IsReady log.now pass.old }
     requires prefix { IsPrefix log.now.shape at }
-    ensures of { IsOf pass.new log.now }
-    ensures rest { Rests pass.new.view }
-    ensures strides { KeepsSeen pass.old pass.new }
-    ensures used { HasUsed (IsAlong at) pass.old pass.new }
-    ensures answer { MatchOption result (LacksNode log.now.shape (IsAlong at) pass.old pass.new) (IsNodeOf log.now.shape pass.new.view (spot_of at)) }
-    ensures begins { IfNone result (SeenFirst pass.new.view) }
+    ensures made { HasMadeNodes log.now (IsAlong at) (λ p. IsNodeOf log.now.shape p (spot_of at)) pass.old pass.new steps.old steps.new result }
     ensures steps { steps.new ≤ steps.old + 3 * at.level }
-    ensures loads { CountsLoads pass.old pass.new steps.old steps.new }
 {
     if at.level == 1 {
         return first_node(log, pass, at, steps);
@@ -168,24 +138,17 @@ fn make_path<L: Ledger>(
     leaves: &mut Leaves,
     steps: &mut Steps<L>,
 ) -> Option<Filing>
-    requires of { IsOf pass.old log.now }
-    requires rest { Rests pass.old.view }
+    requires ready { IsReady log.now pass.old }
     requires fits { Fits log.now.shape.schema row.now }
     requires lane { lane < length log.now.shape.lanes }
     requires selects { selected_by log.now.shape lane row.now ≡ true }
     requires near { Remembers log.now.shape pass.old.view leaves.old }
-    ensures of { IsOf pass.new log.now }
-    ensures rest { Rests pass.new.view }
-    ensures strides { KeepsSeen pass.old pass.new }
-    ensures used { HasUsed (IsOnPath log.now.shape row.now) pass.old pass.new }
-    ensures answer { MatchOption result (LacksNode log.now.shape (IsOnPath log.now.shape row.now) pass.old pass.new) (IsFiled log.now.shape row.now pass.new.view lane) }
+    ensures made { HasMadeNodes log.now (IsOnPath log.now.shape row.now) (λ p. IsFiled log.now.shape row.now p lane) pass.old pass.new steps.old steps.new result }
     ensures near { Remembers log.now.shape pass.new.view leaves.new }
-    ensures begins { IfNone result (SeenFirst pass.new.view) }
     ensures kept { IfSome result (λ _. KeepsLeaf log.now.shape row.now leaves.new lane) }
     ensures others { (l : ℕ) → (l ≡ lane → ⊥) → slice_get leaves.new.kept l ≡ slice_get leaves.old.kept l }
     ensures steps { steps.new ≤ steps.old + 3 * (levels_of log.now.shape lane - 1) }
     ensures near_steps { KeepsLeaf log.now.shape row.now leaves.old lane → steps.new ≡ steps.old }
-    ensures loads { CountsLoads pass.old pass.new steps.old steps.new }
 {
     let shape = log.shape();
     let key = key(shape, lane, row);
@@ -214,22 +177,15 @@ pub(crate) fn make_paths<L: Ledger>(
     leaves: &mut Leaves,
     steps: &mut Steps<L>,
 ) -> Option<[Option<Filing>; 16]>
-    requires of { IsOf pass.old log.now }
-    requires rest { Rests pass.old.view }
+    requires ready { IsReady log.now pass.old }
     requires fits { Fits log.now.shape.schema row.now }
     requires near { Remembers log.now.shape pass.old.view leaves.old }
-    ensures of { IsOf pass.new log.now }
-    ensures rest { Rests pass.new.view }
-    ensures strides { KeepsSeen pass.old pass.new }
-    ensures used { HasUsed (IsOnPath log.now.shape row.now) pass.old pass.new }
-    ensures answer { MatchOption result (LacksNode log.now.shape (IsOnPath log.now.shape row.now) pass.old pass.new)
-        (λ filed. HasFilings log.now.shape row.now pass.new.view filed (length log.now.shape.lanes)) }
+    ensures made { HasMadeNodes log.now (IsOnPath log.now.shape row.now)
+        (λ p filed. HasFilings log.now.shape row.now p filed (length log.now.shape.lanes)) pass.old pass.new steps.old steps.new result }
     ensures near { Remembers log.now.shape pass.new.view leaves.new }
-    ensures begins { IfNone result (SeenFirst pass.new.view) }
     ensures kept { IfSome result (λ _. KeepsLeaves log.now.shape row.now leaves.new (length log.now.shape.lanes)) }
     ensures steps { steps.new ≤ steps.old + path_steps log.now.shape (length log.now.shape.lanes) }
     ensures near_steps { KeepsLeaves log.now.shape row.now leaves.old (length log.now.shape.lanes) → steps.new ≡ steps.old }
-    ensures loads { CountsLoads pass.old pass.new steps.old steps.new }
 {
     let shape = log.shape();
     let lanes = shape.lanes().len() as u8;

@@ -1,11 +1,8 @@
 // The read tail is moved up to the first record that isn't finished.
-ghost use Rattle.std.specs.Prelude.{◌≡◌, ◌⊎◌, ◌+◌, ◌-◌, ◌*◌, ◌<◌, ◌≤◌, length};
+ghost use Rattle.std.specs.Prelude.{◌≡◌, ◌+◌, ◌-◌, ◌*◌, ◌<◌, ◌≤◌, length};
 ghost use Rattle.cf_table.specs.Loads.{CountsLoads};
 ghost use Rattle.cf_table.specs.Values.{IsOf};
-ghost use Rattle.cf_law.specs.Readers.{IsBounded};
-ghost use Rattle.cf_law.specs.Shapes.{layout};
-ghost use Rattle.cf_table.specs.Moves.{HasAll, HasPaths, SeenFirst, AreFit, MarkedIsFull, Stops};
-ghost use Rattle.cf_append.specs.Appends.{PassGoesOn, Rests, IsSettledTo};
+ghost use Rattle.cf_append.specs.Appends.{HasMovedTail, HasSettledTo, HasWaited};
 
 use cf_table::{MultiLog, Pass, Steps, WriterPass};
 use std::sync::Wait;
@@ -22,16 +19,8 @@ pub enum Settled {
 // Loads the read tail, and moves it over each finished record, up to the first that isn't.
 pub(crate) fn move_tail<L: Ledger>(log: &MultiLog, pass: &mut WriterPass, steps: &mut Steps<L>)
     requires of { IsOf pass.old log.now }
-    ensures goes_on { PassGoesOn pass.old pass.new }
-    ensures books { pass.new.view.books ≡ pass.old.view.books }
+    ensures moved { HasMovedTail log.now.shape pass.old pass.new }
     ensures known { pass.new.view.known ≡ pass.old.view.known }
-    ensures stops { Stops log.now.shape pass.old.view pass.new.view }
-    ensures begins { SeenFirst pass.new.view }
-    ensures fit { AreFit log.now.shape pass.new.view }
-    ensures alone { log.now.shape.writers ≡ 1 → Rests pass.new.view → HasAll pass.new.view }
-    ensures full { log.now.shape.writers ≡ 1 → Rests pass.new.view → MarkedIsFull log.now.shape pass.new.view }
-    ensures paths { log.now.shape.writers ≡ 1 → Rests pass.new.view → HasPaths log.now.shape pass.new.view }
-    ensures bounds { IsBounded (layout log.now.shape) pass.new.view }
     ensures steps { steps.new ≤ steps.old + 2 * (length pass.new.view.seen - length pass.old.view.seen + 1) }
     ensures loads { CountsLoads pass.old pass.new steps.old steps.new }
 {
@@ -50,16 +39,7 @@ pub fn settle<L: Ledger>(
 ) -> Settled
     requires of { IsOf pass.old log.now }
     requires place { offset < log.now.shape.capacity }
-    ensures goes_on { PassGoesOn pass.old pass.new }
-    ensures books { pass.new.view.books ≡ pass.old.view.books }
-    ensures answer { IsSettledTo log.now.shape offset pass.old.view pass.new.view result }
-    ensures stops { Stops log.now.shape pass.old.view pass.new.view }
-    ensures begins { SeenFirst pass.new.view }
-    ensures fit { AreFit log.now.shape pass.new.view }
-    ensures alone { log.now.shape.writers ≡ 1 → Rests pass.new.view → HasAll pass.new.view }
-    ensures full { log.now.shape.writers ≡ 1 → Rests pass.new.view → MarkedIsFull log.now.shape pass.new.view }
-    ensures paths { log.now.shape.writers ≡ 1 → Rests pass.new.view → HasPaths log.now.shape pass.new.view }
-    ensures bounds { IsBounded (layout log.now.shape) pass.new.view }
+    ensures settled { HasSettledTo log.now.shape offset pass.old pass.new result }
     ensures steps { steps.new ≤ steps.old + 2 * (length pass.new.view.seen - length pass.old.view.seen + 1) }
     ensures loads { CountsLoads pass.old pass.new steps.old steps.new }
 {
@@ -81,12 +61,7 @@ pub(crate) fn wait_for<R: Wait, L: Ledger>(
     steps: &mut Steps<L>,
 )
     requires of { IsOf pass.old log.now }
-    ensures goes_on { PassGoesOn pass.old pass.new }
-    ensures books { pass.new.view.books ≡ pass.old.view.books }
-    ensures covered { offset < length pass.new.view.seen }
-    ensures stops { (pass.new ≡ pass.old) ⊎ Stops log.now.shape pass.old.view pass.new.view }
-    ensures begins { SeenFirst pass.old.view → SeenFirst pass.new.view }
-    ensures alone { log.now.shape.writers ≡ 1 → Rests pass.old.view → HasAll pass.old.view → HasAll pass.new.view }
+    ensures waited { HasWaited log.now.shape offset pass.old pass.new }
     ensures loads { CountsLoads pass.old pass.new steps.old steps.new }
 {
     for _ in rt.forever() {

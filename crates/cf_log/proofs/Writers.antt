@@ -12,13 +12,12 @@ use Rattle.cf_law.proofs.Fronts.{table_length, table_at}
 use Rattle.cf_table.specs.Values.{PassValue, LogValue, IsOf, book_of}
 use Rattle.cf_table.specs.Rule.{root_pass}
 use Rattle.cf_table.specs.Moves.{AreDealt, AreAll, HasGathered}
-use Rattle.cf_append.specs.Appends.{PassGoesOn, Rests, HasAppendAnswer}
+use Rattle.cf_append.specs.Appends.{PassGoesOn, Rests, HasAppendAnswer, HasAppended}
 use Rattle.cf_append.specs.declared.appends.AppendFault.{AppendFault}
 use Rattle.cf_append.specs.declared.appends.AppendFault.TheVariants.{Full, NodesFull}
 use Rattle.cf_append.proofs.Appending.{rests_by, rests_all}
 use Rattle.cf_append.proofs.Answering.{same_writer}
 use Rattle.cf_append.proofs.Settling.{goes_none, goes_then}
-use Rattle.cf_log.specs.Appended.{HasAppended}
 use Rattle.cf_log.specs.Writers.{rows_by, IsWriter, AreWriters, IsOpened, AppendsRows, HasJoined}
 use Rattle.cf_log.specs.declared.passes.Opened.{Opened}
 use Rattle.cf_log.proofs.Chained.{took_more}

@@ -6,9 +6,8 @@ use Rattle.cf_shape.specs.Lanes.{ShapeValue}
 use Rattle.cf_plain.specs.Order.{written_by}
 use Rattle.cf_table.specs.Values.{PassValue, LogValue, IsOf, book_of}
 use Rattle.cf_table.specs.Moves.{HasGathered}
-use Rattle.cf_append.specs.Appends.{PassGoesOn, Rests}
+use Rattle.cf_append.specs.Appends.{PassGoesOn, Rests, HasAppended}
 use Rattle.cf_append.specs.declared.appends.AppendFault.{AppendFault}
-use Rattle.cf_log.specs.Appended.{HasAppended}
 use Rattle.cf_log.specs.declared.passes.Opened.{Opened}
 
 -- the rows that a writer's pass has appended, in order

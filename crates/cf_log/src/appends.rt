@@ -2,9 +2,9 @@
 ghost use Rattle.std.specs.Prelude.{◌≡◌, ◌<◌, ◌≤◌, All, length, IfOk};
 ghost use Rattle.cf_row.specs.Row.{Fits};
 ghost use Rattle.cf_table.specs.Values.{IsOf};
-ghost use Rattle.cf_append.specs.Appends.{Rests};
+ghost use Rattle.cf_append.specs.Appends.{HasAppended, HasSettledTo, MayAppend, Rests};
 ghost use Rattle.cf_append.specs.Paths.{Remembers, KeepsLeaves};
-ghost use Rattle.cf_log.specs.Appended.{AppendsAll, HasAppended, HasSettled};
+ghost use Rattle.cf_log.specs.Appended.{AppendsAll};
 ghost use Rattle.cf_log.specs.Writers.{AppendsRows};
 
 use crate::counted::{append_by, settle_by};
@@ -18,9 +18,7 @@ use std::sync::ledger::Blank;
 /// finished record. Answers the record's offset. It is covered then, or stands behind one that another writer has not finished.
 /// After `NodesFull` no place is taken, and another row may still be appended; after `Full` none.
 pub fn append(log: &MultiLog, pass: &mut WriterPass, row: &Row) -> Result<u32, AppendFault>
-    requires of { IsOf pass.old log.now }
-    requires fits { Fits log.now.shape.schema row.now }
-    requires rest { Rests pass.old.view }
+    requires may { MayAppend log.now row.now pass.old }
     ensures { HasAppended log.now.shape row.now pass.old pass.new result }
 {
     append_near(log, pass, row, &mut Leaves::new())
@@ -33,9 +31,7 @@ pub fn append_near(
     row: &Row,
     leaves: &mut Leaves,
 ) -> Result<u32, AppendFault>
-    requires of { IsOf pass.old log.now }
-    requires fits { Fits log.now.shape.schema row.now }
-    requires rest { Rests pass.old.view }
+    requires may { MayAppend log.now row.now pass.old }
     requires near { Remembers log.now.shape pass.old.view leaves.old }
     ensures appended { HasAppended log.now.shape row.now pass.old pass.new result }
     ensures near { Remembers log.now.shape pass.new.view leaves.new }
@@ -90,7 +86,7 @@ pub fn append_rows(log: &MultiLog, pass: &mut WriterPass, rows: &[Row]) -> Resul
 pub fn settle(log: &MultiLog, pass: &mut WriterPass, offset: u32) -> Settled
     requires of { IsOf pass.old log.now }
     requires place { offset < log.now.shape.capacity }
-    ensures { HasSettled log.now.shape offset pass.old pass.new result }
+    ensures { HasSettledTo log.now.shape offset pass.old pass.new result }
 {
     settle_by::<Brand>(log, pass, offset, Blank::new(1))
 }

@@ -1,17 +1,15 @@
 // Each call with steps that nobody reads.
 ghost use Rattle.std.specs.Prelude.{◌≡◌, ◌<◌, ◌≤◌, length, map, true, IfOk, IfErr};
-ghost use Rattle.cf_row.specs.Row.{Fits};
 ghost use Rattle.cf_shape.specs.Uses.{is_measured};
 ghost use Rattle.cf_table.specs.Values.{IsOf};
 ghost use Rattle.cf_table.specs.Moves.{AreFit, OnlyLooked};
-ghost use Rattle.cf_append.specs.Appends.{Rests};
+ghost use Rattle.cf_append.specs.Appends.{HasAppended, HasSettledTo, MayAppend};
 ghost use Rattle.cf_append.specs.Paths.{Remembers, KeepsLeaves};
 ghost use Rattle.cf_plain.specs.Asks.{Suits, eval, is_aggregate, is_keyed_between, row_at, rows_in, total_over};
 ghost use Rattle.cf_plain.specs.Groups.{groups as groups_by, as_group};
 ghost use Rattle.cf_plain.specs.Segments.{finding_in};
 ghost use Rattle.cf_query.specs.Walks.{OnlyWalked};
 ghost use Rattle.cf_query.specs.Asking.{HasAsked};
-ghost use Rattle.cf_log.specs.Appended.{HasAppended, HasSettled};
 
 use cf_append::{AppendFault, Leaves, Settled};
 use cf_fold::Quad;
@@ -28,9 +26,7 @@ pub(crate) fn append_by<L: Ledger>(
     leaves: &mut Leaves,
     blank: Blank,
 ) -> Result<u32, AppendFault>
-    requires of { IsOf pass.old log.now }
-    requires fits { Fits log.now.shape.schema row.now }
-    requires rest { Rests pass.old.view }
+    requires may { MayAppend log.now row.now pass.old }
     requires near { Remembers log.now.shape pass.old.view leaves.old }
     requires blank { (blank.name ≡ L.name) × (blank.parts ≡ L.parts) × (0 < L.parts) }
     ensures appended { HasAppended log.now.shape row.now pass.old pass.new result }
@@ -50,7 +46,7 @@ pub(crate) fn settle_by<L: Ledger>(
     requires of { IsOf pass.old log.now }
     requires place { offset < log.now.shape.capacity }
     requires blank { (blank.name ≡ L.name) × (blank.parts ≡ L.parts) × (0 < L.parts) }
-    ensures { HasSettled log.now.shape offset pass.old pass.new result }
+    ensures { HasSettledTo log.now.shape offset pass.old pass.new result }
 {
     let mut steps = Steps::<L>::new(blank);
     cf_append::settle(log, pass, offset, &mut steps)

@@ -12,9 +12,8 @@ use Rattle.cf_table.proofs.Settling.{begins_then}
 use Rattle.cf_append.specs.declared.appends.AppendFault.{AppendFault}
 use Rattle.cf_append.specs.declared.appends.AppendFault.TheVariants.{Full, NodesFull}
 use Rattle.cf_append.proofs.Answering.{same_writer}
-use Rattle.cf_log.specs.Appended.{HasAppended}
 use Rattle.cf_store.specs.Homes.{Comes, HasLooked, HaveLooked, IsFront, IsSuccessor, MayCome, PlaceValue, at_home, taken_home}
-use Rattle.cf_append.specs.Appends.{HasAppendAnswer, IsReady}
+use Rattle.cf_append.specs.Appends.{HasAppendAnswer, HasAppended, IsReady}
 use Rattle.cf_store.specs.Parts.{IsPlaceOf}
 
 -- what a list begins with it begins with when it is longer

@@ -15,7 +15,7 @@ use Rattle.cf_setup.specs.declared.source.Source.{Source}
 use Rattle.cf_setup.specs.declared.source.Source.TheVariants.{Packets, Records}
 use Rattle.cf_table.specs.Values.{book_of}
 use Rattle.cf_log.specs.Chains.{AreDoneUpTo}
-use Rattle.cf_log.specs.Appended.{HasAppended}
+use Rattle.cf_append.specs.Appends.{HasAppended}
 use Rattle.cf_append.specs.declared.appends.AppendFault.{AppendFault}
 use Rattle.cf_append.specs.declared.appends.AppendFault.TheVariants as faults
 use Rattle.cf_store.specs.Values.{is_value, plain_row}

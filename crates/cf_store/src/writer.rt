@@ -6,7 +6,7 @@ ghost use Rattle.cf_row.specs.Row.{Fits, is_of_kind, values_fit};
 ghost use Rattle.cf_setup.specs.declared.source.Source.TheVariants.{Packets, Records};
 ghost use Rattle.cf_table.specs.Values.{book_of};
 ghost use Rattle.cf_append.specs.Paths.{Remembers};
-ghost use Rattle.cf_log.specs.Appended.{HasAppended};
+ghost use Rattle.cf_append.specs.Appends.{HasAppended};
 ghost use Rattle.cf_store.specs.Appends.{AppendsFrame, AppendsFramed, AppendsFrames, AppendsPlain, AppendsRow, AppendsValues, IsRoomOf, IsFrame, StandsIn, numbers_row, frame_of, reads_link, row_by, bytes_in as bytes_in_of};
 
 use crate::held::Writer;

@@ -1,15 +1,16 @@
-use Rattle.std.proofs.Common.{◌∙◌, ◌+◌, ◌-◌, ◌*◌, ◌≤◌, inr, length, map, List, ap, sym, arith}
+use Rattle.std.proofs.Common.{◌∙◌, ◌+◌, ◌-◌, ◌*◌, ◌≤◌, inr, length, map, List, ap, refl, sym, arith, rules}
 use Rattle.cf_row.specs.Words.{word_count}
 use Rattle.cf_row.specs.declared.row.Entry.{Entry}
 use Rattle.cf_shape.specs.Lanes.{ShapeValue}
-use Rattle.cf_append.specs.Appends.{HasMade}
-use Rattle.cf_append.specs.Paths.{KeepsSeen}
-use Rattle.cf_append.proofs.Appending.{may_begin}
+use Rattle.cf_table.specs.Values.{book_of}
+use Rattle.cf_append.specs.Appends.{HasMade, with_mark, with_own}
+use Rattle.cf_append.specs.Paths.{KeepsSeen, with_nodes}
+use Rattle.cf_append.proofs.Appending.{may_begin, rests_by}
 use Rattle.cf_append.proofs.Pathing.{filings_still, filings_leaves, leaf_of, remembers_still}
 use Rattle.cf_append.proofs.Cells.{may_close}
 use Rattle.cf_append.proofs.Settling.{knows_still, goes_then}
 use Rattle.cf_append.proofs.Walking.{strides_then}
-use Rattle.cf_append.proofs.Whole.{goes_by, HasBegun, HasCells, HasEnded, begun_book, begun_self, begun_filings, cells_self, cells_writer, ended_strides, appended, appended_stops, late, late_strides, all_steps, path_within}
+use Rattle.cf_append.proofs.Whole.{goes_by, HasBegun, HasCells, HasEnded, begun_book, begun_self, begun_filings, cells_self, cells_writer, ended_strides, appended, appended_stops, late, late_strides, took_first, all_steps, path_within}
 use Rattle.cf_append.proofs.appends.append_near.Given.{Over}
 use Rattle.cf_append.proofs.appends.append_near.Goals as goal
 use Rattle.cf_append.proofs.appends.append_near.Goals.{After-fill, After-fill_cells}
@@ -24,28 +25,37 @@ pub take_ticket-found-requires-clause-lawful : goal.take_ticket-found-requires-c
 take_ticket-found-requires-clause-lawful g c =
     let is = c.num-number.ensures in
     let low = c.num-number.type_inv in
-    let over = ap (λ b. b.over) (Rattle.cf_table.proofs.Mays.the_book c.make_paths.new.pass.view _ c.make_paths.ensures.used.books) in
-    may_begin c.args.log.now.shape c.make_paths.new.pass.view c.args.row.now c.requires.fits (omega (arith, is, low)) c.make_paths.ensures.rest
+    let over = ap (λ b. b.over) (Rattle.cf_table.proofs.Mays.the_book c.make_paths.new.pass.view _ c.make_paths.ensures.made.used.books) in
+    may_begin c.args.log.now.shape c.make_paths.new.pass.view c.args.row.now c.requires.may.fits (omega (arith, is, low)) c.make_paths.ensures.made.rest
     (over ∙ (sym c.over.ensures ∙ c.if-over.false))
 
-pub returns-then-found-from-clause-answer : goal.returns-then-found-from-clause-answer
-returns-then-found-from-clause-answer g c =
+pub returns-then-found-from-clause-appended : goal.returns-then-found-from-clause-appended
+returns-then-found-from-clause-appended g c =
     let s = c.args.log.now.shape in
     let row = c.args.row.now in
     let m = c.args.pass.now in
     let p = c.make_paths.new.pass in
+    let q = c.take_ticket-found.new.pass in
     let past = c.if-found-from.true in
     let wide = c.from.ensures in
     let room = c.capacity.ensures.capacity ∙ ap (λ (x : ShapeValue). x.capacity) c.shape.ensures.shape in
     let P : HasMade s row m p =
     record {
-      strides = c.make_paths.ensures.strides;
-      used = c.make_paths.ensures.used;
+      strides = c.make_paths.ensures.made.strides;
+      used = c.make_paths.ensures.made.used;
       leaves = map leaf_of c.in-Some.filed;
-      whole = filings_leaves s row p.view c.in-Some.filed (length s.lanes) c.shape.ensures.lawful (omega arith) c.in-Some.ensures.answer;
+      whole = filings_leaves s row p.view c.in-Some.filed (length s.lanes) c.shape.ensures.lawful (omega arith) c.in-Some.ensures.made.answer;
     } in
-    inr (late s row m p c.take_ticket-found.new.pass c.take_ticket-found.result (sym c.over.ensures ∙ c.if-over.false) P
-    (omega (arith, past, wide, room)) c.take_ticket-found.ensures.made)
+    let is = late s row m p q c.take_ticket-found.result (sym c.over.ensures ∙ c.if-over.false) P (omega (arith, past, wide, room))
+    c.take_ticket-found.ensures.made in
+    record {
+      goes_on = goes_by m q (strides_then m p q c.make_paths.ensures.made.strides (late_strides s p q c.take_ticket-found.result row c.take_ticket-found.ensures.made));
+      rest = rests_by q.view (with_mark (with_nodes is.paths.used.spots is.paths.used.label (book_of m.view))) is.books c.requires.may.rest.free;
+      answer = inr is;
+      begins = λ so. took_first s p q c.take_ticket-found.result row c.take_ticket-found.ensures.made;
+      stops = search rules;
+      alone = λ one. search rules;
+    }
 
 pub returns-then-found-from-clause-steps : goal.returns-then-found-from-clause-steps
 returns-then-found-from-clause-steps g c =
@@ -82,7 +92,7 @@ fill_cells-requires-clause-filed g c =
     let s = c.args.log.now.shape in
     let row = c.args.row.now in
     begun_filings s row c.make_paths.new.pass c.take_ticket-found.new.pass c.fill.new.pass c.take_ticket-found.result c.in-Some.filed
-    (length s.lanes) (begun g (goal.at.fill_cells-requires-clause-filed g c).After-fill) c.in-Some.ensures.answer
+    (length s.lanes) (begun g (goal.at.fill_cells-requires-clause-filed g c).After-fill) c.in-Some.ensures.made.answer
 
 -- and its cells
 cells : (g : Over) (c : After-fill_cells g)
@@ -94,7 +104,7 @@ cells g c =
     let room = c.capacity.ensures.capacity ∙ ap (λ (x : ShapeValue). x.capacity) c.shape.ensures.shape in
     record {
       begun = record { room = omega (arith, low, wide, room); took = c.take_ticket-found.ensures.made; is = c.fill.ensures.pass };
-      strides = c.fill_cells.ensures.strides;
+      strides = c.fill_cells.ensures.kept.strides;
       filled = c.fill_cells.ensures.filled;
     }
 
@@ -116,9 +126,9 @@ pub link_all-requires-clause-filed : goal.link_all-requires-clause-filed
 link_all-requires-clause-filed g c =
     let s = c.args.log.now.shape in
     let row = c.args.row.now in
-    filings_still s row c.fill.new.pass c.fill_cells.new.pass c.in-Some.filed (length s.lanes) c.fill_cells.ensures.strides
+    filings_still s row c.fill.new.pass c.fill_cells.new.pass c.in-Some.filed (length s.lanes) c.fill_cells.ensures.kept.strides
     (begun_filings s row c.make_paths.new.pass c.take_ticket-found.new.pass c.fill.new.pass c.take_ticket-found.result c.in-Some.filed
-    (length s.lanes) (cells g (goal.at.link_all-requires-clause-filed g c).After-fill_cells).begun c.in-Some.ensures.answer)
+    (length s.lanes) (cells g (goal.at.link_all-requires-clause-filed g c).After-fill_cells).begun c.in-Some.ensures.made.answer)
 
 pub finish_record-requires-clause-lawful : goal.finish_record-requires-clause-lawful
 finish_record-requires-clause-lawful g c =
@@ -130,11 +140,11 @@ made : (g : Over) (c : goal.After-move_tail g) → HasMade c.args.log.now.shape 
 made g c =
     let s = c.args.log.now.shape in
     record {
-      strides = c.make_paths.ensures.strides;
-      used = c.make_paths.ensures.used;
+      strides = c.make_paths.ensures.made.strides;
+      used = c.make_paths.ensures.made.used;
       leaves = map leaf_of c.in-Some.filed;
       whole = filings_leaves s c.args.row.now c.make_paths.new.pass.view c.in-Some.filed (length s.lanes) c.shape.ensures.lawful (omega arith)
-          c.in-Some.ensures.answer;
+          c.in-Some.ensures.made.answer;
     }
 
 ended : (g : Over) (c : goal.After-move_tail g)
@@ -147,10 +157,10 @@ ended g c =
     record {
       cells = record {
         begun = record { room = omega (arith, low, wide, room); took = c.take_ticket-found.ensures.made; is = c.fill.ensures.pass };
-        strides = c.fill_cells.ensures.strides;
+        strides = c.fill_cells.ensures.kept.strides;
         filled = c.fill_cells.ensures.filled;
       };
-      strides = c.link_all.ensures.strides;
+      strides = c.link_all.ensures.kept.strides;
       linked = c.link_all.ensures.linked;
       finishes = c.finish_record.ensures.made;
     }
@@ -165,7 +175,7 @@ stepped : (g : Over) (c : goal.After-move_tail g)
     → c.move_tail.new.steps ≤ c.make_paths.new.steps + word_count c.args.log.now.shape.schema + 3 + 8 * length c.args.log.now.shape.lanes
     + 2 * (length (c.move_tail.new.pass.view).seen - length (c.args.pass.now.view).seen + 1)
 stepped g c =
-    let before = ap (λ (es : List Entry). length es) c.make_paths.ensures.strides.seen in
+    let before = ap (λ (es : List Entry). length es) c.make_paths.ensures.made.strides.seen in
     let after = ap (λ (es : List Entry). length es) (went g c).seen in
     let two = c.take_ticket-found.ensures.steps in
     let three = c.fill.ensures.steps in
@@ -175,33 +185,29 @@ stepped g c =
     let seven = c.move_tail.ensures.steps in
     omega (arith, before, after, two, three, four, five, six, seven)
 
-pub returns-clause-answer : goal.returns-clause-answer
-returns-clause-answer g c =
-    appended c.args.log.now.shape c.args.row.now c.args.pass.now c.make_paths.new.pass c.take_ticket-found.new.pass c.fill.new.pass c.fill_cells.new.pass
-    c.link_all.new.pass c.finish_record.new.pass c.move_tail.new.pass c.take_ticket-found.result
-    (sym c.over.ensures ∙ c.if-over.false) (made g c) (ended g c) c.move_tail.ensures.books c.move_tail.ensures.stops
-
-pub returns-clause-stops : goal.returns-clause-stops
-returns-clause-stops g c =
-    appended_stops c.args.log.now.shape c.args.row.now c.args.pass.now c.make_paths.new.pass c.take_ticket-found.new.pass c.fill.new.pass
-    c.fill_cells.new.pass c.link_all.new.pass c.finish_record.new.pass c.move_tail.new.pass c.take_ticket-found.result (made g c) (ended g c)
-    c.move_tail.ensures.stops
-
-pub returns-then-found-from-clause-goes_on : goal.returns-then-found-from-clause-goes_on
-returns-then-found-from-clause-goes_on g c =
+pub returns-clause-appended : goal.returns-clause-appended
+returns-clause-appended g c =
     let s = c.args.log.now.shape in
+    let row = c.args.row.now in
     let m = c.args.pass.now in
     let p = c.make_paths.new.pass in
-    let t = c.take_ticket-found.new.pass in
-    goes_by m t (strides_then m p t c.make_paths.ensures.strides
-    (late_strides s p t c.take_ticket-found.result c.args.row.now c.take_ticket-found.ensures.made))
-
-pub returns-clause-goes_on : goal.returns-clause-goes_on
-returns-clause-goes_on g c =
-    let m = c.args.pass.now in
     let d = c.finish_record.new.pass in
-    goes_then m d c.move_tail.new.pass (goes_by m d (strides_then m c.make_paths.new.pass d c.make_paths.ensures.strides (went g c)))
-    c.move_tail.ensures.goes_on
+    let z = c.move_tail.new.pass in
+    let o = c.take_ticket-found.result in
+    let made = made g c in
+    let ended = ended g c in
+    let moved = c.move_tail.ensures.moved in
+    let is = appended s row m p c.take_ticket-found.new.pass c.fill.new.pass c.fill_cells.new.pass c.link_all.new.pass d z o
+    (sym c.over.ensures ∙ c.if-over.false) made ended moved.books moved.stops in
+    let rest = rests_by z.view (with_own o row (with_nodes is.paths.used.spots is.paths.used.label (book_of m.view))) is.books refl in
+    record {
+      goes_on = goes_then m d z (goes_by m d (strides_then m p d c.make_paths.ensures.made.strides (went g c))) moved.goes_on;
+      rest = rest;
+      answer = is;
+      begins = λ so. moved.begins;
+      stops = appended_stops s row m p c.take_ticket-found.new.pass c.fill.new.pass c.fill_cells.new.pass c.link_all.new.pass d z o made ended moved.stops;
+      alone = λ one. moved.alone one rest;
+    }
 
 pub returns-then-found-from-clause-near : goal.returns-then-found-from-clause-near
 returns-then-found-from-clause-near g c =

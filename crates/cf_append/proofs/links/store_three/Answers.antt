@@ -1,5 +1,7 @@
 use Rattle.std.proofs.Common.{◌+◌, sym, arith}
+use Rattle.std.proofs.lemmas.Grind.{common_steps}
 use Rattle.cf_shape.proofs.Bounds.{ticket_few}
+use Rattle.cf_table.proofs.Homing.{still_one}
 use Rattle.cf_append.specs.Linking.{cell_from}
 use Rattle.cf_append.proofs.Walking.{strides_then}
 use Rattle.cf_append.proofs.Cells.{cell_next, filled_at, first_filled, may_next, next_filled, second_filled, store_strides, three_low}
@@ -56,8 +58,8 @@ returns-clause-filled g c =
     (second_filled s c.args.pass.now c.store_cell.new.pass c.store_cell-2.new.pass c.args.cell.offset l i c.args.words.first c.args.words.sum row c.requires.at
     c.requires.filled c.store_cell.ensures.made c.store_cell-2.ensures.made) c.store_cell-3.ensures.made
 
-pub returns-clause-strides : goal.returns-clause-strides
-returns-clause-strides g c =
+pub returns-clause-kept : goal.returns-clause-kept
+returns-clause-kept g c =
     let s = c.args.log.now.shape in
     let row = c.args._row.now in
     let o = c.args.cell.offset in
@@ -67,9 +69,10 @@ returns-clause-strides g c =
     let m = c.store_cell.new.pass in
     let n = c.store_cell-2.new.pass in
     let z = c.store_cell-3.new.pass in
-    strides_then p m z (store_strides s p m o i c.args.words.first c.store_cell.ensures.made)
+    let went = strides_then p m z (store_strides s p m o i c.args.words.first c.store_cell.ensures.made)
     (strides_then m n z (store_strides s m n o (i + 1) c.args.words.sum c.store_cell-2.ensures.made)
-    (store_strides s n z o (i + 2) c.args.words.ends c.store_cell-3.ensures.made))
+    (store_strides s n z o (i + 2) c.args.words.ends c.store_cell-3.ensures.made)) in
+    record { of = still_one c.args.log.now p z c.requires.of went.same; strides = went; loads = grind (arith, common_steps) }
 
 pub overflow_add-cell : goal.overflow_add-cell
 overflow_add-cell g c =

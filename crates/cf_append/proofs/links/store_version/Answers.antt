@@ -1,4 +1,5 @@
-use Rattle.std.proofs.Common.{ℕ, List, ◌*◌, ◌∙◌, ◌≡◌, ◌+◌, ◌-◌, ◌/◌, ◌%◌, ◌∷◌, Some, false, true, ap, sym, subst, arith}
+use Rattle.std.proofs.Common.{ℕ, List, ◌∙◌, ◌≡◌, ◌-◌, ◌/◌, ◌%◌, ◌∷◌, Some, false, true, ap, sym, subst, arith}
+use Rattle.std.proofs.lemmas.Grind.{common_steps}
 use Rattle.cf_shape.proofs.Bounds.{ticket_few}
 use Rattle.cf_shape.specs.Nodes.{levels_of}
 use Rattle.cf_law.specs.Nibbles.{nibbles}
@@ -12,6 +13,7 @@ use Rattle.cf_law.specs.Words.{spot, link_to_newest}
 use Rattle.cf_law.specs.Passes.{Book}
 use Rattle.cf_law.specs.Shapes.{path_in}
 use Rattle.cf_table.specs.Values.{book_of}
+use Rattle.cf_table.proofs.Homing.{still_one}
 use Rattle.cf_append.specs.Linking.{amounts_in_chain, key_path, leaf_chain}
 use Rattle.cf_append.proofs.Newest.{amounts_few, top_few, quad_cell}
 use Rattle.cf_shape.proofs.KeyLevels.{levels_two}
@@ -93,14 +95,17 @@ store_cell-requires-clause-lawful g c =
     let filed = filed_some s row c.args.pass.now.view l c.args.filing c.in-Some.at c.in-Some.is c.requires.filing in
     let leads = filed_path s row l c.args.pass.now.view c.in-Some.at many filed in
     may_version s c.args.pass.now c.own_head-previous.new.pass c.args.cell.offset l c.args.cell.from c.own_head-previous.result row
-    (key % 16 ∷ nibbles (levels_of s l - 1) (key / 16)) c.requires.filled c.own_head-previous.ensures.books c.requires.lane bare c.requires.at
+    (key % 16 ∷ nibbles (levels_of s l - 1) (key / 16)) c.requires.filled c.own_head-previous.ensures.reads.books c.requires.lane bare c.requires.at
     leads c.own_head-previous.ensures.head
 
-pub returns-clause-strides : goal.returns-clause-strides
-returns-clause-strides g c =
-    strides_then c.args.pass.now c.own_head-previous.new.pass c.store_cell.new.pass c.own_head-previous.ensures.strides
-    (store_strides c.args.log.now.shape c.own_head-previous.new.pass c.store_cell.new.pass c.args.cell.offset c.args.cell.from c.own_head-previous.result
-    c.store_cell.ensures.made)
+pub returns-clause-kept : goal.returns-clause-kept
+returns-clause-kept g c =
+    let p = c.args.pass.now in
+    let n = c.own_head-previous.new.pass in
+    let z = c.store_cell.new.pass in
+    let went = strides_then p n z c.own_head-previous.ensures.reads.strides
+    (store_strides c.args.log.now.shape n z c.args.cell.offset c.args.cell.from c.own_head-previous.result c.store_cell.ensures.made) in
+    record { of = still_one c.args.log.now p z c.requires.of went.same; strides = went; loads = grind (arith, common_steps) }
 
 pub returns-clause-filled : goal.returns-clause-filled
 returns-clause-filled g c =
@@ -108,13 +113,13 @@ returns-clause-filled g c =
     let bare : is_measured s c.args.cell.lane ≡ false = ap (λ (h : ShapeValue). is_measured h c.args.cell.lane) (sym c.shape-shape.ensures.shape)
     ∙ (sym c.measures.ensures ∙ c.if-measures.false) in
     filled_more c.args.log.now.shape c.args.pass.now c.own_head-previous.new.pass c.store_cell.new.pass c.args.cell.offset c.args.cell.lane c.args.cell.from
-    c.own_head-previous.result c.args.row.now c.requires.filled c.own_head-previous.ensures.books c.requires.lane bare c.requires.at
+    c.own_head-previous.result c.args.row.now c.requires.filled c.own_head-previous.ensures.reads.books c.requires.lane bare c.requires.at
     c.store_cell.ensures.made
 
 pub quad_with-quad-requires-clause-previous : goal.quad_with-quad-requires-clause-previous
 quad_with-quad-requires-clause-previous g c =
     filed_newest c.args.log.now.shape c.args.row.now c.args.pass.now c.own_head-previous.new.pass c.args.cell.offset c.args.cell.lane
-    c.own_head-previous.result c.args.filing c.in-Some.at c.in-Some.is c.requires.filing c.requires.filled c.own_head-previous.ensures.books
+    c.own_head-previous.result c.args.filing c.in-Some.at c.in-Some.is c.requires.filing c.requires.filled c.own_head-previous.ensures.reads.books
     c.own_head-previous.ensures.head
 
 pub of-words-requires-clause-link : goal.of-words-requires-clause-link
@@ -125,9 +130,9 @@ of-words-requires-clause-link g c =
     let n = c.own_head-previous.new.pass in
     let previous =
     filed_newest c.args.log.now.shape c.args.row.now c.args.pass.now c.own_head-previous.new.pass c.args.cell.offset c.args.cell.lane
-    c.own_head-previous.result c.args.filing c.in-Some.at c.in-Some.is c.requires.filing c.requires.filled c.own_head-previous.ensures.books
+    c.own_head-previous.result c.args.filing c.in-Some.at c.in-Some.is c.requires.filing c.requires.filled c.own_head-previous.ensures.reads.books
     c.own_head-previous.ensures.head in
-    let own = book_same s c.args.pass.now n c.requires.book c.own_head-previous.ensures.books in
+    let own = book_same s c.args.pass.now n c.requires.book c.own_head-previous.ensures.reads.books in
     let room = c.shape-shape.ensures.lawful.capacity in
     let most = top_few s (spot l (key_path s l key)) (book_of n.view) own in
     omega (arith, room, previous, most)
@@ -139,7 +144,7 @@ of-words-requires-clause-few g c =
     let key = key_of s l c.args.row.now in
     let m = c.args.pass.now in
     let n = c.own_head-previous.new.pass in
-    let own = book_same s m n c.requires.book c.own_head-previous.ensures.books in
+    let own = book_same s m n c.requires.book c.own_head-previous.ensures.reads.books in
     let quad = c.quad_with-quad.ensures.quad in
     let count = ap (λ (q : QuadValue). q.count) quad in
     let few = amounts_few s l (spot l (key_path s l key)) (book_of n.view) own in
@@ -165,11 +170,11 @@ store_three-requires-clause-words g c =
     let n = c.own_head-previous.new.pass in
     let previous =
     filed_newest c.args.log.now.shape c.args.row.now c.args.pass.now c.own_head-previous.new.pass c.args.cell.offset c.args.cell.lane
-    c.own_head-previous.result c.args.filing c.in-Some.at c.in-Some.is c.requires.filing c.requires.filled c.own_head-previous.ensures.books
+    c.own_head-previous.result c.args.filing c.in-Some.at c.in-Some.is c.requires.filing c.requires.filled c.own_head-previous.ensures.reads.books
     c.own_head-previous.ensures.head in
     let z = c.quad_with-quad.new.pass in
     let measured : is_measured s l ≡ true = ap (λ (x : ShapeValue). is_measured x l) (sym same) ∙ (sym c.measures.ensures ∙ c.if-measures.true) in
-    let kept = same_book n z c.quad_with-quad.ensures.books in
+    let kept = same_book n z c.quad_with-quad.ensures.reads.books in
     let chain = ap (λ (b : Book). leaf_chain s l key b) (sym kept) in
     quad_cell s l (leaf_chain s l key (book_of z.view)) row c.quad_with-quad.result c.own_head-previous.result c.of-words.result measured
     (previous ∙ ap link_to_newest chain)

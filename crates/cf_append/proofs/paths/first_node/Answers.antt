@@ -11,15 +11,12 @@ take_child-requires g c κs within =
     let at = c.args.at in (
       within,
       (
-        c.requires.of,
+        c.requires.ready,
         (
-          c.requires.rest,
+          first_child c.args.log.now.shape c.args.pass.now.view at c.requires.prefix c.requires.one,
           (
-            first_child c.args.log.now.shape c.args.pass.now.view at c.requires.prefix c.requires.one,
-            (
-              c.place_root-place.ensures ∙ ap (λ (s : ShapeValue). place_of s (root_child at.lane (at.front % 16))) c.shape.ensures.shape,
-              sym (length-nibbles at.level at.front),
-            ),
+            c.place_root-place.ensures ∙ ap (λ (s : ShapeValue). place_of s (root_child at.lane (at.front % 16))) c.shape.ensures.shape,
+            sym (length-nibbles at.level at.front),
           ),
         ),
       ),

@@ -1,12 +1,13 @@
-use Rattle.std.proofs.Common.{◌-◌, ◌/◌, refl, slice_get, ap, sym, subst, ◌∙◌, ℕ, arith}
+use Rattle.std.proofs.Common.{◌-◌, ◌/◌, refl, slice_get, ap, sym, subst, ◌∙◌, ℕ, arith, rules}
 use Rattle.cf_shape.specs.Lanes.{ShapeValue, key_of}
 use Rattle.cf_shape.specs.Nodes.{levels_of}
 use Rattle.cf_law.specs.Words.{spot}
 use Rattle.cf_law.specs.Nibbles.{nibbles}
+use Rattle.cf_law.specs.Passes.{Pass}
 use Rattle.cf_append.specs.declared.paths.Prefix.{Prefix}
 use Rattle.cf_append.specs.declared.leaves.Leaves.{Leaves}
-use Rattle.cf_append.specs.Paths.{IsAlong, IsOnPath, IsNodeOf, Remembers, KeepsLeaf}
-use Rattle.cf_append.proofs.Walking.{strides_none, used_by, used_same, stuck_by}
+use Rattle.cf_append.specs.Paths.{IsAlong, IsOnPath, IsNodeOf, IsFiled, Remembers, KeepsLeaf, spot_of}
+use Rattle.cf_append.proofs.Walking.{strides_none, used_by, used_same, made_none}
 use Rattle.cf_append.proofs.Pathing.{whole_at, on_path, remembers_still, remembers_more, kept_by, kept_now, kept_other, not_kept}
 use Rattle.cf_append.proofs.paths.make_path.Goals as goal
 
@@ -25,62 +26,63 @@ keep-requires g c =
     omega (arith, low, few, long)
 
 -- by the kept leaf
-pub returns-in-Some-clause-used : goal.returns-in-Some-clause-used
-returns-in-Some-clause-used g c = used_same _ c.args.pass.now c.args.pass.now c.requires.rest refl
-
-pub returns-in-Some-clause-answer : goal.returns-in-Some-clause-answer
-returns-in-Some-clause-answer g c = record {
-  selects = c.requires.selects;
-  key = c.key-key.ensures ∙ ap (λ (h : ShapeValue). key_of h c.args.lane c.args.row.now) c.shape-shape.ensures.shape;
-  node = c.requires.near.stands c.args.lane (c.key-key.result / 16) c.in-Some.leaf c.requires.lane c.in-Some.ensures.found;
-}
+pub returns-in-Some-clause-made : goal.returns-in-Some-clause-made
+returns-in-Some-clause-made g c =
+    record {
+      of = c.requires.ready.of;
+      rest = c.requires.ready.rest;
+      strides = strides_none c.args.pass.now;
+      used = used_same _ c.args.pass.now c.args.pass.now c.requires.ready.rest refl;
+      answer = record {
+        selects = c.requires.selects;
+        key = c.key-key.ensures ∙ ap (λ (h : ShapeValue). key_of h c.args.lane c.args.row.now) c.shape-shape.ensures.shape;
+        node = c.requires.near.stands c.args.lane (c.key-key.result / 16) c.in-Some.leaf c.requires.lane c.in-Some.ensures.found;
+      };
+      begins = search rules;
+      loads = omega arith;
+    }
 
 -- by no node
-pub returns-in_default-make_node-clause-used : goal.returns-in_default-make_node-clause-used
-returns-in_default-make_node-clause-used g c =
-    let s = c.args.log.now.shape in
+pub returns-in_default-make_node-clause-made : goal.returns-in_default-make_node-clause-made
+returns-in_default-make_node-clause-made g c =
+    let log = c.args.log.now in
+    let s = log.shape in
     let row = c.args.row.now in
     let l = c.args.lane in
     let at : Prefix = record { lane = l; level = c.levels.result - 1; front = c.key-key.result / 16 } in
     let w = whole_at s c.shape-shape.result.now row l c.levels.result c.key-key.result c.shape-shape.ensures.shape c.shape-shape.ensures.lawful c.requires.lane
     c.requires.selects c.levels.ensures c.key-key.ensures in
-    used_by (IsAlong at) (IsOnPath s row) c.args.pass.now c.make_node.new.pass (on_path s row l at w) c.make_node.ensures.used
-
-pub returns-in_default-make_node-clause-answer : goal.returns-in_default-make_node-clause-answer
-returns-in_default-make_node-clause-answer g c =
-    let s = c.args.log.now.shape in
-    let row = c.args.row.now in
-    let l = c.args.lane in
-    let m = c.args.pass.now in
-    let at : Prefix = record { lane = l; level = c.levels.result - 1; front = c.key-key.result / 16 } in
-    let w = whole_at s c.shape-shape.result.now row l c.levels.result c.key-key.result c.shape-shape.ensures.shape c.shape-shape.ensures.lawful c.requires.lane
-    c.requires.selects c.levels.ensures c.key-key.ensures in
-    stuck_by s (IsAlong at) (IsOnPath s row) m m c.make_node.new.pass (on_path s row l at w) (strides_none m) c.in_default-make_node.ensures.answer
+    made_none log (IsAlong at) (IsOnPath s row) (λ (p : Pass). IsNodeOf s p (spot_of at)) (λ (p : Pass). IsFiled s row p l) c.args.pass.now
+    c.make_node.new.pass c.args.steps.now c.make_node.new.steps (on_path s row l at w) c.in_default-make_node.ensures.made
 
 pub returns-in_default-make_node-clause-near : goal.returns-in_default-make_node-clause-near
 returns-in_default-make_node-clause-near g c =
-    remembers_still c.args.log.now.shape c.args.pass.now.view c.make_node.new.pass.view c.args.leaves.now c.make_node.ensures.strides.knows c.requires.near
+    remembers_still c.args.log.now.shape c.args.pass.now.view c.make_node.new.pass.view c.args.leaves.now c.make_node.ensures.made.strides.knows c.requires.near
 
 -- by the node that was made
-pub returns-clause-used : goal.returns-clause-used
-returns-clause-used g c =
+pub returns-clause-made : goal.returns-clause-made
+returns-clause-made g c =
     let s = c.args.log.now.shape in
     let row = c.args.row.now in
     let l = c.args.lane in
+    let q = c.make_node.new.pass.view in
     let at : Prefix = record { lane = l; level = c.levels.result - 1; front = c.key-key.result / 16 } in
     let w = whole_at s c.shape-shape.result.now row l c.levels.result c.key-key.result c.shape-shape.ensures.shape c.shape-shape.ensures.lawful c.requires.lane
     c.requires.selects c.levels.ensures c.key-key.ensures in
-    used_by (IsAlong at) (IsOnPath s row) c.args.pass.now c.make_node.new.pass (on_path s row l at w) c.make_node.ensures.used
-
-pub returns-clause-answer : goal.returns-clause-answer
-returns-clause-answer g c =
-    let s = c.args.log.now.shape in
-    let l = c.args.lane in
-    let q = c.make_node.new.pass.view in
-    let level = ap (λ (k : ℕ). k - 1) (c.levels.ensures ∙ ap (λ (h : ShapeValue). levels_of h l) c.shape-shape.ensures.shape) in record {
-      selects = c.requires.selects;
-      key = c.key-key.ensures ∙ ap (λ (h : ShapeValue). key_of h l c.args.row.now) c.shape-shape.ensures.shape;
-      node = subst (λ (k : ℕ). IsNodeOf s q (spot l (nibbles k (c.key-key.result / 16))) c.in-Some-make_node.leaf) level c.in-Some-make_node.ensures.answer;
+    let level = ap (λ (k : ℕ). k - 1) (c.levels.ensures ∙ ap (λ (h : ShapeValue). levels_of h l) c.shape-shape.ensures.shape) in
+    let made = c.in-Some-make_node.ensures.made in
+    record {
+      of = made.of;
+      rest = made.rest;
+      strides = made.strides;
+      used = used_by (IsAlong at) (IsOnPath s row) c.args.pass.now c.make_node.new.pass (on_path s row l at w) made.used;
+      answer = record {
+        selects = c.requires.selects;
+        key = c.key-key.ensures ∙ ap (λ (h : ShapeValue). key_of h l c.args.row.now) c.shape-shape.ensures.shape;
+        node = subst (λ (k : ℕ). IsNodeOf s q (spot l (nibbles k (c.key-key.result / 16))) c.in-Some-make_node.leaf) level made.answer;
+      };
+      begins = search rules;
+      loads = made.loads;
     }
 
 pub returns-clause-near : goal.returns-clause-near
@@ -89,9 +91,9 @@ returns-clause-near g c =
     let l = c.args.lane in
     let q = c.make_node.new.pass.view in
     let level = ap (λ (k : ℕ). k - 1) (c.levels.ensures ∙ ap (λ (h : ShapeValue). levels_of h l) c.shape-shape.ensures.shape) in
-    let near = remembers_still s c.args.pass.now.view q c.args.leaves.now c.make_node.ensures.strides.knows c.requires.near in
+    let near = remembers_still s c.args.pass.now.view q c.args.leaves.now c.make_node.ensures.made.strides.knows c.requires.near in
     let there = subst
-    (λ (k : ℕ). IsNodeOf s q (spot l (nibbles k (c.key-key.result / 16))) c.in-Some-make_node.leaf) level c.in-Some-make_node.ensures.answer in
+    (λ (k : ℕ). IsNodeOf s q (spot l (nibbles k (c.key-key.result / 16))) c.in-Some-make_node.leaf) level c.in-Some-make_node.ensures.made.answer in
     subst (Remembers s q) (sym c.keep.ensures)
     (remembers_more s q c.args.leaves.now l (c.key-key.result / 16) c.in-Some-make_node.leaf c.requires.lane c.shape-shape.ensures.lawful.few near there)
 

@@ -11,15 +11,12 @@ take_child-requires g c κs within =
     let at = c.args.at in (
       within,
       (
-        c.requires.of,
+        c.requires.ready,
         (
-          c.requires.rest,
+          next_child c.args.log.now.shape c.args.pass.now.view at c.args.above c.shape.ensures.lawful c.requires.prefix c.requires.more c.requires.above,
           (
-            next_child c.args.log.now.shape c.args.pass.now.view at c.args.above c.shape.ensures.lawful c.requires.prefix c.requires.more c.requires.above,
-            (
-              c.place_child-place.ensures ∙ ap (λ (s : ShapeValue). place_of s (child c.args.above (at.front % 16))) c.shape.ensures.shape,
-              sym (length-nibbles at.level at.front),
-            ),
+            c.place_child-place.ensures ∙ ap (λ (s : ShapeValue). place_of s (child c.args.above (at.front % 16))) c.shape.ensures.shape,
+            sym (length-nibbles at.level at.front),
           ),
         ),
       ),

@@ -23,16 +23,18 @@ returns g c =
     let load = tail_loads s m n false c.load_tail.result _ _ loaded one in
     let loads = c.settle_tail.ensures.loads in
     record {
-      goes_on = goes_on m o moved known;
-      books = moved.books;
+      moved = record {
+        goes_on = goes_on m o moved known;
+        books = moved.books;
+        stops = stops_since s m.view n.view o.view (counts_tail s m n c.load_tail.result loaded) c.settle_tail.ensures.stops;
+        begins = c.settle_tail.ensures.begins;
+        fit = settled.fit;
+        alone = λ single rest. settled.all (home_alone s o.view single settled.bounds rest);
+        full = λ single rest. settled.full (home_alone s o.view single settled.bounds rest);
+        paths = λ single rest. settled.paths (home_alone s o.view single settled.bounds rest);
+        bounds = settled.bounds;
+      };
       known = known;
-      stops = stops_since s m.view n.view o.view (counts_tail s m n c.load_tail.result loaded) c.settle_tail.ensures.stops;
-      begins = c.settle_tail.ensures.begins;
-      fit = settled.fit;
-      alone = λ single rest. settled.all (home_alone s o.view single settled.bounds rest);
-      full = λ single rest. settled.full (home_alone s o.view single settled.bounds rest);
-      paths = λ single rest. settled.paths (home_alone s o.view single settled.bounds rest);
-      bounds = settled.bounds;
       steps = omega (arith, one, more, long, longer);
       loads = omega (arith, load, loads);
     }

@@ -14,21 +14,21 @@ loop-row-init g c =
 
 pub returns-in-Err-Full-clause-wrote : goal.returns-in-Err-Full-clause-wrote
 returns-in-Err-Full-clause-wrote g c =
-    let made = c.append_near.ensures in
+    let made = c.append_near.ensures.appended in
     let err : c.append_near.result ≡ Err Full = search rules in
     stops_full c.args.log.now c.args.first c.args.batch.now c.args.pass.now c.loop-row.number c.loop-row.row-index c.loop-row.pass c.append_near.new.pass
     c.append_near.result c.row-item.result c.loop-row.invariant.goes c.loop-row-test.true (sym c.row-item.is) made.goes_on made.rest made.answer err
 
 pub returns-in-Err-NodesFull-clause-wrote : goal.returns-in-Err-NodesFull-clause-wrote
 returns-in-Err-NodesFull-clause-wrote g c =
-    let made = c.append_near.ensures in
+    let made = c.append_near.ensures.appended in
     let err : c.append_near.result ≡ Err NodesFull = search rules in
     (stops_out c.args.log.now c.args.first c.args.batch.now c.args.pass.now c.loop-row.number c.loop-row.row-index c.loop-row.pass c.append_near.new.pass
     c.append_near.result c.row-item.result c.loop-row.invariant.goes c.loop-row-test.true (sym c.row-item.is) made.goes_on made.rest made.answer err).0
 
 pub returns-in-Err-NodesFull-clause-out : goal.returns-in-Err-NodesFull-clause-out
 returns-in-Err-NodesFull-clause-out g c =
-    let made = c.append_near.ensures in
+    let made = c.append_near.ensures.appended in
     let err : c.append_near.result ≡ Err NodesFull = search rules in
     let writers = c.from-writers.ensures ∙ (c.writers.ensures.writers ∙ ap (λ (s : ShapeValue). s.writers) c.shape.ensures.shape) in
     let same = ap (λ n. c.loop-row.number % n) writers in
@@ -46,14 +46,14 @@ loop-row-preserved g c =
     let writer = c.from.ensures ∙ c.writer-writer.ensures.writer in
     elim c.if-number-writers.branch [
       | then-number-writers+in-Ok w ↦
-          let made = w.append_near.ensures in
+          let made = w.append_near.ensures.appended in
           let ok : w.append_near.result ≡ Ok w.in-Ok.field-0 = search rules in
           rw (w.pass-is, w.leaves-is)
           (record {
             goes = goes_answered c.args.log.now c.args.first c.args.batch.now c.args.pass.now k i c.loop-row.pass w.append_near.new.pass
                 w.append_near.result w.in-Ok.field-0 c.row-item.result c.loop-row.invariant.goes c.loop-row-test.true (sym c.row-item.is)
                 (sym same ∙ (w.if-number-writers.true ∙ writer)) made.goes_on made.rest made.answer ok;
-            near = made.near;
+            near = w.append_near.ensures.near;
           })
       | else-number-writers w ↦ rw (w.pass-is, w.leaves-is)
           (record {

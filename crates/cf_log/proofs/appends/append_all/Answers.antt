@@ -1,6 +1,6 @@
 use Rattle.std.proofs.Common.{◌∙◌, Ok, ap, refl, arith, length-set}
 use Rattle.cf_table.specs.Values.{PassValue}
-use Rattle.cf_log.specs.Appended.{HasAppended}
+use Rattle.cf_append.specs.Appends.{HasAppended}
 use Rattle.cf_log.proofs.Chained.{found_at, goes_more, rest_more}
 use Rattle.cf_log.proofs.appends.append_all.Goals as goal
 

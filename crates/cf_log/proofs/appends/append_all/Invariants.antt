@@ -1,8 +1,7 @@
 use Rattle.std.proofs.Common.{◌≡◌, Ok, length, take, drop}
 use Rattle.cf_table.specs.Values.{IsOf}
-use Rattle.cf_append.specs.Appends.{Rests}
+use Rattle.cf_append.specs.Appends.{HasAppended, Rests}
 use Rattle.cf_append.specs.Paths.{Remembers}
-use Rattle.cf_log.specs.Appended.{HasAppended}
 use Rattle.cf_log.specs.Chains.{Chain}
 use Rattle.cf_log.proofs.appends.append_all.Given as goal
 

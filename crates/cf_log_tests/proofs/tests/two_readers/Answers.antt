@@ -1,4 +1,4 @@
-use Rattle.std.proofs.Common.{◌∙◌, List, ap, sym, subst}
+use Rattle.std.proofs.Common.{◌∙◌, List, ap, sym, subst, rules}
 use Rattle.cf_shape.specs.Lanes.{ShapeValue}
 use Rattle.cf_law.specs.Shapes.{layout}
 use Rattle.cf_table.specs.Values.{PassValue}
@@ -6,25 +6,19 @@ use Rattle.cf_table.specs.Moves.{AreAll}
 use Rattle.cf_log_tests.proofs.Writers.{forked_first, appended, all_one, home_same}
 use Rattle.cf_log_tests.proofs.tests.two_readers.Goals as goal
 
-pub append-requires-clause-of : goal.append-requires-clause-of
-append-requires-clause-of g c =
+pub append-requires-clause-may : goal.append-requires-clause-may
+append-requires-clause-may g c =
     let o = c.in_ok-log.ensures in
-    (forked_first c.in_ok-shape.shape c.in_ok-log.log c.in_ok-log.root c.fork-first.new.root c.fork-second.new.root c.deal.new.root c.first_of-writer.result
-    c.in_ok-deal.field-0.items c.first_of-writer.ensures.0 o.shape o.root c.fork-first.ensures.root c.fork-second.ensures.root c.in_ok-deal.ensures.dealt
-    c.first_of-writer.ensures.1).of
-
-pub append-requires-clause-rest : goal.append-requires-clause-rest
-append-requires-clause-rest g c =
-    let o = c.in_ok-log.ensures in
-    (forked_first c.in_ok-shape.shape c.in_ok-log.log c.in_ok-log.root c.fork-first.new.root c.fork-second.new.root c.deal.new.root c.first_of-writer.result
-    c.in_ok-deal.field-0.items c.first_of-writer.ensures.0 o.shape o.root c.fork-first.ensures.root c.fork-second.ensures.root c.in_ok-deal.ensures.dealt
-    c.first_of-writer.ensures.1).rest
+    let ready = forked_first c.in_ok-shape.shape c.in_ok-log.log c.in_ok-log.root c.fork-first.new.root c.fork-second.new.root c.deal.new.root
+    c.first_of-writer.result c.in_ok-deal.field-0.items c.first_of-writer.ensures.0 o.shape o.root c.fork-first.ensures.root c.fork-second.ensures.root
+    c.in_ok-deal.ensures.dealt c.first_of-writer.ensures.1 in
+    record { of = ready.of; fits = search rules; rest = ready.rest }
 
 pub gather-requires-clause-all : goal.gather-requires-clause-all
 gather-requires-clause-all g c =
     let log = c.in_ok-log.log in
     let o = c.in_ok-log.ensures in
-    let e = c.append.ensures in
+    let e = c.append.ensures.appended in
     let ready = forked_first c.in_ok-shape.shape log c.in_ok-log.root c.fork-first.new.root c.fork-second.new.root c.deal.new.root c.first_of-writer.result
     c.in_ok-deal.field-0.items c.first_of-writer.ensures.0 o.shape o.root c.fork-first.ensures.root c.fork-second.ensures.root c.in_ok-deal.ensures.dealt
     c.first_of-writer.ensures.1 in

@@ -5,26 +5,26 @@ use Rattle.cf_snapshot.proofs.host.cover_counted.Goals as goal
 
 pub settle-requires-clause-of : goal.settle-requires-clause-of
 settle-requires-clause-of g c =
-    Rattle.cf_table.proofs.Homing.still_one c.args.log.now c.args.pass.now c.append-answer.new.pass c.requires.alone.of c.append-answer.ensures.goes_on.same
+    Rattle.cf_table.proofs.Homing.still_one c.args.log.now c.args.pass.now c.append-answer.new.pass c.requires.alone.of c.append-answer.ensures.appended.goes_on.same
 
 pub settle-requires-clause-place : goal.settle-requires-clause-place
 settle-requires-clause-place g c =
     let is = c.unwrap_or-offset.ensures in
     let low = placed c.args.log.now.shape c.args.row.now c.args.pass.now c.append-answer.new.pass c.append-answer.result
-    c.shape-lawful.ensures.lawful.capacity.0 c.append-answer.ensures.answer in
+    c.shape-lawful.ensures.lawful.capacity.0 c.append-answer.ensures.appended.answer in
     omega (arith, is, low)
 
 pub returns-clause-alone : goal.returns-clause-alone
 returns-clause-alone g c =
-    let a = c.append-answer.ensures in
-    let s = c.settle.ensures in
+    let a = c.append-answer.ensures.appended in
+    let s = c.settle.ensures.settled.moved in
     alone_then c.args.log.now c.args.row.now c.args.pass.now c.append-answer.new.pass c.settle.new.pass c.append-answer.result c.requires.alone a.goes_on
     a.rest a.answer s.goes_on s.books s.fit s.alone s.full
 
 pub returns-clause-answer : goal.returns-clause-answer
 returns-clause-answer g c =
-    let a = c.append-answer.ensures in
-    let s = c.settle.ensures in
+    let a = c.append-answer.ensures.appended in
+    let s = c.settle.ensures.settled.moved in
     let now = alone_then c.args.log.now c.args.row.now c.args.pass.now c.append-answer.new.pass c.settle.new.pass c.append-answer.result c.requires.alone
     a.goes_on a.rest a.answer s.goes_on s.books s.fit s.alone s.full in
     covered c.args.log.now c.args.row.now c.args.pass.now c.append-answer.new.pass c.settle.new.pass c.append-answer.result c.requires.alone a.goes_on
@@ -33,12 +33,12 @@ returns-clause-answer g c =
 pub returns-clause-nodes : goal.returns-clause-nodes
 returns-clause-nodes g c =
     used_for c.args.log.now.shape c.args.row.now c.args.pass.now c.append-answer.new.pass c.settle.new.pass c.append-answer.result
-    c.append-answer.ensures.answer c.settle.ensures.books
+    c.append-answer.ensures.appended.answer c.settle.ensures.settled.moved.books
 
 pub returns-clause-enough : goal.returns-clause-enough
 returns-clause-enough g c =
-    let a = c.append-answer.ensures in
-    let s = c.settle.ensures in
+    let a = c.append-answer.ensures.appended in
+    let s = c.settle.ensures.settled.moved in
     let now = alone_then c.args.log.now c.args.row.now c.args.pass.now c.append-answer.new.pass c.settle.new.pass c.append-answer.result c.requires.alone
     a.goes_on a.rest a.answer s.goes_on s.books s.fit s.alone s.full in
     enough_ok c.args.log.now c.settle.new.pass c.append-answer.result c.shape-lawful.ensures.lawful now (s.paths now.one now.rest) s.bounds
@@ -46,4 +46,4 @@ returns-clause-enough g c =
 pub returns-clause-lacks : goal.returns-clause-lacks
 returns-clause-lacks g c =
     lacking c.args.log.now c.args.row.now c.args.pass.now c.append-answer.new.pass c.append-answer.result c.shape-lawful.ensures.lawful
-    c.append-answer.ensures.answer
+    c.append-answer.ensures.appended.answer

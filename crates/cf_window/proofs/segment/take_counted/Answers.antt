@@ -8,13 +8,13 @@ use Rattle.cf_window.proofs.segment.take_counted.Goals as goal
 pub settle-requires-clause-of : goal.settle-requires-clause-of
 settle-requires-clause-of g c =
     Rattle.cf_table.proofs.Homing.still_one c.args.log.now c.args.pass.now c.append-answer.new.pass c.requires.segment.alone.of
-    c.append-answer.ensures.goes_on.same
+    c.append-answer.ensures.appended.goes_on.same
 
 pub settle-requires-clause-place : goal.settle-requires-clause-place
 settle-requires-clause-place g c =
     let is = c.unwrap_or-offset.ensures in
     let low = placed c.args.log.now.shape c.args.row.now c.args.pass.now c.append-answer.new.pass c.append-answer.result
-    c.shape-lawful.ensures.lawful.capacity.0 c.append-answer.ensures.answer in
+    c.shape-lawful.ensures.lawful.capacity.0 c.append-answer.ensures.appended.answer in
     omega (arith, is, low)
 
 pub returns-clause-segment : goal.returns-clause-segment
@@ -25,8 +25,8 @@ returns-clause-segment g c =
     let n = c.append-answer.new.pass in
     let o = c.settle.new.pass in
     let r = c.append-answer.result in
-    let a = c.append-answer.ensures in
-    let s = c.settle.ensures in
+    let a = c.append-answer.ensures.appended in
+    let s = c.settle.ensures.settled.moved in
     let alone = c.requires.segment.alone in
     let now = alone_then log row m n o r alone a.goes_on a.rest a.answer s.goes_on s.books s.fit s.alone s.full in
     let has = taken log row m n o c.shape-lawful.ensures.lawful c.requires.segment now s.books (s.paths alone.one now.rest) s.bounds r a.answer
@@ -41,8 +41,8 @@ returns-clause-taken g c =
     let n = c.append-answer.new.pass in
     let o = c.settle.new.pass in
     let r = c.append-answer.result in
-    let a = c.append-answer.ensures in
-    let s = c.settle.ensures in
+    let a = c.append-answer.ensures.appended in
+    let s = c.settle.ensures.settled.moved in
     let alone = c.requires.segment.alone in
     let now = alone_then log row m n o r alone a.goes_on a.rest a.answer s.goes_on s.books s.fit s.alone s.full in
     let has = taken log row m n o c.shape-lawful.ensures.lawful c.requires.segment now s.books (s.paths alone.one now.rest) s.bounds r a.answer
@@ -57,8 +57,8 @@ returns-clause-rows g c =
     let n = c.append-answer.new.pass in
     let o = c.settle.new.pass in
     let r = c.append-answer.result in
-    let a = c.append-answer.ensures in
-    let s = c.settle.ensures in
+    let a = c.append-answer.ensures.appended in
+    let s = c.settle.ensures.settled.moved in
     let alone = c.requires.segment.alone in
     let now = alone_then log row m n o r alone a.goes_on a.rest a.answer s.goes_on s.books s.fit s.alone s.full in
     let has = taken log row m n o c.shape-lawful.ensures.lawful c.requires.segment now s.books (s.paths alone.one now.rest) s.bounds r a.answer

@@ -1,6 +1,6 @@
 use Rattle.std.proofs.Common.{refl, subst}
 use Rattle.std.specs.Arc.{arc_value}
-use Rattle.cf_log.specs.Appended.{HasAppended}
+use Rattle.cf_append.specs.Appends.{HasAppended}
 use Rattle.cf_store.specs.declared.held.Shared.{Shared}
 use Rattle.cf_store.proofs.Homeward.{may_still}
 use Rattle.cf_store.proofs.held.Writer.append_fitting.Goals as goal
