@@ -6,7 +6,7 @@ ghost use Rattle.cf_plain.specs.Answered.{answer_on};
 ghost use Rattle.cf_table.specs.Values.{IsOf};
 ghost use Rattle.cf_table.specs.Moves.{HoldsAllBooks, IsReading};
 ghost use Rattle.cf_table.specs.Loads.{CountsLoads};
-ghost use Rattle.cf_query.specs.Walks.{OnlyWalked};
+ghost use Rattle.cf_query.specs.Walks.{HasWalked};
 ghost use Rattle.cf_query.specs.Asking.{HasAsked};
 ghost use Rattle.cf_query.specs.Walking.{AsksOne, AsksBucket};
 ghost use Rattle.cf_load.specs.Costs.{bucket_steps, key_steps};
@@ -80,12 +80,11 @@ pub(crate) fn find_behind<P: Pass, L: Ledger>(
     requires suits { Suits log.now.shape ask.now }
     requires few { before.0 + log.now.shape.capacity ≤ 2 ^ 20 }
     requires found { (entries : List Entry) × HasFound log.now.shape ask.now entries before.0 before.1 }
-    ensures walked { OnlyWalked (P.held pass.old) (P.held pass.new) }
+    ensures walked { HasWalked (P.held pass.old) (P.held pass.new) steps.old steps.new }
     ensures found { (entries : List Entry) → HasFound log.now.shape ask.now entries before.0 before.1
         → IfOk result (λ found. HasFound log.now.shape ask.now (entries ++ (P.held pass.old).view.seen) found.0 found.1) }
     ensures steps { AsksOne ask.now → IfOk result (λ _. steps.new + 1 ≤ steps.old + key_steps log.now.shape ask.now (P.held pass.old).view.seen) }
     ensures bucket { AsksBucket ask.now → IfOk result (λ _. steps.new + 1 ≤ steps.old + bucket_steps log.now.shape ask.now (P.held pass.old).view.seen) }
-    ensures loads { CountsLoads (P.held pass.old) (P.held pass.new) steps.old steps.new }
 {
     let (base, start) = before;
     let more = finding_seen(log, alloc, pass, ask, steps)?;

@@ -2,13 +2,14 @@
 ghost use Rattle.std.specs.Prelude.{◌≡◌, ◌<◌, ◌≤◌, All, length, map, true, IfOk, IfErr};
 ghost use Rattle.cf_shape.specs.Uses.{is_measured};
 ghost use Rattle.cf_table.specs.Values.{IsOf};
-ghost use Rattle.cf_table.specs.Moves.{AreFit, OnlyLooked};
+ghost use Rattle.cf_table.specs.Moves.{OnlyLooked, IsReading};
 ghost use Rattle.cf_plain.specs.Asks.{Suits, eval, is_aggregate, is_keyed_between, row_at, rows_in, total_over};
 ghost use Rattle.cf_plain.specs.Answered.{answer_on};
 ghost use Rattle.cf_plain.specs.Groups.{groups as groups_by, as_group};
 ghost use Rattle.cf_plain.specs.Segments.{finding_in};
-ghost use Rattle.cf_query.specs.Walks.{OnlyWalked};
+ghost use Rattle.cf_query.specs.Walks.{OnlyWalked, IsMeasuring, IsOnLane};
 ghost use Rattle.cf_query.specs.Asking.{HasAsked};
+ghost use Rattle.cf_query.specs.Looking.{IsCovered};
 
 use crate::counted::{
     ask_by, ask_seen_by, finding_by, finding_seen_by, groups_by_steps, groups_seen_by, measure_by,
@@ -48,10 +49,8 @@ pub fn ask_seen<P: Pass>(
     pass: &mut P,
     question: &Ask,
 ) -> Result<Answer, Memory>
-    requires of { IsOf (P.held pass.old) log.now }
+    requires reads { IsReading log.now (P.held pass.old) }
     requires suits { Suits log.now.shape question.now }
-    requires few { length (P.held pass.old).view.seen ≤ log.now.shape.capacity }
-    requires fit { AreFit log.now.shape (P.held pass.old).view }
     ensures ok { IfOk result (λ answer. (answer.tail ≡ length (P.held pass.old).view.seen) × (answer.body ≡ eval log.now.shape question.now (P.held pass.old).view.seen)) }
     ensures walked { OnlyWalked (P.held pass.old) (P.held pass.new) }
 {
@@ -103,10 +102,8 @@ pub fn finding_seen<P: Pass>(
     pass: &mut P,
     question: &Ask,
 ) -> Result<Finding, Memory>
-    requires of { IsOf (P.held pass.old) log.now }
+    requires reads { IsReading log.now (P.held pass.old) }
     requires suits { Suits log.now.shape question.now }
-    requires few { length (P.held pass.old).view.seen ≤ log.now.shape.capacity }
-    requires fit { AreFit log.now.shape (P.held pass.old).view }
     ensures found { IfOk result (λ found. found ≡ finding_in log.now.shape question.now (rows_in (P.held pass.old).view.seen)) }
     ensures walked { OnlyWalked (P.held pass.old) (P.held pass.new) }
 {
@@ -143,8 +140,7 @@ pub fn groups<P: Pass>(
     pass: &mut P,
     lane: u8,
 ) -> Result<(u32, Vec<Group>), Memory>
-    requires of { IsOf (P.held pass.old) log.now }
-    requires lane { lane < length log.now.shape.lanes }
+    requires lane { IsOnLane log.now lane (P.held pass.old) }
     requires measured { is_measured log.now.shape lane ≡ true }
     ensures ok { IfOk result
         (λ found. HasAsked log.now.shape (P.held pass.old) (P.held pass.new) × (found.0 ≡ length (P.held pass.new).view.seen)
@@ -162,11 +158,7 @@ pub fn groups_seen<P: Pass>(
     pass: &mut P,
     lane: u8,
 ) -> Result<Vec<Group>, Memory>
-    requires of { IsOf (P.held pass.old) log.now }
-    requires lane { lane < length log.now.shape.lanes }
-    requires measured { is_measured log.now.shape lane ≡ true }
-    requires few { length (P.held pass.old).view.seen ≤ log.now.shape.capacity }
-    requires fit { AreFit log.now.shape (P.held pass.old).view }
+    requires measures { IsMeasuring log.now lane (P.held pass.old) }
     ensures found { IfOk result (λ found. found.items ≡ map as_group (groups_by log.now.shape lane (rows_in (P.held pass.old).view.seen))) }
     ensures walked { OnlyWalked (P.held pass.old) (P.held pass.new) }
 {
@@ -175,8 +167,7 @@ pub fn groups_seen<P: Pass>(
 
 /// The row of the record at that offset, which the pass knows as covered.
 pub fn row<P: Pass>(log: &MultiLog, alloc: Global, pass: &mut P, offset: u32) -> Result<Row, Memory>
-    requires of { IsOf (P.held pass.old) log.now }
-    requires covered { offset < length (P.held pass.old).view.seen }
+    requires covered { IsCovered log.now (P.held pass.old) offset }
     ensures row { IfOk result (λ row. row ≡ row_at (rows_in (P.held pass.old).view.seen) offset) }
     ensures looked { OnlyLooked (P.held pass.old) (P.held pass.new) }
 {

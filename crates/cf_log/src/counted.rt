@@ -2,14 +2,15 @@
 ghost use Rattle.std.specs.Prelude.{◌≡◌, ◌<◌, ◌≤◌, length, map, true, IfOk, IfErr};
 ghost use Rattle.cf_shape.specs.Uses.{is_measured};
 ghost use Rattle.cf_table.specs.Values.{IsOf};
-ghost use Rattle.cf_table.specs.Moves.{AreFit, OnlyLooked};
+ghost use Rattle.cf_table.specs.Moves.{OnlyLooked, IsReading};
 ghost use Rattle.cf_append.specs.Appends.{HasAppended, HasSettledTo, MayAppend};
 ghost use Rattle.cf_append.specs.Paths.{Remembers, KeepsLeaves};
 ghost use Rattle.cf_plain.specs.Asks.{Suits, eval, is_aggregate, is_keyed_between, row_at, rows_in, total_over};
 ghost use Rattle.cf_plain.specs.Groups.{groups as groups_by, as_group};
 ghost use Rattle.cf_plain.specs.Segments.{finding_in};
-ghost use Rattle.cf_query.specs.Walks.{OnlyWalked};
+ghost use Rattle.cf_query.specs.Walks.{OnlyWalked, IsMeasuring, IsOnLane};
 ghost use Rattle.cf_query.specs.Asking.{HasAsked};
+ghost use Rattle.cf_query.specs.Looking.{IsCovered};
 
 use cf_append::{AppendFault, Leaves, Settled};
 use cf_fold::Quad;
@@ -78,10 +79,8 @@ pub(crate) fn ask_seen_by<P: Pass, L: Ledger>(
     question: &Ask,
     blank: Blank,
 ) -> Result<Answer, Memory>
-    requires of { IsOf (P.held pass.old) log.now }
+    requires reads { IsReading log.now (P.held pass.old) }
     requires suits { Suits log.now.shape question.now }
-    requires few { length (P.held pass.old).view.seen ≤ log.now.shape.capacity }
-    requires fit { AreFit log.now.shape (P.held pass.old).view }
     requires blank { (blank.name ≡ L.name) × (blank.parts ≡ L.parts) × (0 < L.parts) }
     ensures ok { IfOk result (λ answer. (answer.tail ≡ length (P.held pass.old).view.seen) × (answer.body ≡ eval log.now.shape question.now (P.held pass.old).view.seen)) }
     ensures walked { OnlyWalked (P.held pass.old) (P.held pass.new) }
@@ -116,10 +115,8 @@ pub(crate) fn finding_seen_by<P: Pass, L: Ledger>(
     question: &Ask,
     blank: Blank,
 ) -> Result<Finding, Memory>
-    requires of { IsOf (P.held pass.old) log.now }
+    requires reads { IsReading log.now (P.held pass.old) }
     requires suits { Suits log.now.shape question.now }
-    requires few { length (P.held pass.old).view.seen ≤ log.now.shape.capacity }
-    requires fit { AreFit log.now.shape (P.held pass.old).view }
     requires blank { (blank.name ≡ L.name) × (blank.parts ≡ L.parts) × (0 < L.parts) }
     ensures found { IfOk result (λ found. found ≡ finding_in log.now.shape question.now (rows_in (P.held pass.old).view.seen)) }
     ensures walked { OnlyWalked (P.held pass.old) (P.held pass.new) }
@@ -164,8 +161,7 @@ pub(crate) fn groups_by_steps<P: Pass, L: Ledger>(
     lane: u8,
     blank: Blank,
 ) -> Result<(u32, Vec<Group>), Memory>
-    requires of { IsOf (P.held pass.old) log.now }
-    requires lane { lane < length log.now.shape.lanes }
+    requires lane { IsOnLane log.now lane (P.held pass.old) }
     requires measured { is_measured log.now.shape lane ≡ true }
     requires blank { (blank.name ≡ L.name) × (blank.parts ≡ L.parts) × (0 < L.parts) }
     ensures ok { IfOk result
@@ -184,11 +180,7 @@ pub(crate) fn groups_seen_by<P: Pass, L: Ledger>(
     lane: u8,
     blank: Blank,
 ) -> Result<Vec<Group>, Memory>
-    requires of { IsOf (P.held pass.old) log.now }
-    requires lane { lane < length log.now.shape.lanes }
-    requires measured { is_measured log.now.shape lane ≡ true }
-    requires few { length (P.held pass.old).view.seen ≤ log.now.shape.capacity }
-    requires fit { AreFit log.now.shape (P.held pass.old).view }
+    requires measures { IsMeasuring log.now lane (P.held pass.old) }
     requires blank { (blank.name ≡ L.name) × (blank.parts ≡ L.parts) × (0 < L.parts) }
     ensures found { IfOk result (λ found. found.items ≡ map as_group (groups_by log.now.shape lane (rows_in (P.held pass.old).view.seen))) }
     ensures walked { OnlyWalked (P.held pass.old) (P.held pass.new) }
@@ -204,8 +196,7 @@ pub(crate) fn row_by<P: Pass, L: Ledger>(
     offset: u32,
     blank: Blank,
 ) -> Result<Row, Memory>
-    requires of { IsOf (P.held pass.old) log.now }
-    requires covered { offset < length (P.held pass.old).view.seen }
+    requires covered { IsCovered log.now (P.held pass.old) offset }
     requires blank { (blank.name ≡ L.name) × (blank.parts ≡ L.parts) × (0 < L.parts) }
     ensures row { IfOk result (λ row. row ≡ row_at (rows_in (P.held pass.old).view.seen) offset) }
     ensures looked { OnlyLooked (P.held pass.old) (P.held pass.new) }

@@ -17,8 +17,9 @@ use Rattle.cf_plain.specs.Totals.{total}
 use Rattle.cf_plain.proofs.Amounts.{amounts_in, amounts_more}
 use Rattle.cf_table.specs.Values.{PassValue}
 use Rattle.cf_table.specs.Moves.{OnlyLooked, AreFit}
-use Rattle.cf_table.proofs.Reading.{no_entry}
+use Rattle.cf_table.proofs.Reading.{no_entry, looked_then}
 use Rattle.cf_walk.proofs.Tallied.{fits_of, row_is}
+use Rattle.cf_query.specs.Looking.{HasLooked}
 use Rattle.cf_query.specs.Stretches.{IsStretch, stretch}
 
 -- an entry that was seen fits, also where words were looked at since
@@ -74,6 +75,17 @@ module _ (attr : ℕ) (expr : List (List Atom)) (seen : List Entry) (o : ℕ) (l
 -- what fits still does where words were looked at since
 pub still_fit : (shape : ShapeValue) (m n : PassValue) → AreFit shape m.view → OnlyLooked m n → AreFit shape n.view
 still_fit shape m n fit looked = subst (λ (h : PassValue). AreFit shape h.view) (sym looked) fit
+
+-- The pass looked, and looked again.
+pub looked_on : {m n o : PassValue} {a b c : ℕ} → HasLooked m n a b → HasLooked n o b c → HasLooked m o a c
+looked_on {m} {n} {o} x y = record {
+  only = looked_then m n o x.only y.only;
+  loads = let one = x.loads in let two = y.loads in omega (arith, one, two);
+}
+
+pub looked_as : {m n o : PassValue} {a b c : ℕ} → n ≡ o → b ≡ c → HasLooked m n a b → HasLooked m o a c
+looked_as {m} {n} {o} {a} {b} {c} pass steps x =
+    subst (λ (h : PassValue). HasLooked m h a c) pass (subst (λ (k : ℕ). HasLooked m n a k) steps x)
 
 -- A stretch of what was seen is gone over.
 module _ (from to : ℕ) (seen : List Entry) (is : IsStretch from to seen) where

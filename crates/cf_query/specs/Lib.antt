@@ -1,5 +1,6 @@
 pub mod Asking
 pub mod Laws
+pub mod Looking
 pub mod Selecting
 pub mod Stretches
 pub mod Tags

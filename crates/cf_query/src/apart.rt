@@ -1,13 +1,11 @@
 // The groups of a lane by all entries, for lanes that keep the rows of a bucket apart: their trees go by the bucket alone.
-ghost use Rattle.std.specs.Prelude.{◌≡◌, ◌<◌, ◌≤◌, length, map, true, IfOk};
+ghost use Rattle.std.specs.Prelude.{◌≡◌, ◌<◌, ◌≤◌, length, map, IfOk};
 ghost use Rattle.cf_shape.specs.Lanes.{IsShape, bucket_of, key_of, by_of, lane_at, measure_of};
-ghost use Rattle.cf_shape.specs.Uses.{is_measured};
-ghost use Rattle.cf_table.specs.Loads.{CountsLoads};
-ghost use Rattle.cf_table.specs.Values.{IsOf};
-ghost use Rattle.cf_table.specs.Moves.{AreFit, OnlyLooked};
+ghost use Rattle.cf_table.specs.Moves.{AreFit, IsReading};
 ghost use Rattle.cf_plain.specs.Asks.{row_at, rows_in};
 ghost use Rattle.cf_plain.specs.Groups.{groups as groups_by, as_group, pair_of, row_group};
-ghost use Rattle.cf_walk.specs.Walks.{OnlyWalked};
+ghost use Rattle.cf_walk.specs.Walks.{HasWalked, IsMeasuring};
+ghost use Rattle.cf_query.specs.Looking.{HasLooked, IsCovered, IsLaneEntry};
 
 use crate::selection::Selection;
 use cf_fold::Quad;
@@ -35,12 +33,10 @@ fn bucket_at<P: Pass, L: Ledger>(
     offset: u32,
     steps: &mut Steps<L>,
 ) -> u64
-    requires of { IsOf (P.held pass.old) selection.now.log }
+    requires covered { IsCovered selection.now.log (P.held pass.old) offset }
     requires shape { shape.now ≡ selection.now.log.shape }
-    requires covered { offset < length (P.held pass.old).view.seen }
     ensures bucket { result ≡ bucket_of shape.now (row_at (rows_in (P.held pass.old).view.seen) offset) }
-    ensures looked { OnlyLooked (P.held pass.old) (P.held pass.new) }
-    ensures loads { CountsLoads (P.held pass.old) (P.held pass.new) steps.old steps.new }
+    ensures looked { HasLooked (P.held pass.old) (P.held pass.new) steps.old steps.new }
 {
     let schema = shape.schema();
     let _lawful = schema.attrs();
@@ -57,13 +53,9 @@ fn key_at<P: Pass, L: Ledger>(
     offset: u32,
     steps: &mut Steps<L>,
 ) -> u64
-    requires of { IsOf (P.held pass.old) selection.now.log }
-    requires shape { shape.now ≡ selection.now.log.shape }
-    requires lane { lane < length shape.now.lanes }
-    requires covered { offset < length (P.held pass.old).view.seen }
+    requires at { IsLaneEntry selection.now.log shape.now lane (P.held pass.old) offset }
     ensures key { result ≡ key_of shape.now lane (row_at (rows_in (P.held pass.old).view.seen) offset) }
-    ensures looked { OnlyLooked (P.held pass.old) (P.held pass.new) }
-    ensures loads { CountsLoads (P.held pass.old) (P.held pass.new) steps.old steps.new }
+    ensures looked { HasLooked (P.held pass.old) (P.held pass.new) steps.old steps.new }
 {
     match lane_of(shape, lane).key {
         Key::Attr(attr) => selection.number(pass, offset, attr, steps),
@@ -81,13 +73,9 @@ fn by_at<P: Pass, L: Ledger>(
     offset: u32,
     steps: &mut Steps<L>,
 ) -> Option<u64>
-    requires of { IsOf (P.held pass.old) selection.now.log }
-    requires shape { shape.now ≡ selection.now.log.shape }
-    requires lane { lane < length shape.now.lanes }
-    requires covered { offset < length (P.held pass.old).view.seen }
+    requires at { IsLaneEntry selection.now.log shape.now lane (P.held pass.old) offset }
     ensures by { result ≡ by_of shape.now lane (row_at (rows_in (P.held pass.old).view.seen) offset) }
-    ensures looked { OnlyLooked (P.held pass.old) (P.held pass.new) }
-    ensures loads { CountsLoads (P.held pass.old) (P.held pass.new) steps.old steps.new }
+    ensures looked { HasLooked (P.held pass.old) (P.held pass.new) steps.old steps.new }
 {
     match lane_of(shape, lane).key {
         Key::Attr(_) => None,
@@ -105,14 +93,10 @@ fn amount_at<P: Pass, L: Ledger>(
     offset: u32,
     steps: &mut Steps<L>,
 ) -> u32
-    requires of { IsOf (P.held pass.old) selection.now.log }
-    requires shape { shape.now ≡ selection.now.log.shape }
-    requires lane { lane < length shape.now.lanes }
-    requires covered { offset < length (P.held pass.old).view.seen }
+    requires at { IsLaneEntry selection.now.log shape.now lane (P.held pass.old) offset }
     requires fit { AreFit shape.now (P.held pass.old).view }
     ensures amount { result ≡ measure_of shape.now lane (row_at (rows_in (P.held pass.old).view.seen) offset) }
-    ensures looked { OnlyLooked (P.held pass.old) (P.held pass.new) }
-    ensures loads { CountsLoads (P.held pass.old) (P.held pass.new) steps.old steps.new }
+    ensures looked { HasLooked (P.held pass.old) (P.held pass.new) steps.old steps.new }
 {
     match lane_of(shape, lane).measure {
         None => 0,
@@ -129,14 +113,10 @@ fn group_at<P: Pass, L: Ledger>(
     offset: u32,
     steps: &mut Steps<L>,
 ) -> Group
-    requires of { IsOf (P.held pass.old) selection.now.log }
-    requires shape { shape.now ≡ selection.now.log.shape }
-    requires lane { lane < length shape.now.lanes }
-    requires covered { offset < length (P.held pass.old).view.seen }
+    requires at { IsLaneEntry selection.now.log shape.now lane (P.held pass.old) offset }
     requires fit { AreFit shape.now (P.held pass.old).view }
     ensures group { pair_of result ≡ row_group shape.now lane (row_at (rows_in (P.held pass.old).view.seen) offset) }
-    ensures looked { OnlyLooked (P.held pass.old) (P.held pass.new) }
-    ensures loads { CountsLoads (P.held pass.old) (P.held pass.new) steps.old steps.new }
+    ensures looked { HasLooked (P.held pass.old) (P.held pass.new) steps.old steps.new }
 {
     let key = key_at(selection, shape, pass, lane, offset, steps);
     let by = by_at(selection, shape, pass, lane, offset, steps);
@@ -157,13 +137,10 @@ fn groups_by_entry<P: Pass, L: Ledger>(
     lane: u8,
     steps: &mut Steps<L>,
 ) -> Result<Vec<Group>, Memory>
-    requires of { IsOf (P.held pass.old) log.now }
+    requires reads { IsReading log.now (P.held pass.old) }
     requires lane { lane < length log.now.shape.lanes }
-    requires fit { AreFit log.now.shape (P.held pass.old).view }
-    requires few { length (P.held pass.old).view.seen ≤ log.now.shape.capacity }
     ensures found { IfOk result (λ found. map pair_of found.items ≡ groups_by log.now.shape lane (rows_in (P.held pass.old).view.seen)) }
-    ensures looked { OnlyLooked (P.held pass.old) (P.held pass.new) }
-    ensures loads { CountsLoads (P.held pass.old) (P.held pass.new) steps.old steps.new }
+    ensures looked { HasLooked (P.held pass.old) (P.held pass.new) steps.old steps.new }
 {
     let shape = log.shape();
     let selection = Selection::new(log, alloc, &lane_of(shape, lane).select);
@@ -187,14 +164,9 @@ pub fn groups_seen<P: Pass, L: Ledger>(
     lane: u8,
     steps: &mut Steps<L>,
 ) -> Result<Vec<Group>, Memory>
-    requires of { IsOf (P.held pass.old) log.now }
-    requires lane { lane < length log.now.shape.lanes }
-    requires measured { is_measured log.now.shape lane ≡ true }
-    requires fit { AreFit log.now.shape (P.held pass.old).view }
-    requires few { length (P.held pass.old).view.seen ≤ log.now.shape.capacity }
+    requires measures { IsMeasuring log.now lane (P.held pass.old) }
     ensures found { IfOk result (λ found. found.items ≡ map as_group (groups_by log.now.shape lane (rows_in (P.held pass.old).view.seen))) }
-    ensures walked { OnlyWalked (P.held pass.old) (P.held pass.new) }
-    ensures loads { CountsLoads (P.held pass.old) (P.held pass.new) steps.old steps.new }
+    ensures walked { HasWalked (P.held pass.old) (P.held pass.new) steps.old steps.new }
 {
     if keeps_apart(log.shape(), lane) {
         let groups = groups_by_entry(log, alloc, pass, lane, steps)?;

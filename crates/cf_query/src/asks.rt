@@ -3,10 +3,10 @@ ghost use Rattle.std.specs.Prelude.{◌≡◌, ◌+◌, ◌<◌, ◌≤◌, leng
 ghost use Rattle.cf_shape.specs.Uses.{is_measured};
 ghost use Rattle.cf_table.specs.Loads.{CountsLoads};
 ghost use Rattle.cf_table.specs.Values.{IsOf};
-ghost use Rattle.cf_table.specs.Moves.{AreFit};
+ghost use Rattle.cf_table.specs.Moves.{IsReading};
 ghost use Rattle.cf_plain.specs.Asks.{Suits, eval, rows_in, is_aggregate, is_keyed_between, total_over};
 ghost use Rattle.cf_plain.specs.Groups.{groups as groups_by, as_group};
-ghost use Rattle.cf_walk.specs.Walks.{OnlyWalked};
+ghost use Rattle.cf_walk.specs.Walks.{HasWalked, IsOnLane};
 ghost use Rattle.cf_query.specs.Asking.{HasAsked};
 ghost use Rattle.cf_query.specs.Walking.{AsksBucket, AsksOne, lane_of, steps_of_one, steps_of_bucket};
 
@@ -68,15 +68,12 @@ pub fn ask_seen<P: Pass, L: Ledger>(
     ask: &Ask,
     steps: &mut Steps<L>,
 ) -> Result<Answer, Memory>
-    requires of { IsOf (P.held pass.old) log.now }
+    requires reads { IsReading log.now (P.held pass.old) }
     requires suits { Suits log.now.shape ask.now }
-    requires few { length (P.held pass.old).view.seen ≤ log.now.shape.capacity }
-    requires fit { AreFit log.now.shape (P.held pass.old).view }
     ensures ok { IfOk result (λ answer. (answer.tail ≡ length (P.held pass.old).view.seen) × (answer.body ≡ eval log.now.shape ask.now (P.held pass.old).view.seen)) }
-    ensures walked { OnlyWalked (P.held pass.old) (P.held pass.new) }
+    ensures walked { HasWalked (P.held pass.old) (P.held pass.new) steps.old steps.new }
     ensures steps { AsksOne ask.now → IfOk result (λ answer. steps.new + 1 ≤ steps.old + steps_of_one log.now.shape (lane_of ask.now) answer.body answer.tail) }
     ensures bucket { AsksBucket ask.now → IfOk result (λ answer. steps.new + 1 ≤ steps.old + steps_of_bucket log.now.shape (lane_of ask.now) answer.tail) }
-    ensures loads { CountsLoads (P.held pass.old) (P.held pass.new) steps.old steps.new }
 {
     let tail = pass.covered();
     let found = finding_seen(log, alloc, pass, ask, steps)?;
@@ -120,8 +117,7 @@ pub fn groups<P: Pass, L: Ledger>(
     lane: u8,
     steps: &mut Steps<L>,
 ) -> Result<(u32, Vec<Group>), Memory>
-    requires of { IsOf (P.held pass.old) log.now }
-    requires lane { lane < length log.now.shape.lanes }
+    requires lane { IsOnLane log.now lane (P.held pass.old) }
     requires measured { is_measured log.now.shape lane ≡ true }
     ensures ok { IfOk result
         (λ found. HasAsked log.now.shape (P.held pass.old) (P.held pass.new) × (found.0 ≡ length (P.held pass.new).view.seen)

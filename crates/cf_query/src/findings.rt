@@ -1,14 +1,13 @@
 // What questions find, so that it can be joined with what they find in another log.
-ghost use Rattle.std.specs.Prelude.{◌≡◌, ◌+◌, ◌<◌, ◌≤◌, length, true, IfOk, IfErr};
-ghost use Rattle.cf_shape.specs.Uses.{is_measured};
+ghost use Rattle.std.specs.Prelude.{◌≡◌, ◌+◌, ◌<◌, ◌≤◌, length, IfOk, IfErr};
 ghost use Rattle.cf_table.specs.Loads.{CountsLoads};
 ghost use Rattle.cf_table.specs.Values.{IsOf};
-ghost use Rattle.cf_table.specs.Moves.{AreFit};
+ghost use Rattle.cf_table.specs.Moves.{IsReading};
 ghost use Rattle.cf_plain.specs.Asks.{Suits, rows_in};
 ghost use Rattle.cf_plain.specs.Groups.{groups};
 ghost use Rattle.cf_plain.specs.Segments.{finding_in, body_of};
 ghost use Rattle.cf_plain.specs.declared.finding.Finding.TheVariants as findings;
-ghost use Rattle.cf_walk.specs.Walks.{OnlyWalked};
+ghost use Rattle.cf_walk.specs.Walks.{HasWalked, IsMeasuring};
 ghost use Rattle.cf_query.specs.Asking.{HasAsked};
 ghost use Rattle.cf_query.specs.Walking.{AsksOne, AsksBucket, lane_of, steps_of_one, steps_of_bucket};
 
@@ -30,14 +29,9 @@ fn groups_of<P: Pass, L: Ledger>(
     lane: u8,
     steps: &mut Steps<L>,
 ) -> Result<Finding, Memory>
-    requires of { IsOf (P.held pass.old) log.now }
-    requires lane { lane < length log.now.shape.lanes }
-    requires measured { is_measured log.now.shape lane ≡ true }
-    requires few { length (P.held pass.old).view.seen ≤ log.now.shape.capacity }
-    requires fit { AreFit log.now.shape (P.held pass.old).view }
+    requires measures { IsMeasuring log.now lane (P.held pass.old) }
     ensures found { IfOk result (λ found. found ≡ findings.Groups (groups log.now.shape lane (rows_in (P.held pass.old).view.seen))) }
-    ensures walked { OnlyWalked (P.held pass.old) (P.held pass.new) }
-    ensures loads { CountsLoads (P.held pass.old) (P.held pass.new) steps.old steps.new }
+    ensures walked { HasWalked (P.held pass.old) (P.held pass.new) steps.old steps.new }
 {
     let groups = groups_seen(log, alloc, pass, lane, steps)?;
     Ok(Finding::Groups(Groups::new(groups)))
@@ -55,15 +49,12 @@ pub fn finding_seen<P: Pass, L: Ledger>(
     ask: &Ask,
     steps: &mut Steps<L>,
 ) -> Result<Finding, Memory>
-    requires of { IsOf (P.held pass.old) log.now }
+    requires reads { IsReading log.now (P.held pass.old) }
     requires suits { Suits log.now.shape ask.now }
-    requires few { length (P.held pass.old).view.seen ≤ log.now.shape.capacity }
-    requires fit { AreFit log.now.shape (P.held pass.old).view }
     ensures found { IfOk result (λ found. found ≡ finding_in log.now.shape ask.now (rows_in (P.held pass.old).view.seen)) }
-    ensures walked { OnlyWalked (P.held pass.old) (P.held pass.new) }
+    ensures walked { HasWalked (P.held pass.old) (P.held pass.new) steps.old steps.new }
     ensures steps { AsksOne ask.now → IfOk result (λ found. steps.new + 1 ≤ steps.old + steps_of_one log.now.shape (lane_of ask.now) (body_of ask.now found) (length (P.held pass.old).view.seen)) }
     ensures bucket { AsksBucket ask.now → IfOk result (λ _. steps.new + 1 ≤ steps.old + steps_of_bucket log.now.shape (lane_of ask.now) (length (P.held pass.old).view.seen)) }
-    ensures loads { CountsLoads (P.held pass.old) (P.held pass.new) steps.old steps.new }
 {
     match ask {
         Ask::List(_) | Ask::Total(..) => {

@@ -1,10 +1,8 @@
 // Rows are read back from the log.
-ghost use Rattle.std.specs.Prelude.{◌≡◌, ◌+◌, ◌<◌, length, IfOk};
+ghost use Rattle.std.specs.Prelude.{◌≡◌, ◌+◌, ◌<◌, IfOk};
 ghost use Rattle.cf_row.specs.Words.{word_count as word_count_of};
-ghost use Rattle.cf_table.specs.Loads.{CountsLoads};
-ghost use Rattle.cf_table.specs.Values.{IsOf};
-ghost use Rattle.cf_table.specs.Moves.{OnlyLooked};
 ghost use Rattle.cf_plain.specs.Asks.{rows_in, row_at};
+ghost use Rattle.cf_query.specs.Looking.{HasLooked, IsCovered};
 
 use cf_row::{Memory, Row};
 use cf_table::{MultiLog, Pass, Steps};
@@ -20,12 +18,10 @@ pub fn row<P: Pass, L: Ledger>(
     offset: u32,
     steps: &mut Steps<L>,
 ) -> Result<Row, Memory>
-    requires of { IsOf (P.held pass.old) log.now }
-    requires covered { offset < length (P.held pass.old).view.seen }
+    requires covered { IsCovered log.now (P.held pass.old) offset }
     ensures row { IfOk result (λ row. row ≡ row_at (rows_in (P.held pass.old).view.seen) offset) }
-    ensures looked { OnlyLooked (P.held pass.old) (P.held pass.new) }
+    ensures looked { HasLooked (P.held pass.old) (P.held pass.new) steps.old steps.new }
     ensures steps { steps.new ≡ steps.old + (word_count_of log.now.shape.schema + 1) }
-    ensures loads { CountsLoads (P.held pass.old) (P.held pass.new) steps.old steps.new }
 {
     let entry = log.load_entry(alloc, pass, offset, steps)?;
     Ok(entry.row)

@@ -1,14 +1,13 @@
 // What questions find that go over all entries.
-ghost use Rattle.std.specs.Prelude.{◌≡◌, ◌≤◌, length, true, IfOk};
+ghost use Rattle.std.specs.Prelude.{◌≡◌, ◌≤◌, true, IfOk};
 ghost use Rattle.cf_row.specs.Expr.{holds_of};
 ghost use Rattle.cf_shape.specs.Lanes.{IsShape};
-ghost use Rattle.cf_table.specs.Loads.{CountsLoads};
-ghost use Rattle.cf_table.specs.Values.{IsOf};
-ghost use Rattle.cf_table.specs.Moves.{OnlyLooked, AreFit};
+ghost use Rattle.cf_table.specs.Moves.{IsReading};
 ghost use Rattle.cf_plain.specs.Asks.{Suits, places, rows_in};
 ghost use Rattle.cf_plain.specs.Segments.{finding_in};
 ghost use Rattle.cf_plain.specs.Totals.{IsNarrow, total};
 ghost use Rattle.cf_query.specs.Stretches.{IsStretch, goes_over_all as goes_over_all_of, stretch};
+ghost use Rattle.cf_query.specs.Looking.{HasLooked};
 
 use crate::selection::Selection;
 use cf_fold::Quad;
@@ -27,12 +26,10 @@ fn scan<P: Pass, L: Ledger>(
     to: u32,
     steps: &mut Steps<L>,
 ) -> Result<Places, Memory>
-    requires of { IsOf (P.held pass.old) selection.now.log }
-    requires fit { AreFit selection.now.log.shape (P.held pass.old).view }
+    requires reads { IsReading selection.now.log (P.held pass.old) }
     requires stretch { IsStretch from to (P.held pass.old).view.seen }
     ensures found { IfOk result (λ found. found ≡ places (holds_of selection.now.expr) (rows_in (stretch from to (P.held pass.old).view.seen))) }
-    ensures looked { OnlyLooked (P.held pass.old) (P.held pass.new) }
-    ensures loads { CountsLoads (P.held pass.old) (P.held pass.new) steps.old steps.new }
+    ensures looked { HasLooked (P.held pass.old) (P.held pass.new) steps.old steps.new }
 {
     let mut found = Vec::new(alloc);
     for offset in from..to {
@@ -52,15 +49,12 @@ fn total_of<P: Pass, L: Ledger>(
     to: u32,
     steps: &mut Steps<L>,
 ) -> Result<Quad, Memory>
-    requires of { IsOf (P.held pass.old) selection.now.log }
+    requires reads { IsReading selection.now.log (P.held pass.old) }
     requires lawful { IsShape selection.now.log.shape }
     requires narrow { IsNarrow selection.now.log.shape.schema attr }
-    requires few { length (P.held pass.old).view.seen ≤ selection.now.log.shape.capacity }
-    requires fit { AreFit selection.now.log.shape (P.held pass.old).view }
     requires stretch { IsStretch from to (P.held pass.old).view.seen }
     ensures found { IfOk result (λ found. found ≡ total attr selection.now.expr (rows_in (stretch from to (P.held pass.old).view.seen))) }
-    ensures looked { OnlyLooked (P.held pass.old) (P.held pass.new) }
-    ensures loads { CountsLoads (P.held pass.old) (P.held pass.new) steps.old steps.new }
+    ensures looked { HasLooked (P.held pass.old) (P.held pass.new) steps.old steps.new }
 {
     let mut total = Quad::EMPTY;
     for place in from..to {
@@ -89,15 +83,12 @@ pub fn finding_stretch<P: Pass, L: Ledger>(
     ends: (u32, u32),
     steps: &mut Steps<L>,
 ) -> Result<Finding, Memory>
-    requires of { IsOf (P.held pass.old) log.now }
+    requires reads { IsReading log.now (P.held pass.old) }
     requires all { goes_over_all_of ask.now ≡ true }
     requires suits { Suits log.now.shape ask.now }
-    requires few { length (P.held pass.old).view.seen ≤ log.now.shape.capacity }
-    requires fit { AreFit log.now.shape (P.held pass.old).view }
     requires stretch { IsStretch ends.0 ends.1 (P.held pass.old).view.seen }
     ensures found { IfOk result (λ found. found ≡ finding_in log.now.shape ask.now (rows_in (stretch ends.0 ends.1 (P.held pass.old).view.seen))) }
-    ensures looked { OnlyLooked (P.held pass.old) (P.held pass.new) }
-    ensures loads { CountsLoads (P.held pass.old) (P.held pass.new) steps.old steps.new }
+    ensures looked { HasLooked (P.held pass.old) (P.held pass.new) steps.old steps.new }
 {
     let (from, to) = ends;
     match ask {

@@ -7,11 +7,10 @@ ghost use Rattle.cf_row.specs.Words.{words_of_kind as words_of_kind_of};
 ghost use Rattle.cf_row.specs.declared.row.Value.TheVariants.{Num};
 ghost use Rattle.cf_row.specs.declared.schema.TheConstants.{MOST_ATTRS};
 ghost use Rattle.cf_shape.specs.Lanes.{IsShape, is_number, option_passes};
-ghost use Rattle.cf_table.specs.Loads.{CountsLoads};
-ghost use Rattle.cf_table.specs.Values.{IsOf};
-ghost use Rattle.cf_table.specs.Moves.{AreFit, OnlyLooked};
+ghost use Rattle.cf_table.specs.Moves.{AreFit};
 ghost use Rattle.cf_plain.specs.Asks.{row_at, rows_in};
 ghost use Rattle.cf_query.specs.Selecting.{ArePlaces, compare_numbers, compares_number, is_plain as is_plain_of};
+ghost use Rattle.cf_query.specs.Looking.{HasLooked, IsCovered};
 
 use cf_row::{Atom, Conjunction, Expr, Kind, MOST_ATTRS, Memory, Schema, Value, holds};
 use cf_table::{MultiLog, Pass, Steps};
@@ -117,12 +116,10 @@ impl<'a> Selection<'a> {
         attr: u8,
         steps: &mut Steps<L>,
     ) -> u64
-        requires of { IsOf (P.held pass.old) self.now.log }
-        requires covered { offset < length (P.held pass.old).view.seen }
+        requires covered { IsCovered self.now.log (P.held pass.old) offset }
         requires number { option_passes is_number (slice_get self.now.log.shape.schema attr) ≡ true }
         ensures number { value_at (row_at (rows_in (P.held pass.old).view.seen) offset) attr ≡ Num result }
-        ensures looked { OnlyLooked (P.held pass.old) (P.held pass.new) }
-        ensures loads { CountsLoads (P.held pass.old) (P.held pass.new) steps.old steps.new }
+        ensures looked { HasLooked (P.held pass.old) (P.held pass.new) steps.old steps.new }
     {
         // No more is covered than there are places, as the load tells.
         let place = offset.min(self.log.shape().capacity() - 1);
@@ -138,12 +135,10 @@ impl<'a> Selection<'a> {
         atom: &Atom,
         steps: &mut Steps<L>,
     ) -> bool
-        requires of { IsOf (P.held pass.old) self.now.log }
-        requires covered { offset < length (P.held pass.old).view.seen }
+        requires covered { IsCovered self.now.log (P.held pass.old) offset }
         requires number { compares_number self.now.log.shape.schema atom.now ≡ true }
         ensures holds { result ≡ atom_holds (row_at (rows_in (P.held pass.old).view.seen) offset) atom.now }
-        ensures looked { OnlyLooked (P.held pass.old) (P.held pass.new) }
-        ensures loads { CountsLoads (P.held pass.old) (P.held pass.new) steps.old steps.new }
+        ensures looked { HasLooked (P.held pass.old) (P.held pass.new) steps.old steps.new }
     {
         let number = self.number(pass, offset, atom.attr, steps);
         atom.op
@@ -158,12 +153,10 @@ impl<'a> Selection<'a> {
         atoms: &[Atom],
         steps: &mut Steps<L>,
     ) -> bool
-        requires of { IsOf (P.held pass.old) self.now.log }
-        requires covered { offset < length (P.held pass.old).view.seen }
+        requires covered { IsCovered self.now.log (P.held pass.old) offset }
         requires numbers { list_all (compares_number self.now.log.shape.schema) atoms.now ≡ true }
         ensures hold { result ≡ list_all (atom_holds (row_at (rows_in (P.held pass.old).view.seen) offset)) atoms.now }
-        ensures looked { OnlyLooked (P.held pass.old) (P.held pass.new) }
-        ensures loads { CountsLoads (P.held pass.old) (P.held pass.new) steps.old steps.new }
+        ensures looked { HasLooked (P.held pass.old) (P.held pass.new) steps.old steps.new }
     {
         for atom in atoms {
             if !self.compares(pass, offset, atom, steps) {
@@ -180,12 +173,10 @@ impl<'a> Selection<'a> {
         offset: u32,
         steps: &mut Steps<L>,
     ) -> bool
-        requires of { IsOf (P.held pass.old) self.now.log }
-        requires covered { offset < length (P.held pass.old).view.seen }
+        requires covered { IsCovered self.now.log (P.held pass.old) offset }
         requires numbers { compare_numbers self.now.log.shape.schema self.now.expr ≡ true }
         ensures holds { result ≡ holds_of self.now.expr (row_at (rows_in (P.held pass.old).view.seen) offset) }
-        ensures looked { OnlyLooked (P.held pass.old) (P.held pass.new) }
-        ensures loads { CountsLoads (P.held pass.old) (P.held pass.new) steps.old steps.new }
+        ensures looked { HasLooked (P.held pass.old) (P.held pass.new) steps.old steps.new }
     {
         for conjunction in self.expr.conjunctions() {
             if self.all_compare(pass, offset, conjunction.atoms(), steps) {
@@ -203,12 +194,10 @@ impl<'a> Selection<'a> {
         offset: u32,
         steps: &mut Steps<L>,
     ) -> Result<bool, Memory>
-        requires of { IsOf (P.held pass.old) self.now.log }
-        requires covered { offset < length (P.held pass.old).view.seen }
+        requires covered { IsCovered self.now.log (P.held pass.old) offset }
         requires fit { AreFit self.now.log.shape (P.held pass.old).view }
         ensures holds { IfOk result (λ holds. holds ≡ holds_of self.now.expr (row_at (rows_in (P.held pass.old).view.seen) offset)) }
-        ensures looked { OnlyLooked (P.held pass.old) (P.held pass.new) }
-        ensures loads { CountsLoads (P.held pass.old) (P.held pass.new) steps.old steps.new }
+        ensures looked { HasLooked (P.held pass.old) (P.held pass.new) steps.old steps.new }
     {
         let entry = self.log.load_entry(self.alloc, pass, offset, steps)?;
         Ok(holds(self.log.shape().schema(), self.expr, &entry.row))
@@ -222,12 +211,10 @@ impl<'a> Selection<'a> {
         offset: u32,
         steps: &mut Steps<L>,
     ) -> Result<bool, Memory>
-        requires of { IsOf (P.held pass.old) self.now.log }
-        requires covered { offset < length (P.held pass.old).view.seen }
+        requires covered { IsCovered self.now.log (P.held pass.old) offset }
         requires fit { AreFit self.now.log.shape (P.held pass.old).view }
         ensures holds { IfOk result (λ holds. holds ≡ holds_of self.now.expr (row_at (rows_in (P.held pass.old).view.seen) offset)) }
-        ensures looked { OnlyLooked (P.held pass.old) (P.held pass.new) }
-        ensures loads { CountsLoads (P.held pass.old) (P.held pass.new) steps.old steps.new }
+        ensures looked { HasLooked (P.held pass.old) (P.held pass.new) steps.old steps.new }
     {
         if self.numbers {
             return Ok(self.any_compares(pass, offset, steps));

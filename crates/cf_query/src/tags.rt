@@ -2,10 +2,9 @@
 ghost use Rattle.std.specs.Prelude.{◌≡◌, ◌+◌, ◌<◌, ◌++◌, length, OnOk, Some, slice_get};
 ghost use Rattle.cf_history.specs.Order.{order_of};
 ghost use Rattle.cf_row.specs.declared.row.Entry.{Entry};
-ghost use Rattle.cf_table.specs.Loads.{CountsLoads};
-ghost use Rattle.cf_table.specs.Moves.{OnlyLooked};
 ghost use Rattle.cf_table.specs.Values.{IsOf};
 ghost use Rattle.cf_query.specs.Tags.{nums_of};
+ghost use Rattle.cf_query.specs.Looking.{HasLooked, IsCovered};
 
 use cf_row::{Memory, word_count};
 use cf_table::{MultiLog, Pass, Steps};
@@ -18,13 +17,11 @@ fn tag_at<P: Pass, L: Ledger>(
     offset: u32,
     steps: &mut Steps<L>,
 ) -> (u32, u8)
-    requires of { IsOf (P.held pass.old) log.now }
-    requires covered { offset < length (P.held pass.old).view.seen }
+    requires covered { IsCovered log.now (P.held pass.old) offset }
     ensures num { (entry : Entry) → slice_get (P.held pass.old).view.seen offset ≡ Some entry → result.0 ≡ entry.row.num }
     ensures writer { (entry : Entry) → slice_get (P.held pass.old).view.seen offset ≡ Some entry → result.1 ≡ entry.writer }
-    ensures looked { OnlyLooked (P.held pass.old) (P.held pass.new) }
+    ensures looked { HasLooked (P.held pass.old) (P.held pass.new) steps.old steps.new }
     ensures steps { steps.new ≡ steps.old + 1 }
-    ensures loads { CountsLoads (P.held pass.old) (P.held pass.new) steps.old steps.new }
 {
     let last = word_count(log.shape().schema());
     // No more is covered than there are places, as the load tells.
@@ -46,9 +43,8 @@ pub fn push_tags<P: Pass, L: Ledger>(
     requires of { IsOf (P.held pass.old) log.now }
     ensures nums { OnOk result (nums.new.items ≡ nums.old.items ++ nums_of (P.held pass.old).view.seen) }
     ensures writers { OnOk result (writers.new.items ≡ writers.old.items ++ order_of (P.held pass.old).view.seen) }
-    ensures looked { OnlyLooked (P.held pass.old) (P.held pass.new) }
+    ensures looked { HasLooked (P.held pass.old) (P.held pass.new) steps.old steps.new }
     ensures steps { OnOk result (steps.new ≡ steps.old + length (P.held pass.old).view.seen) }
-    ensures loads { CountsLoads (P.held pass.old) (P.held pass.new) steps.old steps.new }
 {
     for offset in 0..pass.covered() {
         let (num, writer) = tag_at(log, pass, offset, steps);

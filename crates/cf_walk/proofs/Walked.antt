@@ -22,9 +22,10 @@ use Rattle.cf_law.specs.Steps.Act.{load_cell}
 use Rattle.cf_law.specs.Readers.{WalkTells, picks}
 use Rattle.cf_law.specs.Shapes.{layout}
 use Rattle.cf_table.specs.Values.{PassValue, LogValue, IsOf}
+use Rattle.cf_table.specs.Moves.{IsReading}
 use Rattle.cf_table.specs.Effects.{IsLawfulStep, HasStepped, walk_effect, cell_effect}
 use Rattle.cf_table.proofs.Mays.{may_cell}
-use Rattle.cf_walk.specs.Walks.{OnlyWalked, Met, IsAbove, spot_above, leaf_of, chain_places, leaf_places}
+use Rattle.cf_walk.specs.Walks.{OnlyWalked, HasWalked, IsMeasuring, Met, IsAbove, spot_above, leaf_of, chain_places, leaf_places}
 use Rattle.cf_walk.proofs.Picked.{picks_next, picks_skip, picks_past, picks_zero, pick_some}
 
 -- Only walked.
@@ -49,6 +50,15 @@ walked_then m n o a b = record {
 
 pub walked_seen : (m n : PassValue) → OnlyWalked m n → (n.view).seen ≡ (m.view).seen
 walked_seen m n a = ap (λ (h : PassValue). (h.view).seen) a.same
+
+pub did_nothing : (m : PassValue) (steps : ℕ) → HasWalked m m steps steps
+did_nothing m steps = record { only = walked_none m; loads = omega arith }
+
+pub did_then : {m n o : PassValue} {a b c : ℕ} → HasWalked m n a b → HasWalked n o b c → HasWalked m o a c
+did_then {m} {n} {o} x y = record {
+  only = walked_then m n o x.only y.only;
+  loads = let one = x.loads in let two = y.loads in omega (arith, one, two);
+}
 
 -- The walk stands at this link: what is left of the chain lies below it, and what it went by does not.
 pub record IsWalking (shape : ShapeValue) (seen : List Entry) (w : ℕ) (s : Spot) (link : ℕ) (p : Pass) : Type 0 where
@@ -254,6 +264,19 @@ below_next shape w s seen link some = (let next : link ≡ suc (link - 1) = omeg
 -- What was asked of the pass still holds.
 pub of_walked : (log : LogValue) (m n : PassValue) → OnlyWalked m n → IsOf m log → IsOf n log
 of_walked log m n a of = record { table = ap (λ (h : PassValue). h.table) a.same ∙ of.table; nodes = ap (λ (h : PassValue). h.nodes) a.same ∙ of.nodes }
+
+pub reading_then : {log : LogValue} {m n : PassValue} → OnlyWalked m n → IsReading log m → IsReading log n
+reading_then {log} {m} {n} a reads =
+    let same = walked_seen m n a in
+    record {
+      of = of_walked log m n a reads.of;
+      few = subst (λ (es : List Entry). length es ≤ (log.shape).capacity) (sym same) reads.few;
+      fit = λ o e at. reads.fit o e (ap (λ (es : List Entry). slice_get es o) (sym same) ∙ at);
+    }
+
+pub measuring_then : {log : LogValue} {lane : ℕ} {m n : PassValue} → OnlyWalked m n → IsMeasuring log lane m → IsMeasuring log lane n
+measuring_then a measures =
+    record { exists = measures.exists; measured = measures.measured; reads = reading_then a measures.reads }
 
 pub above_then : (shape : ShapeValue) (lane key node : ℕ) (m n : PassValue) → OnlyWalked m n → IsAbove shape lane key node m.view
     → IsAbove shape lane key node n.view

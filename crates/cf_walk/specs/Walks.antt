@@ -5,13 +5,16 @@ use Rattle.cf_shape.specs.Lanes.{ShapeValue, measure_of}
 use Rattle.cf_shape.specs.Places.{Slot}
 use Rattle.cf_shape.specs.Places.Slot.{root, body}
 use Rattle.cf_shape.specs.Nodes.{levels_of}
+use Rattle.cf_shape.specs.Uses.{is_measured}
 use Rattle.cf_law.specs.Words.{Spot, spot, has}
 use Rattle.cf_law.specs.Nibbles.{nibbles}
 use Rattle.cf_law.specs.Passes.{Pass}
 use Rattle.cf_law.specs.Readers.{IsIn, NoneThrough, picks}
 use Rattle.cf_law.specs.Shapes.{layout, path_in}
 use Rattle.cf_law.specs.Steps.{Knows, met_of}
-use Rattle.cf_table.specs.Values.{PassValue}
+use Rattle.cf_table.specs.Values.{PassValue, LogValue, IsOf}
+use Rattle.cf_table.specs.Moves.{IsReading}
+use Rattle.cf_table.specs.Loads.{CountsLoads}
 
 -- what the first `level` nibbles of a key stand for, in the lane of that number
 abbrev pub spot_above : ShapeValue → ℕ → ℕ → ℕ → Spot
@@ -40,6 +43,22 @@ range_places shape lane low seen (suc n) = range_places shape lane low seen n ++
 pub record OnlyWalked (before after : PassValue) : Type 0 where
   pub same : after ≡ record before { view = record before.view { look = (after.view).look; known = (after.view).known; cursor = (after.view).cursor } }
   pub knows : (s : Spot) (node : ℕ) → Knows before.view s node → Knows after.view s node
+
+-- The pass only walked, and no word was loaded beside the steps.
+pub record HasWalked (before after : PassValue) (steps_before steps_after : ℕ) : Type 0 where
+  pub only : OnlyWalked before after
+  pub loads : CountsLoads before after steps_before steps_after
+
+-- the pass is one of the log's, which has a lane of that number
+pub record IsOnLane (log : LogValue) (lane : ℕ) (pass : PassValue) : Type 0 where
+  pub of : IsOf pass log
+  pub exists : lane < length (log.shape).lanes
+
+-- the log has a lane of that number, which measures something, and what its pass has seen are entries that it may have
+pub record IsMeasuring (log : LogValue) (lane : ℕ) (pass : PassValue) : Type 0 where
+  pub exists : lane < length (log.shape).lanes
+  pub measured : is_measured log.shape lane ≡ true
+  pub reads : IsReading log pass
 
 -- a walk of the pass went by that place, as a ticket of that writer
 abbrev pub Met : Pass → ℕ → ℕ → Type 0

@@ -4,8 +4,7 @@ ghost use Rattle.cf_law.specs.Words.{Spot};
 ghost use Rattle.cf_law.specs.Steps.Act.{load_head};
 ghost use Rattle.cf_table.specs.Values.{IsOf};
 ghost use Rattle.cf_table.specs.Effects.{IsLawfulStep, HasStepped, walk_effect};
-ghost use Rattle.cf_table.specs.Loads.{CountsLoads};
-ghost use Rattle.cf_walk.specs.Walks.{IsAbove, OnlyWalked, ChainSteps, chain_places, leaf_places};
+ghost use Rattle.cf_walk.specs.Walks.{IsAbove, ChainSteps, chain_places, leaf_places, HasWalked};
 
 use cf_fold::link_in;
 use cf_row::Memory;
@@ -52,10 +51,9 @@ pub(crate) fn collect_chain<P: Pass, L: Ledger>(
     requires above { IsAbove log.now.shape leaf.lane leaf.key leaf.node (P.held pass.old).view }
     requires writer { writer < log.now.shape.writers }
     ensures found { OnOk result (found.new.items ≡ found.old.items ++ chain_places log.now.shape leaf.lane leaf.key (P.held pass.old).view.seen writer) }
-    ensures walked { OnlyWalked (P.held pass.old) (P.held pass.new) }
+    ensures walked { HasWalked (P.held pass.old) (P.held pass.new) steps.old steps.new }
     ensures steps { OnOk result (ChainSteps log.now.shape writer (P.held pass.old) (P.held pass.new)
         (length (chain_places log.now.shape leaf.lane leaf.key (P.held pass.old).view.seen writer)) steps.old steps.new) }
-    ensures loads { CountsLoads (P.held pass.old) (P.held pass.new) steps.old steps.new }
 {
     let _lawful = log.shape();
     let mut link = begin(log, pass, leaf, writer, steps);
@@ -81,10 +79,9 @@ pub(crate) fn collect_leaf<P: Pass, L: Ledger>(
     requires of { IsOf (P.held pass.old) log.now }
     requires above { IsAbove log.now.shape leaf.lane leaf.key leaf.node (P.held pass.old).view }
     ensures found { OnOk result (found.new.items ≡ found.old.items ++ leaf_places log.now.shape leaf.lane leaf.key (P.held pass.old).view.seen log.now.shape.writers) }
-    ensures walked { OnlyWalked (P.held pass.old) (P.held pass.new) }
+    ensures walked { HasWalked (P.held pass.old) (P.held pass.new) steps.old steps.new }
     ensures steps { OnOk result (steps.new ≤ steps.old + log.now.shape.writers
         + length (leaf_places log.now.shape leaf.lane leaf.key (P.held pass.old).view.seen log.now.shape.writers) + (log.now.shape.capacity - length (P.held pass.old).view.seen)) }
-    ensures loads { CountsLoads (P.held pass.old) (P.held pass.new) steps.old steps.new }
 {
     for writer in 0..log.shape().writers() {
         collect_chain(log, pass, leaf, writer, found, steps)?;

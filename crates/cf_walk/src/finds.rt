@@ -2,10 +2,8 @@
 ghost use Rattle.std.specs.Prelude.{◌≡◌, ◌+◌, ◌-◌, ◌^◌, ◌<◌, ◌≤◌, length, IfOk};
 ghost use Rattle.cf_shape.specs.Nodes.{levels_of};
 ghost use Rattle.cf_plain.specs.Asks.{rows_in, places, is_keyed_between};
-ghost use Rattle.cf_table.specs.Values.{IsOf};
 ghost use Rattle.cf_table.specs.Moves.{AreFit};
-ghost use Rattle.cf_table.specs.Loads.{CountsLoads};
-ghost use Rattle.cf_walk.specs.Walks.{OnlyWalked};
+ghost use Rattle.cf_walk.specs.Walks.{HasWalked, IsOnLane};
 
 use crate::range::collect_range;
 use crate::tree::span_of;
@@ -35,14 +33,12 @@ pub fn find<P: Pass, L: Ledger>(
     range: (u64, u64),
     steps: &mut Steps<L>,
 ) -> Result<Places, Memory>
-    requires of { IsOf (P.held pass.old) log.now }
-    requires lane { lane < length log.now.shape.lanes }
+    requires lane { IsOnLane log.now lane (P.held pass.old) }
     requires fit { AreFit log.now.shape (P.held pass.old).view }
     ensures found { IfOk result (λ found. found ≡ places (is_keyed_between log.now.shape lane range.0 range.1) (rows_in (P.held pass.old).view.seen)) }
-    ensures walked { OnlyWalked (P.held pass.old) (P.held pass.new) }
+    ensures walked { HasWalked (P.held pass.old) (P.held pass.new) steps.old steps.new }
     ensures steps { range.0 ≡ range.1 → IfOk result (λ found. steps.new ≤ steps.old + (levels_of log.now.shape lane - 1) + log.now.shape.writers
         + length found + (log.now.shape.capacity - length (P.held pass.old).view.seen)) }
-    ensures loads { CountsLoads (P.held pass.old) (P.held pass.new) steps.old steps.new }
 {
     let (low, high) = range;
     let high = high.min(greatest_key(log.shape(), lane));

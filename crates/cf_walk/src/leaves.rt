@@ -1,14 +1,10 @@
 // The groups of a lane's entries by their keys.
-ghost use Rattle.std.specs.Prelude.{◌≡◌, ◌^◌, ◌<◌, ◌≤◌, length, map, true, false, IfOk};
+ghost use Rattle.std.specs.Prelude.{◌≡◌, ◌^◌, ◌<◌, ◌≤◌, map, false, IfOk};
 ghost use Rattle.cf_shape.specs.Lanes.{has_by, lane_at};
 ghost use Rattle.cf_shape.specs.Nodes.{levels_of};
-ghost use Rattle.cf_shape.specs.Uses.{is_measured};
 ghost use Rattle.cf_plain.specs.Asks.{rows_in};
 ghost use Rattle.cf_plain.specs.Groups.{groups as groups_by, as_group};
-ghost use Rattle.cf_table.specs.Values.{IsOf};
-ghost use Rattle.cf_table.specs.Moves.{AreFit};
-ghost use Rattle.cf_table.specs.Loads.{CountsLoads};
-ghost use Rattle.cf_walk.specs.Walks.{OnlyWalked};
+ghost use Rattle.cf_walk.specs.Walks.{HasWalked, IsMeasuring};
 ghost use Rattle.cf_walk.specs.Measures.{HasGrouped};
 ghost use Rattle.cf_walk.specs.Reached.{IsPath};
 
@@ -31,19 +27,14 @@ fn add_group<P: Pass, L: Ledger>(
     groups: &mut Vec<Group>,
     steps: &mut Steps<L>,
 ) -> Result<u64, Memory>
-    requires of { IsOf (P.held pass.old) log.now }
-    requires lane { keys.lane < length log.now.shape.lanes }
+    requires measures { IsMeasuring log.now keys.lane (P.held pass.old) }
     requires range { keys.low ≤ keys.high }
     requires top { keys.high < 16 ^ levels_of log.now.shape keys.lane }
-    requires measured { is_measured log.now.shape keys.lane ≡ true }
     requires alone { has_by (lane_at log.now.shape keys.lane).key ≡ false }
-    requires fit { AreFit log.now.shape (P.held pass.old).view }
-    requires few { length (P.held pass.old).view.seen ≤ log.now.shape.capacity }
     requires path { IsPath log.now.shape keys.lane path.old (P.held pass.old).view }
     ensures path { IfOk result (λ _. IsPath log.now.shape keys.lane path.new (P.held pass.new).view) }
     ensures found { IfOk result (HasGrouped log.now.shape keys.lane keys.low keys.high (rows_in (P.held pass.old).view.seen) groups.old.items groups.new.items) }
-    ensures walked { OnlyWalked (P.held pass.old) (P.held pass.new) }
-    ensures loads { CountsLoads (P.held pass.old) (P.held pass.new) steps.old steps.new }
+    ensures walked { HasWalked (P.held pass.old) (P.held pass.new) steps.old steps.new }
 {
     let _lawful = log.shape();
     let (last, quad) = measure_key(log, pass, keys, path, steps);
@@ -66,15 +57,10 @@ pub fn groups<P: Pass, L: Ledger>(
     lane: u8,
     steps: &mut Steps<L>,
 ) -> Result<Vec<Group>, Memory>
-    requires of { IsOf (P.held pass.old) log.now }
-    requires lane { lane < length log.now.shape.lanes }
-    requires measured { is_measured log.now.shape lane ≡ true }
+    requires measures { IsMeasuring log.now lane (P.held pass.old) }
     requires alone { has_by (lane_at log.now.shape lane).key ≡ false }
-    requires fit { AreFit log.now.shape (P.held pass.old).view }
-    requires few { length (P.held pass.old).view.seen ≤ log.now.shape.capacity }
     ensures found { IfOk result (λ found. found.items ≡ map as_group (groups_by log.now.shape lane (rows_in (P.held pass.old).view.seen))) }
-    ensures walked { OnlyWalked (P.held pass.old) (P.held pass.new) }
-    ensures loads { CountsLoads (P.held pass.old) (P.held pass.new) steps.old steps.new }
+    ensures walked { HasWalked (P.held pass.old) (P.held pass.new) steps.old steps.new }
 {
     let high = greatest_key(log.shape(), lane);
     let mut groups = Vec::new(alloc);

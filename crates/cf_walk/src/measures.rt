@@ -1,13 +1,9 @@
 // The quad of a range of keys.
-ghost use Rattle.std.specs.Prelude.{◌≡◌, ◌+◌, ◌-◌, ◌*◌, ◌^◌, ◌<◌, ◌≤◌, length, true};
+ghost use Rattle.std.specs.Prelude.{◌≡◌, ◌+◌, ◌-◌, ◌*◌, ◌^◌, ◌<◌, ◌≤◌, length};
 ghost use Rattle.cf_fold.specs.Quads.{quad_of};
 ghost use Rattle.cf_shape.specs.Nodes.{levels_of};
-ghost use Rattle.cf_shape.specs.Uses.{is_measured};
 ghost use Rattle.cf_plain.specs.Asks.{rows_in, is_keyed_between, total_over};
-ghost use Rattle.cf_table.specs.Values.{IsOf};
-ghost use Rattle.cf_table.specs.Moves.{AreFit};
-ghost use Rattle.cf_table.specs.Loads.{CountsLoads};
-ghost use Rattle.cf_walk.specs.Walks.{OnlyWalked, range_places};
+ghost use Rattle.cf_walk.specs.Walks.{range_places, HasWalked, IsMeasuring};
 ghost use Rattle.cf_walk.specs.Measures.{amounts_at, HasMeasured};
 ghost use Rattle.cf_walk.specs.Reached.{IsPath};
 
@@ -29,19 +25,14 @@ pub(crate) fn measure_key<P: Pass, L: Ledger>(
     path: &mut Path,
     steps: &mut Steps<L>,
 ) -> (u64, Quad)
-    requires of { IsOf (P.held pass.old) log.now }
-    requires lane { keys.lane < length log.now.shape.lanes }
+    requires measures { IsMeasuring log.now keys.lane (P.held pass.old) }
     requires range { keys.low ≤ keys.high }
-    requires measured { is_measured log.now.shape keys.lane ≡ true }
-    requires fit { AreFit log.now.shape (P.held pass.old).view }
-    requires few { length (P.held pass.old).view.seen ≤ log.now.shape.capacity }
     requires path { IsPath log.now.shape keys.lane path.old (P.held pass.old).view }
     ensures path { IsPath log.now.shape keys.lane path.new (P.held pass.new).view }
     ensures quad { HasMeasured log.now.shape keys.lane keys.low keys.high (P.held pass.old).view.seen result.1 result.0 }
     ensures one { 0 < result.1.count → result.0 ≡ keys.low }
-    ensures walked { OnlyWalked (P.held pass.old) (P.held pass.new) }
+    ensures walked { HasWalked (P.held pass.old) (P.held pass.new) steps.old steps.new }
     ensures steps { steps.new ≤ steps.old + (levels_of log.now.shape keys.lane - 1) + 4 * log.now.shape.writers + (log.now.shape.capacity - length (P.held pass.old).view.seen) }
-    ensures loads { CountsLoads (P.held pass.old) (P.held pass.new) steps.old steps.new }
 {
     match reach(log, pass, keys.lane, keys.low, path, steps) {
         Descent::Leaf(node) => {
@@ -64,17 +55,12 @@ fn measure_keys<P: Pass, L: Ledger>(
     range: (u64, u64),
     steps: &mut Steps<L>,
 ) -> Quad
-    requires of { IsOf (P.held pass.old) log.now }
-    requires lane { lane < length log.now.shape.lanes }
+    requires measures { IsMeasuring log.now lane (P.held pass.old) }
     requires range { range.0 ≤ range.1 }
     requires top { range.1 < 16 ^ levels_of log.now.shape lane }
-    requires measured { is_measured log.now.shape lane ≡ true }
-    requires fit { AreFit log.now.shape (P.held pass.old).view }
-    requires few { length (P.held pass.old).view.seen ≤ log.now.shape.capacity }
     ensures quad { result ≡ quad_of (amounts_at log.now.shape lane (P.held pass.old).view.seen (range_places log.now.shape lane range.0 (P.held pass.old).view.seen (range.1 - range.0 + 1))) }
-    ensures walked { OnlyWalked (P.held pass.old) (P.held pass.new) }
+    ensures walked { HasWalked (P.held pass.old) (P.held pass.new) steps.old steps.new }
     ensures steps { range.0 ≡ range.1 → steps.new ≤ steps.old + (levels_of log.now.shape lane - 1) + 4 * log.now.shape.writers + (log.now.shape.capacity - length (P.held pass.old).view.seen) }
-    ensures loads { CountsLoads (P.held pass.old) (P.held pass.new) steps.old steps.new }
 {
     let (low, high) = range;
     let _lawful = log.shape();
@@ -100,15 +86,10 @@ pub fn measure_range<P: Pass, L: Ledger>(
     range: (u64, u64),
     steps: &mut Steps<L>,
 ) -> Quad
-    requires of { IsOf (P.held pass.old) log.now }
-    requires lane { lane < length log.now.shape.lanes }
-    requires measured { is_measured log.now.shape lane ≡ true }
-    requires fit { AreFit log.now.shape (P.held pass.old).view }
-    requires few { length (P.held pass.old).view.seen ≤ log.now.shape.capacity }
+    requires measures { IsMeasuring log.now lane (P.held pass.old) }
     ensures quad { result ≡ total_over log.now.shape lane (is_keyed_between log.now.shape lane range.0 range.1) (rows_in (P.held pass.old).view.seen) }
-    ensures walked { OnlyWalked (P.held pass.old) (P.held pass.new) }
+    ensures walked { HasWalked (P.held pass.old) (P.held pass.new) steps.old steps.new }
     ensures steps { range.0 ≡ range.1 → steps.new ≤ steps.old + (levels_of log.now.shape lane - 1) + 4 * log.now.shape.writers + (log.now.shape.capacity - length (P.held pass.old).view.seen) }
-    ensures loads { CountsLoads (P.held pass.old) (P.held pass.new) steps.old steps.new }
 {
     let (low, high) = range;
     let high = high.min(greatest_key(log.shape(), lane));

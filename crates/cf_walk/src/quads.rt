@@ -1,11 +1,7 @@
 // The quads of chains, by the versions in their cells.
-ghost use Rattle.std.specs.Prelude.{ℕ, ◌≡◌, ◌+◌, ◌-◌, ◌*◌, ◌<◌, ◌≤◌, length, true};
+ghost use Rattle.std.specs.Prelude.{ℕ, ◌≡◌, ◌+◌, ◌-◌, ◌*◌, ◌<◌, ◌≤◌, length};
 ghost use Rattle.cf_fold.specs.Quads.{quad_of};
-ghost use Rattle.cf_shape.specs.Uses.{is_measured};
-ghost use Rattle.cf_table.specs.Values.{IsOf};
-ghost use Rattle.cf_table.specs.Moves.{AreFit};
-ghost use Rattle.cf_table.specs.Loads.{CountsLoads};
-ghost use Rattle.cf_walk.specs.Walks.{OnlyWalked, Met, IsAbove, IsEntryOf, ChainSteps, amounts_below, leaf_amounts};
+ghost use Rattle.cf_walk.specs.Walks.{Met, IsAbove, IsEntryOf, ChainSteps, amounts_below, leaf_amounts, HasWalked, IsMeasuring};
 
 use crate::chain::{Leaf, begin};
 use cf_fold::{CellWords, Quad, link_in};
@@ -21,17 +17,13 @@ fn read_quad<P: Pass, L: Ledger>(
     place: u32,
     steps: &mut Steps<L>,
 ) -> Quad
-    requires of { IsOf (P.held pass.old) log.now }
-    requires lane { leaf.lane < length log.now.shape.lanes }
-    requires measured { is_measured log.now.shape leaf.lane ≡ true }
+    requires measures { IsMeasuring log.now leaf.lane (P.held pass.old) }
     requires place { place < log.now.shape.capacity }
     requires entry { IsEntryOf log.now.shape leaf.lane leaf.key _writer place (P.held pass.old).view.seen }
-    requires fit { AreFit log.now.shape (P.held pass.old).view }
     ensures quad { result ≡ quad_of (amounts_below log.now.shape leaf.lane leaf.key (P.held pass.old).view.seen _writer (place + 1)) }
-    ensures walked { OnlyWalked (P.held pass.old) (P.held pass.new) }
+    ensures walked { HasWalked (P.held pass.old) (P.held pass.new) steps.old steps.new }
     ensures met { (k v : ℕ) → Met (P.held pass.old).view k v → Met (P.held pass.new).view k v }
     ensures steps { steps.new ≡ steps.old + 3 }
-    ensures loads { CountsLoads (P.held pass.old) (P.held pass.new) steps.old steps.new }
 {
     let _lawful = log.shape();
     let first = log.load_cell(pass, place, leaf.lane, 0, steps);
@@ -48,15 +40,12 @@ fn chain_quad<P: Pass, L: Ledger>(
     writer: u8,
     steps: &mut Steps<L>,
 ) -> Quad
-    requires of { IsOf (P.held pass.old) log.now }
+    requires measures { IsMeasuring log.now leaf.lane (P.held pass.old) }
     requires above { IsAbove log.now.shape leaf.lane leaf.key leaf.node (P.held pass.old).view }
     requires writer { writer < log.now.shape.writers }
-    requires measured { is_measured log.now.shape leaf.lane ≡ true }
-    requires fit { AreFit log.now.shape (P.held pass.old).view }
     ensures quad { result ≡ quad_of (amounts_below log.now.shape leaf.lane leaf.key (P.held pass.old).view.seen writer (length (P.held pass.old).view.seen)) }
-    ensures walked { OnlyWalked (P.held pass.old) (P.held pass.new) }
+    ensures walked { HasWalked (P.held pass.old) (P.held pass.new) steps.old steps.new }
     ensures steps { ChainSteps log.now.shape writer (P.held pass.old) (P.held pass.new) 3 steps.old steps.new }
-    ensures loads { CountsLoads (P.held pass.old) (P.held pass.new) steps.old steps.new }
 {
     let _lawful = log.shape();
     let covered = u64::from(pass.covered());
@@ -79,15 +68,11 @@ pub(crate) fn leaf_quad<P: Pass, L: Ledger>(
     leaf: Leaf,
     steps: &mut Steps<L>,
 ) -> Quad
-    requires of { IsOf (P.held pass.old) log.now }
+    requires measures { IsMeasuring log.now leaf.lane (P.held pass.old) }
     requires above { IsAbove log.now.shape leaf.lane leaf.key leaf.node (P.held pass.old).view }
-    requires measured { is_measured log.now.shape leaf.lane ≡ true }
-    requires fit { AreFit log.now.shape (P.held pass.old).view }
-    requires few { length (P.held pass.old).view.seen ≤ log.now.shape.capacity }
     ensures quad { result ≡ quad_of (leaf_amounts log.now.shape leaf.lane leaf.key (P.held pass.old).view.seen log.now.shape.writers) }
-    ensures walked { OnlyWalked (P.held pass.old) (P.held pass.new) }
+    ensures walked { HasWalked (P.held pass.old) (P.held pass.new) steps.old steps.new }
     ensures steps { steps.new ≤ steps.old + 4 * log.now.shape.writers + (log.now.shape.capacity - length (P.held pass.old).view.seen) }
-    ensures loads { CountsLoads (P.held pass.old) (P.held pass.new) steps.old steps.new }
 {
     let mut total = Quad::EMPTY;
     for writer in 0..log.shape().writers() {

@@ -1,9 +1,7 @@
 // The leaves of a range of keys.
-ghost use Rattle.std.specs.Prelude.{◌≡◌, ◌+◌, ◌-◌, ◌<◌, ◌≤◌, ◌++◌, length, suc, IfOk, OnOk};
+ghost use Rattle.std.specs.Prelude.{◌≡◌, ◌+◌, ◌-◌, ◌<◌, ◌≤◌, ◌++◌, length, IfOk, OnOk};
 ghost use Rattle.cf_shape.specs.Nodes.{levels_of};
-ghost use Rattle.cf_table.specs.Values.{IsOf};
-ghost use Rattle.cf_table.specs.Loads.{CountsLoads};
-ghost use Rattle.cf_walk.specs.Walks.{OnlyWalked, range_places, WentOver};
+ghost use Rattle.cf_walk.specs.Walks.{range_places, WentOver, HasWalked, IsOnLane};
 ghost use Rattle.cf_walk.specs.Reached.{IsPath};
 
 use crate::chain::{Leaf, collect_leaf};
@@ -23,16 +21,14 @@ fn collect_key<P: Pass, L: Ledger>(
     found: &mut Vec<u32>,
     steps: &mut Steps<L>,
 ) -> Result<u64, Memory>
-    requires of { IsOf (P.held pass.old) log.now }
-    requires lane { keys.lane < length log.now.shape.lanes }
+    requires lane { IsOnLane log.now keys.lane (P.held pass.old) }
     requires range { keys.low ≤ keys.high }
     requires path { IsPath log.now.shape keys.lane path.old (P.held pass.old).view }
     ensures path { IfOk result (λ _. IsPath log.now.shape keys.lane path.new (P.held pass.new).view) }
     ensures found { IfOk result (WentOver log.now.shape keys.lane keys.low keys.high (P.held pass.old).view.seen found.old.items found.new.items) }
-    ensures walked { OnlyWalked (P.held pass.old) (P.held pass.new) }
+    ensures walked { HasWalked (P.held pass.old) (P.held pass.new) steps.old steps.new }
     ensures steps { IfOk result (λ _. steps.new ≤ steps.old + (levels_of log.now.shape keys.lane - 1) + log.now.shape.writers
         + (length found.new.items - length found.old.items) + (log.now.shape.capacity - length (P.held pass.old).view.seen)) }
-    ensures loads { CountsLoads (P.held pass.old) (P.held pass.new) steps.old steps.new }
 {
     match reach(log, pass, keys.lane, keys.low, path, steps) {
         Descent::Leaf(node) => {
@@ -57,14 +53,12 @@ pub(crate) fn collect_range<P: Pass, L: Ledger>(
     found: &mut Vec<u32>,
     steps: &mut Steps<L>,
 ) -> Result<(), Memory>
-    requires of { IsOf (P.held pass.old) log.now }
-    requires lane { lane < length log.now.shape.lanes }
+    requires lane { IsOnLane log.now lane (P.held pass.old) }
     requires range { range.0 ≤ range.1 }
     ensures found { OnOk result (found.new.items ≡ found.old.items ++ range_places log.now.shape lane range.0 (P.held pass.old).view.seen (range.1 - range.0 + 1)) }
-    ensures walked { OnlyWalked (P.held pass.old) (P.held pass.new) }
+    ensures walked { HasWalked (P.held pass.old) (P.held pass.new) steps.old steps.new }
     ensures steps { range.0 ≡ range.1 → OnOk result (steps.new ≤ steps.old + (levels_of log.now.shape lane - 1) + log.now.shape.writers
         + (length found.new.items - length found.old.items) + (log.now.shape.capacity - length (P.held pass.old).view.seen)) }
-    ensures loads { CountsLoads (P.held pass.old) (P.held pass.new) steps.old steps.new }
 {
     let (low, high) = range;
     let _lawful = log.shape();

@@ -7,7 +7,7 @@ ghost use Rattle.cf_law.specs.Steps.Act.{load_child};
 ghost use Rattle.cf_table.specs.Values.{IsOf};
 ghost use Rattle.cf_table.specs.Effects.{IsLawfulStep, HasStepped, child_effect};
 ghost use Rattle.cf_table.specs.Loads.{CountsLoads};
-ghost use Rattle.cf_walk.specs.Walks.{IsTurn, HasTurned, OnlyWalked, turn_slot};
+ghost use Rattle.cf_walk.specs.Walks.{IsTurn, HasTurned, turn_slot, HasWalked, IsOnLane};
 ghost use Rattle.cf_walk.specs.Reached.{Reached, Shares, IsPath};
 
 use cf_shape::{Shape, levels, place_child, place_root};
@@ -138,15 +138,13 @@ pub(crate) fn reach<P: Pass, L: Ledger>(
     path: &mut Path,
     steps: &mut Steps<L>,
 ) -> Descent
-    requires of { IsOf (P.held pass.old) log.now }
-    requires lane { lane < length log.now.shape.lanes }
+    requires lane { IsOnLane log.now lane (P.held pass.old) }
     requires path { IsPath log.now.shape lane path.old (P.held pass.old).view }
     ensures reached { Reached log.now.shape lane key (P.held pass.new).view (P.held pass.old).view.seen result }
     ensures path { IsPath log.now.shape lane path.new (P.held pass.new).view }
-    ensures walked { OnlyWalked (P.held pass.old) (P.held pass.new) }
+    ensures walked { HasWalked (P.held pass.old) (P.held pass.new) steps.old steps.new }
     ensures steps { steps.new ≤ steps.old + (levels_of log.now.shape lane - 1) }
     ensures shared { (d : ℕ) → Shares log.now.shape lane path.old key d → steps.new + d ≤ steps.old + (levels_of log.now.shape lane - 1) }
-    ensures loads { CountsLoads (P.held pass.old) (P.held pass.new) steps.old steps.new }
 {
     let levels = levels(log.shape(), lane);
     let depth = common_depth(levels, path.depth, path.key, key);

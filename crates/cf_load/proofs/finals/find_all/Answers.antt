@@ -60,7 +60,7 @@ loop-reader-preserved g c =
     ap (λ (es : List Entry). entries ++ es) seen
     ∙ (flat_map_more seen_by [] (take i old) (get_or old i d) ∙ ap (flat_map seen_by) (sym (take_more old i d there))) in record {
       place = omega (arith, place);
-      walked = changed_more OnlyWalked i old now d _ low v.walked c.in_ok-found.ensures.walked;
+      walked = changed_more OnlyWalked i old now d _ low v.walked c.in_ok-found.ensures.walked.only;
       steps = λ asks. costs_more
           (λ (p : PassValue). key_steps shape ask (p.view).seen) old i c.args.steps.now c.loop-reader.steps c.find_behind.new.steps _ d there
           (v.steps asks) (c.in_ok-found.ensures.steps asks)
@@ -69,7 +69,7 @@ loop-reader-preserved g c =
           (λ (p : PassValue). bucket_steps shape ask (p.view).seen) old i c.args.steps.now c.loop-reader.steps c.find_behind.new.steps _ d there
           (v.bucket asks) (c.in_ok-found.ensures.bucket asks)
           (ap₂ (λ (h : ShapeValue) (es : List Entry). bucket_steps h ask es) shape_is seen);
-      loads = loads_more old now i d _ c.args.steps.now c.loop-reader.steps c.find_behind.new.steps low v.loads c.in_ok-found.ensures.loads;
+      loads = loads_more old now i d _ c.args.steps.now c.loop-reader.steps c.find_behind.new.steps low v.loads c.in_ok-found.ensures.walked.loads;
       few = (let few = v.few in let count = found.count_is in let before = v.found.count_is in
           let sum = length-append entries (seen_by (get_or now i d)) in
           let most : length (seen_by (get_or now i d)) ≤ shape.capacity =

@@ -29,7 +29,7 @@ returns-clause-found g c entries found =
     let seen : List Entry = (m.view).seen in
     let both = found_behind shape ask entries c.args.before.0 c.args.before.1 found seen in
     let long : c.covered.result ≡ length seen =
-    c.covered.ensures ∙ ap (λ (es : List Entry). length es) (sym (walked_seen m n c.finding_seen.ensures.walked)) in
+    c.covered.ensures ∙ ap (λ (es : List Entry). length es) (sym (walked_seen m n c.finding_seen.ensures.walked.only)) in
     let joined_is : c.in_ok-found.found ≡ joined c.args.before.0 c.args.before.1 (finding_in shape ask (rows_in seen)) = c.in_ok-found.ensures
     ∙ ap (joined c.args.before.0 c.args.before.1) c.in_ok-more.ensures.found in
     record {

@@ -54,8 +54,8 @@ loop-turn-preserved g c =
     ∙ (ap (λ (a : Ask). finding_in shape a (rows_in all)) asked
     ∙ ap (λ (k : ℕ). finding_in shape (get_or plan.asks.items k no_ask) (rows_in all)) same)) in
     record {
-      reader = reader_walked c.args.log.now m n v.reader c.find_behind.ensures.walked;
-      keeps = keeps_then c.args.root.now m n v.keeps (keeps_walked m n c.find_behind.ensures.walked);
+      reader = reader_walked c.args.log.now m n v.reader c.find_behind.ensures.walked.only;
+      keeps = keeps_then c.args.root.now m n v.keeps (keeps_walked m n c.find_behind.ensures.walked.only);
       found = made_more
           (λ (k : ℕ). finding_in shape (get_or plan.asks.items k no_ask)
           (rows_in all)) plan.lives.items c.loop-turn.findings.items c.push.new.self.items i 0 c.in_ok-found.found v.found there one
@@ -68,9 +68,9 @@ returns-then-makes_no_round-clause-keeps g c = keeps_none c.args.root.now
 pub returns-in_err-found-clause-keeps : goal.returns-in_err-found-clause-keeps
 returns-in_err-found-clause-keeps g c =
     keeps_then c.args.root.now c.loop-turn.root c.find_behind.new.pass c.loop-turn.invariant.keeps
-    (keeps_walked c.loop-turn.root c.find_behind.new.pass c.find_behind.ensures.walked)
+    (keeps_walked c.loop-turn.root c.find_behind.new.pass c.find_behind.ensures.walked.only)
 
 pub returns-in_err-push-clause-keeps : goal.returns-in_err-push-clause-keeps
 returns-in_err-push-clause-keeps g c =
     keeps_then c.args.root.now c.loop-turn.root c.find_behind.new.pass c.loop-turn.invariant.keeps
-    (keeps_walked c.loop-turn.root c.find_behind.new.pass c.find_behind.ensures.walked)
+    (keeps_walked c.loop-turn.root c.find_behind.new.pass c.find_behind.ensures.walked.only)

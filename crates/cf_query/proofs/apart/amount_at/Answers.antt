@@ -13,5 +13,5 @@ overflow_cast-result g c =
     let measure : (lane_at shape c.args.lane).measure ≡ Some c.in-Some.attr = ap (λ (l : Lane). l.measure) (sym c.lane_of.ensures.lane) ∙ c.in-Some.is in
     let is = amount_is shape c.args.lane row c.in-Some.attr c.number.result measure c.number.ensures.number in
     let low : c.number.result < 2 ^ 32 =
-    amount_low shape c.args.lane m c.args.offset c.number.result c.lane_of.ensures.lawful c.requires.lane c.requires.fit c.requires.covered is in
+    amount_low shape c.args.lane m c.args.offset c.number.result c.lane_of.ensures.lawful c.requires.at.exists c.requires.fit c.requires.at.entry.within is in
     search (rules, low)

@@ -10,8 +10,8 @@ returns-clause-ok g c =
     let m = g.P.Pass.held c.args.pass.now in
     let n = g.P.Pass.held c.tail-tail.new.pass in
     let o = g.P.Pass.held c.finding_seen.new.pass in
-    let seen = walked_seen n o c.finding_seen.ensures.walked in (
-      asked_walked c.args.log.now.shape m n o c.tail-tail.ensures.asked c.finding_seen.ensures.walked,
+    let seen = walked_seen n o c.finding_seen.ensures.walked.only in (
+      asked_walked c.args.log.now.shape m n o c.tail-tail.ensures.asked c.finding_seen.ensures.walked.only,
       c.tail-tail.ensures.tail ∙ ap (λ (es : List Entry). length es) seen,
       c.in_ok-finding.ensures.found ∙ ap (λ (es : List Entry). finding_in c.args.log.now.shape c.args.ask.now (rows_in es)) seen,
     )
@@ -20,4 +20,4 @@ pub returns-in_err-finding-clause-memory : goal.returns-in_err-finding-clause-me
 returns-in_err-finding-clause-memory g c =
     refused_too c.from_residual.result
     (asked_walked c.args.log.now.shape (g.P.Pass.held c.args.pass.now) (g.P.Pass.held c.tail-tail.new.pass)
-    (g.P.Pass.held c.finding_seen.new.pass) c.tail-tail.ensures.asked c.finding_seen.ensures.walked)
+    (g.P.Pass.held c.finding_seen.new.pass) c.tail-tail.ensures.asked c.finding_seen.ensures.walked.only)

@@ -2,8 +2,7 @@ use Rattle.std.proofs.Common.{◌≡◌, ◌-◌, ◌≤◌, filter}
 use Rattle.std.specs.List.{range_with_len}
 use Rattle.cf_row.specs.Expr.{holds_of}
 use Rattle.cf_plain.specs.Asks.{row_at, rows_in}
-use Rattle.cf_table.specs.Loads.{CountsLoads}
-use Rattle.cf_table.specs.Moves.{OnlyLooked}
+use Rattle.cf_query.specs.Looking.{HasLooked}
 use Rattle.cf_query.specs.Stretches.{stretch}
 use Rattle.cf_query.proofs.scans.scan.Given as goal
 
@@ -12,6 +11,5 @@ invariant-loop-offset g l = record {
   low : l.from ≤ l.offset;
   found : (l.found).items ≡ filter (λ place. holds_of l.selection.expr
       (row_at (rows_in (stretch l.from l.to ((g.P.Pass.held l.fn.pass).view).seen)) place)) (range_with_len 0 (l.offset - l.from));
-  looked : OnlyLooked (g.P.Pass.held l.fn.pass) (g.P.Pass.held l.pass);
-  loads : CountsLoads (g.P.Pass.held l.fn.pass) (g.P.Pass.held l.pass) l.fn.steps l.steps;
+  looked : HasLooked (g.P.Pass.held l.fn.pass) (g.P.Pass.held l.pass) l.fn.steps l.steps;
 }

@@ -2,7 +2,8 @@ use Rattle.std.proofs.Common.{◌≡◌, ◌∙◌, ◌<◌, length, get_or, Som
 use Rattle.std.proofs.lemmas.Option.{slice_get-get_or}
 use Rattle.cf_row.specs.declared.row.Entry.{Entry}
 use Rattle.cf_table.specs.Values.{PassValue}
-use Rattle.cf_table.proofs.Reading.{no_entry, looked_then}
+use Rattle.cf_table.proofs.Reading.{no_entry}
+use Rattle.cf_query.proofs.Loaded.{looked_on}
 use Rattle.cf_query.proofs.Tagged.{more_of}
 use Rattle.cf_query.proofs.tags.push_tags.Goals as goal
 
@@ -17,13 +18,12 @@ loop-offset-preserved g c =
     let size = c.covered-offset-end.ensures in
     let lt : o < length seen = omega (arith, test, size) in
     let e = get_or seen o no_entry in
-    let at : slice_get (m.view).seen o ≡ Some e = ap (λ (h : PassValue). slice_get (h.view).seen o) v.looked ∙ slice_get-get_or seen o no_entry lt in
+    let at : slice_get (m.view).seen o ≡ Some e = ap (λ (h : PassValue). slice_get (h.view).seen o) v.looked.only ∙ slice_get-get_or seen o no_entry lt in
     record {
-      looked = looked_then f m (g.P.Pass.held c.tag_at-num.new.pass) v.looked c.tag_at-num.ensures.looked;
+      looked = looked_on v.looked c.tag_at-num.ensures.looked;
       nums = more_of (λ (x : Entry). x.row.num) seen c.args.nums.now.items c.loop-offset.nums.items c.push.new.self.items o c.tag_at-num.result.0
           lt v.nums c.in_ok-push.ensures.items (c.tag_at-num.ensures.num e at);
       writers = more_of (λ (x : Entry). x.writer) seen c.args.writers.now.items c.loop-offset.writers.items c.push-in-loop-offset.new.self.items o
           c.tag_at-num.result.1 lt v.writers c.in_ok-push-2.ensures.items (c.tag_at-num.ensures.writer e at);
       steps = let before = v.steps in let more = c.tag_at-num.ensures.steps in omega (arith, before, more);
-      loads = let least = v.loads in let loads = c.tag_at-num.ensures.loads in omega (arith, least, loads);
     }

@@ -20,7 +20,7 @@ tag g c =
     let place : c.min-place.result ≡ min o (s.capacity - 1) = c.min-place.ensures ∙ ap (λ (k : ℕ). min o (k - 1)) cap in
     let schema = c.schema.ensures ∙ ap (λ (x : ShapeValue). x.schema) c.shape.ensures.shape in
     let last = c.word_count-last.ensures.count ∙ ap (λ (attrs : List Attr). word_count attrs) schema in
-    tag_read s m n o c.min-place.result c.word_count-last.result c.load_word-tag.result c.shape.ensures.lawful place c.requires.covered last
+    tag_read s m n o c.min-place.result c.word_count-last.result c.load_word-tag.result c.shape.ensures.lawful place c.requires.covered.within last
     c.load_word-tag.ensures.made
 
 pub overflow_cast-result : goal.overflow_cast-result
@@ -28,13 +28,15 @@ overflow_cast-result g c = let low = (tag g c).low in search (rules, low)
 
 pub returns-clause-num : goal.returns-clause-num
 returns-clause-num g c = λ entry at.
-    (tag g c).num ∙ ap (λ (e : Entry). e.row.num) (entry_is (g.P.Pass.held c.args.pass.now) c.args.offset entry c.requires.covered at)
+    (tag g c).num ∙ ap (λ (e : Entry). e.row.num) (entry_is (g.P.Pass.held c.args.pass.now) c.args.offset entry c.requires.covered.within at)
 
 pub returns-clause-writer : goal.returns-clause-writer
 returns-clause-writer g c = λ entry at.
-    (tag g c).writer ∙ ap (λ (e : Entry). e.writer) (entry_is (g.P.Pass.held c.args.pass.now) c.args.offset entry c.requires.covered at)
+    (tag g c).writer ∙ ap (λ (e : Entry). e.writer) (entry_is (g.P.Pass.held c.args.pass.now) c.args.offset entry c.requires.covered.within at)
 
-pub returns-clause-loads : goal.returns-clause-loads
-returns-clause-loads g c =
-    word_loads c.args.log.now.shape (g.P.Pass.held c.args.pass.now) (g.P.Pass.held c.load_word-tag.new.pass) _ _ c.load_word-tag.result _ _
-    c.load_word-tag.ensures.made c.load_word-tag.ensures.steps
+pub returns-clause-looked : goal.returns-clause-looked
+returns-clause-looked g c = record {
+  only = search rules;
+  loads = word_loads c.args.log.now.shape (g.P.Pass.held c.args.pass.now) (g.P.Pass.held c.load_word-tag.new.pass) _ _ c.load_word-tag.result _ _
+      c.load_word-tag.ensures.made c.load_word-tag.ensures.steps;
+}

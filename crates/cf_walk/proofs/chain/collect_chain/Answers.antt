@@ -5,7 +5,7 @@ use Rattle.cf_table.proofs.Looks.{head_loads, cell_loads}
 use Rattle.cf_walk.specs.Walks.{leaf_of}
 use Rattle.cf_walk.proofs.Keys.{some_levels}
 use Rattle.cf_walk.proofs.Counted.{counting_begins, counting_known, counting_new, counting_ends}
-use Rattle.cf_walk.proofs.Walked.{IsWalking, HasBegun, HasWalkedOn, begun, may_step, walked_then, walked_seen, below, kept_known, kept_new, kept_all, above_long, stepped_from, below_next}
+use Rattle.cf_walk.proofs.Walked.{IsWalking, HasBegun, HasWalkedOn, begun, may_step, did_then, walked_seen, below, kept_known, kept_new, kept_all, above_long, stepped_from, below_next}
 use Rattle.cf_walk.proofs.chain.collect_chain.Goals as goal
 use Rattle.cf_walk.proofs.chain.collect_chain.Goals.{then-place-covered+in_ok-push, else-place-covered}
 use Rattle.cf_law.proofs.Shapes.{some_cell}
@@ -46,10 +46,9 @@ loop-link-init g c =
     let long = ap (λ (xs : List ℕ). length xs) same in
     let count = c.begin-link.ensures.steps in
     record {
-      walked = b.walked;
+      walked = record { only = b.walked; loads = head_loads s m n _ _ _ _ v _ _ c.begin-link.ensures.made count };
       walking = b.walking;
       found = ap (λ (xs : List ℕ). c.args.found.now.items ++ xs) same;
-      loads = head_loads s m n _ _ _ _ v _ _ c.begin-link.ensures.made count;
       count = counting_begins s c.args.writer m n v (length (below s c.args.writer (leaf_of s leaf.lane leaf.key) (m.view).seen v)) _ _ b.met
           (omega (arith, long, count));
     }
@@ -77,7 +76,7 @@ loop-link-smaller g c =
     let some = c.loop-link-test.true in
     let st = stepped_from s m n c.args.writer (leaf_of s leaf.lane leaf.key)
     (f.view).seen c.loop-link.link c.load_cell-first.result some c.shape-lawful.ensures.lawful c.requires.above.exists (some_cell s leaf.lane)
-    (walked_seen f m v.walked) v.walking c.load_cell-first.ensures.made in
+    (walked_seen f m v.walked.only) v.walking c.load_cell-first.ensures.made in
     let falls = st.falls in
     let next = c.link_in-link.ensures in
     omega (arith, some, falls, next)
@@ -98,25 +97,23 @@ loop-link-preserved g c =
     let some = c.loop-link-test.true in
     let st : HasWalkedOn s m n w spot seen (link - 1) next = subst (λ (k : ℕ). HasWalkedOn s m n w spot seen (link - 1) k) (sym c.link_in-link.ensures)
     (stepped_from s m n w spot seen link c.load_cell-first.result some c.shape-lawful.ensures.lawful c.requires.above.exists (some_cell s leaf.lane)
-    (walked_seen f m v.walked) v.walking c.load_cell-first.ensures.made) in
+    (walked_seen f m v.walked.only) v.walking c.load_cell-first.ensures.made) in
     let falls = st.falls in
     let more = c.load_cell-first.ensures.steps in
     let here = below_next s w spot seen link some in
-    let far = ap (λ (es : List Rattle.cf_row.specs.declared.row.Entry.Entry). length es) (walked_seen f m v.walked) in
+    let far = ap (λ (es : List Rattle.cf_row.specs.declared.row.Entry.Entry). length es) (walked_seen f m v.walked.only) in
     let covered = c.covered.ensures in
-    let least = v.loads in
-    let loads = cell_loads s m n _ _ _ c.load_cell-first.result _ _ c.load_cell-first.ensures.made more in
+    let walked = did_then v.walked (record { only = st.walked; loads = cell_loads s m n _ _ _ c.load_cell-first.result _ _ c.load_cell-first.ensures.made more }) in
     elim c.if-place-covered.branch [
       | then-place-covered+in_ok-push x ↦
           let low = x.if-place-covered.true in
           let first : below s w spot seen link ≡ (link - 1) ∷ below s w spot seen next = here ∙ st.known (omega (arith, low, covered, far)) in
           let long = ap (λ (xs : List ℕ). length xs) first in
           record {
-            walked = walked_then f m n v.walked st.walked;
+            walked = walked;
             walking = st.walking;
             found = kept_known (c.loop-link.found).items (c.if-place-covered.found).items (below s w spot seen link) (below s w spot seen next) _ (link - 1)
                 (ap (λ (u : Vec ℕ Global). u.items) x.found-is ∙ x.in_ok-push.ensures.items) first v.found;
-            loads = omega (arith, least, loads);
             count = counting_known s w f m n link next (link - 1) (length (below s w spot seen link)) (length (below s w spot seen next)) _ _ _ v.count st.met
                 (omega (arith, falls)) long more;
           }
@@ -125,11 +122,10 @@ loop-link-preserved g c =
           let first : below s w spot seen link ≡ below s w spot seen next = here ∙ st.new (omega (arith, high, covered, far)) in
           let long = ap (λ (xs : List ℕ). length xs) first in
           record {
-            walked = walked_then f m n v.walked st.walked;
+            walked = walked;
             walking = st.walking;
             found = kept_new (c.if-place-covered.found).items (below s w spot seen link) (below s w spot seen next) _ first
                 (ap (λ (u : Vec ℕ Global). u.items ++ below s w spot seen link) x.found-is ∙ v.found);
-            loads = omega (arith, least, loads);
             count = counting_new s w f m n link next (length (below s w spot seen link)) (length (below s w spot seen next)) _ _ _ v.count st.met st.apart some
                 (omega (arith, high, covered, far)) v.walking.low falls long more;
           }

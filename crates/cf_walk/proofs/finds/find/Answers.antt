@@ -3,8 +3,8 @@ use Rattle.cf_fold.proofs.Sorted.{AsOften}
 use Rattle.cf_shape.specs.Lanes.{ShapeValue}
 use Rattle.cf_shape.specs.Nodes.{levels_of}
 use Rattle.cf_plain.specs.Asks.{rows_in, places, is_keyed_between}
-use Rattle.cf_walk.specs.Walks.{OnlyWalked, range_places}
-use Rattle.cf_walk.proofs.Walked.{walked_none}
+use Rattle.cf_walk.specs.Walks.{HasWalked, range_places}
+use Rattle.cf_walk.proofs.Walked.{did_nothing}
 use Rattle.cf_walk.proofs.Tallied.{covers_some, covers_none, some_often, none_often, sorted_are}
 use Rattle.cf_walk.proofs.finds.find.Goals as goal
 use Rattle.cf_walk.proofs.finds.find.Goals.{then-low-high+in_ok-collect_range, else-low-high}
@@ -21,13 +21,13 @@ returns-clause-found g c =
     let often : AsOften (c.if-low-high.found).items (places (is_keyed_between s l low high) (rows_in seen)) =
     elim c.if-low-high.branch [
       | then-low-high+in_ok-collect_range x ↦
-          some_often s l low high (c.min-high.result - low + 1) seen (c.if-low-high.found).items is c.requires.lane c.requires.fit
+          some_often s l low high (c.min-high.result - low + 1) seen (c.if-low-high.found).items is c.requires.lane.exists c.requires.fit
           (covers_some s l low high c.greatest_key.result c.min-high.result most c.min-high.ensures x.if-low-high.true)
           (ap (λ (v : Vec ℕ Global). v.items) x.found-is
           ∙ (x.in_ok-collect_range.ensures.found
           ∙ ap (λ (xs : List ℕ). xs ++ range_places s l low seen (c.min-high.result - low + 1)) c.new-found.ensures.items))
       | else-low-high x ↦
-          none_often s l low high seen (c.if-low-high.found).items is c.requires.lane c.requires.fit
+          none_often s l low high seen (c.if-low-high.found).items is c.requires.lane.exists c.requires.fit
           (covers_none s l low high c.greatest_key.result c.min-high.result most c.min-high.ensures x.if-low-high.false)
           (ap (λ (v : Vec ℕ Global). v.items) x.found-is ∙ c.new-found.ensures.items)
     ] in
@@ -38,7 +38,12 @@ returns-clause-found g c =
 pub returns-clause-walked : goal.returns-clause-walked
 returns-clause-walked g c =
     let m = g.P.Pass.held c.args.pass.now in
+    let from = c.args.steps.now in
     elim c.if-low-high.branch [
-      | then-low-high+in_ok-collect_range x ↦ subst (λ (p : g.row.P.Denot). OnlyWalked m (g.P.Pass.held p)) (sym x.pass-is) x.collect_range.ensures.walked
-      | else-low-high x ↦ subst (λ (p : g.row.P.Denot). OnlyWalked m (g.P.Pass.held p)) (sym x.pass-is) (walked_none m)
+      | then-low-high+in_ok-collect_range x ↦
+          subst (λ (n : ℕ). HasWalked m (g.P.Pass.held c.if-low-high.pass) from n) (sym x.steps-is)
+          (subst (λ (p : g.row.P.Denot). HasWalked m (g.P.Pass.held p) from x.collect_range.new.steps) (sym x.pass-is) x.collect_range.ensures.walked)
+      | else-low-high x ↦
+          subst (λ (n : ℕ). HasWalked m (g.P.Pass.held c.if-low-high.pass) from n) (sym x.steps-is)
+          (subst (λ (p : g.row.P.Denot). HasWalked m (g.P.Pass.held p) from from) (sym x.pass-is) (did_nothing m from))
     ]

@@ -1,21 +1,19 @@
-use Rattle.std.proofs.Common.{◌∙◌, ℕ, List, slice_get, ap, sym, subst}
+use Rattle.std.proofs.Common.{◌∙◌, ℕ, List, ap, sym, subst}
 use Rattle.cf_row.specs.declared.row.Entry.{Entry}
 use Rattle.cf_fold.specs.Quads.{quad_of}
 use Rattle.cf_walk.specs.Walks.{leaf_amounts}
 use Rattle.cf_walk.specs.Measures.{HasMeasured}
-use Rattle.cf_walk.proofs.Walked.{walked_seen}
+use Rattle.cf_walk.proofs.Walked.{measuring_then, walked_seen}
 use Rattle.cf_walk.proofs.Measured.{leaf_measured, gap_measured}
 use Rattle.cf_walk.proofs.measures.measure_key.Goals as goal
 
-pub leaf_quad-requires-clause-fit : goal.leaf_quad-requires-clause-fit
-leaf_quad-requires-clause-fit g c o e at =
-    c.requires.fit o e
-    (ap (λ (es : List Entry). slice_get es o) (sym (walked_seen (g.P.Pass.held c.args.pass.now) (g.P.Pass.held c.reach.new.pass) c.reach.ensures.walked)) ∙ at)
+pub leaf_quad-requires-clause-measures : goal.leaf_quad-requires-clause-measures
+leaf_quad-requires-clause-measures g c = measuring_then c.reach.ensures.walked.only c.requires.measures
 
 pub returns-in-Leaf-clause-quad : goal.returns-in-Leaf-clause-quad
 returns-in-Leaf-clause-quad g c =
     let s = c.args.log.now.shape in
-    let same = walked_seen (g.P.Pass.held c.args.pass.now) (g.P.Pass.held c.reach.new.pass) c.reach.ensures.walked in
+    let same = walked_seen (g.P.Pass.held c.args.pass.now) (g.P.Pass.held c.reach.new.pass) c.reach.ensures.walked.only in
     leaf_measured s c.args.keys.lane c.args.keys.low c.args.keys.high ((g.P.Pass.held c.args.pass.now).view).seen c.leaf_quad.result c.requires.range
     (c.leaf_quad.ensures.quad ∙ ap (λ (es : List Entry). quad_of (leaf_amounts s c.args.keys.lane c.args.keys.low es s.writers)) same)
 

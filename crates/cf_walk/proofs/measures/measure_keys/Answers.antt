@@ -1,15 +1,12 @@
-use Rattle.std.proofs.Common.{◌∙◌, ◌+◌, List, slice_get, ap, sym, subst, arith}
+use Rattle.std.proofs.Common.{◌+◌, List, subst, arith}
 use Rattle.cf_row.specs.declared.row.Entry.{Entry}
 use Rattle.cf_walk.specs.Measures.{HasMeasured}
-use Rattle.cf_walk.proofs.Walked.{walked_then, walked_seen}
+use Rattle.cf_walk.proofs.Walked.{did_then, measuring_then, walked_seen}
 use Rattle.cf_walk.proofs.Measured.{measured_then, measured_few}
 use Rattle.cf_walk.proofs.measures.measure_keys.Goals as goal
 
-pub measure_key-next-requires-clause-fit : goal.measure_key-next-requires-clause-fit
-measure_key-next-requires-clause-fit g c o e at =
-    c.requires.fit o e
-    (ap (λ (es : List Entry). slice_get es o)
-    (sym (walked_seen (g.P.Pass.held c.args.pass.now) (g.P.Pass.held c.loop-last.pass) c.loop-last.invariant.walked)) ∙ at)
+pub measure_key-next-requires-clause-measures : goal.measure_key-next-requires-clause-measures
+measure_key-next-requires-clause-measures g c = measuring_then c.loop-last.invariant.walked.only c.requires.measures
 
 pub merge-total-requires : goal.merge-total-requires
 merge-total-requires g c =
@@ -20,12 +17,12 @@ merge-total-requires g c =
     let m = g.P.Pass.held c.loop-last.pass in
     let lawful = c.shape-lawful.ensures.lawful in
     let room = lawful.capacity in
-    let few = c.requires.few in
-    let same = walked_seen f m v.walked in
+    let few = c.requires.measures.reads.few in
+    let same = walked_seen f m v.walked.only in
     let total = measured_few s l c.args.range.0 c.args.range.1 c.loop-last.last
-    (f.view).seen c.loop-last.total lawful c.requires.lane c.requires.fit c.requires.top v.quad in
+    (f.view).seen c.loop-last.total lawful c.requires.measures.exists c.requires.measures.reads.fit c.requires.top v.quad in
     let more = measured_few s l (c.loop-last.last + 1) c.args.range.1 c.measure_key-next.result.0
-    (f.view).seen c.measure_key-next.result.1 lawful c.requires.lane c.requires.fit c.requires.top
+    (f.view).seen c.measure_key-next.result.1 lawful c.requires.measures.exists c.requires.measures.reads.fit c.requires.top
     (subst (λ (es : List Entry). HasMeasured s l
     (c.loop-last.last + 1) c.args.range.1 es c.measure_key-next.result.1 c.measure_key-next.result.0) same c.measure_key-next.ensures.quad) in
     record { few = omega (arith, total, more, few, room) }
@@ -39,10 +36,9 @@ loop-last-preserved g c =
     let n = g.P.Pass.held c.measure_key-next.new.pass in
     record {
       path = c.measure_key-next.ensures.path;
-      walked = walked_then f m n v.walked c.measure_key-next.ensures.walked;
+      walked = did_then v.walked c.measure_key-next.ensures.walked;
       quad = measured_then s c.args.lane c.args.range.0 c.args.range.1 c.loop-last.last c.measure_key-next.result.0 (f.view).seen
           (m.view).seen c.loop-last.total c.measure_key-next.result.1 c.merge-total.result
-          (walked_seen f m v.walked) v.quad c.measure_key-next.ensures.quad c.merge-total.ensures.merged;
-      loads = let least = v.loads in let loads = c.measure_key-next.ensures.loads in omega (arith, least, loads);
+          (walked_seen f m v.walked.only) v.quad c.measure_key-next.ensures.quad c.merge-total.ensures.merged;
       steps = λ one. absurd (let a = v.quad.from in let b = v.quad.upto in let test = c.loop-last-test.true in omega (arith, one, a, b, test));
     }

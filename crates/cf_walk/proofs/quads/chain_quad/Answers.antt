@@ -1,4 +1,4 @@
-use Rattle.std.proofs.Common.{◌≡◌, ◌∙◌, ◌+◌, ◌-◌, ◌%◌, ◌<◌, ◌≤◌, ℕ, suc, List, slice_get, length, ap, sym, subst, arith, rules}
+use Rattle.std.proofs.Common.{◌≡◌, ◌∙◌, ◌+◌, ◌-◌, ◌%◌, ◌<◌, ◌≤◌, ℕ, suc, List, length, ap, sym, subst, arith, rules}
 use Rattle.cf_row.specs.declared.row.Entry.{Entry}
 use Rattle.cf_fold.specs.Quads.{quad_of}
 use Rattle.cf_walk.specs.Walks.{leaf_of, amounts_below}
@@ -6,7 +6,7 @@ use Rattle.cf_table.proofs.Mays.{may_walk}
 use Rattle.cf_table.proofs.Looks.{head_loads, cell_loads}
 use Rattle.cf_walk.proofs.Keys.{some_levels}
 use Rattle.cf_walk.proofs.Counted.{counting_begins, counting_new}
-use Rattle.cf_walk.proofs.Walked.{IsWalking, HasBegun, HasWalkedOn, begun, stepped_from, may_step, walked_then, walked_seen, above_long, picks_from}
+use Rattle.cf_walk.proofs.Walked.{IsWalking, HasBegun, HasWalkedOn, begun, stepped_from, may_step, did_then, measuring_then, walked_seen, above_long, picks_from}
 use Rattle.cf_walk.proofs.Versions.{no_amounts, same_amounts, entry_of, quad_steps}
 use Rattle.cf_walk.proofs.quads.chain_quad.Goals as goal
 use Rattle.cf_law.proofs.Shapes.{some_cell}
@@ -21,7 +21,7 @@ begin-link-requires g c κs within =
       (
         search rules,
         (
-          c.requires.of,
+          c.requires.measures.reads.of,
           (
             (above.within, c.requires.writer),
             may_walk s (g.P.Pass.held c.args.pass.now).view leaf.lane _ leaf.node (leaf.key % 16) c.args.writer above.knows
@@ -44,10 +44,9 @@ loop-link-init g c =
     begun s m n leaf.lane leaf.key leaf.node c.args.writer v (omega (arith, some.0)) c.requires.writer above c.begin-link.ensures.made in
     let count = c.begin-link.ensures.steps in
     record {
-      walked = b.walked;
+      walked = record { only = b.walked; loads = head_loads s m n _ _ _ _ v _ _ c.begin-link.ensures.made count };
       walking = b.walking;
       same = b.all;
-      loads = head_loads s m n _ _ _ _ v _ _ c.begin-link.ensures.made count;
       count = counting_begins s c.args.writer m n v 0 (c.args.steps.now + 1) _ b.met (omega (arith, count));
     }
 
@@ -75,7 +74,7 @@ loop-link-smaller g c =
     let some : 0 < c.loop-link.link = omega (arith, test) in
     let st = stepped_from s m n c.args.writer (leaf_of s leaf.lane leaf.key)
     (f.view).seen c.loop-link.link c.load_cell-first.result some c.shape-lawful.ensures.lawful c.requires.above.exists (some_cell s leaf.lane)
-    (walked_seen f m v.walked) v.walking c.load_cell-first.ensures.made in
+    (walked_seen f m v.walked.only) v.walking c.load_cell-first.ensures.made in
     let falls = st.falls in
     let next = c.link_in-link.ensures in
     omega (arith, some, falls, next)
@@ -100,14 +99,12 @@ loop-link-preserved g c =
     let past : length seen ≤ link - 1 = omega (arith, test, covered, wide) in
     let st : HasWalkedOn s m n w spot seen (link - 1) next = subst (λ (k : ℕ). HasWalkedOn s m n w spot seen (link - 1) k) (sym c.link_in-link.ensures)
     (stepped_from s m n w spot seen link c.load_cell-first.result some c.shape-lawful.ensures.lawful c.requires.above.exists (some_cell s leaf.lane)
-    (walked_seen f m v.walked) v.walking c.load_cell-first.ensures.made) in
+    (walked_seen f m v.walked.only) v.walking c.load_cell-first.ensures.made) in
     let more = c.load_cell-first.ensures.steps in
     record {
-      walked = walked_then f m n v.walked st.walked;
+      walked = did_then v.walked (record { only = st.walked; loads = cell_loads s m n _ _ _ c.load_cell-first.result _ _ c.load_cell-first.ensures.made more });
       walking = st.walking;
       same = sym (st.skips past) ∙ (sym (picks_from s w spot seen link some) ∙ v.same);
-      loads = let least = v.loads in let loads = cell_loads s m n _ _ _ c.load_cell-first.result _ _ c.load_cell-first.ensures.made more in
-          omega (arith, least, loads);
       count = counting_new s w f m n link next 0 0 (c.args.steps.now + 1) c.loop-link.steps _ v.count st.met st.apart some past v.walking.low st.falls
           (omega arith) more;
     }
@@ -134,14 +131,11 @@ read_quad-requires-clause-entry g c =
     let some = c.if-link-eq0.false in
     let covered = c.covered.ensures in
     let wide = c.from-covered.ensures in
-    entry_of s c.args.leaf.lane c.args.leaf.key c.args.writer c.loop-link.link (f.view).seen (m.view).seen m.view (walked_seen f m v.walked)
+    entry_of s c.args.leaf.lane c.args.leaf.key c.args.writer c.loop-link.link (f.view).seen (m.view).seen m.view (walked_seen f m v.walked.only)
     (omega (arith, some)) (omega (arith, past, covered, wide)) v.walking
 
-pub read_quad-requires-clause-fit : goal.read_quad-requires-clause-fit
-read_quad-requires-clause-fit g c o e at =
-    c.requires.fit o e
-    (ap (λ (es : List Entry). slice_get es o)
-    (sym (walked_seen (g.P.Pass.held c.args.pass.now) (g.P.Pass.held c.loop-link.pass) c.loop-link.invariant.walked)) ∙ at)
+pub read_quad-requires-clause-measures : goal.read_quad-requires-clause-measures
+read_quad-requires-clause-measures g c = measuring_then c.loop-link.invariant.walked.only c.requires.measures
 
 pub returns-clause-quad : goal.returns-clause-quad
 returns-clause-quad g c =
@@ -152,13 +146,12 @@ returns-clause-quad g c =
     let leaf = c.args.leaf in
     let some = c.if-link-eq0.false in
     c.read_quad.ensures.quad
-    ∙ (ap (λ (es : List Entry). quad_of (amounts_below s leaf.lane leaf.key es c.args.writer (c.loop-link.link - 1 + 1))) (walked_seen f m v.walked)
+    ∙ (ap (λ (es : List Entry). quad_of (amounts_below s leaf.lane leaf.key es c.args.writer (c.loop-link.link - 1 + 1))) (walked_seen f m v.walked.only)
     ∙ same_amounts s leaf.lane leaf.key c.args.writer c.loop-link.link (f.view).seen (omega (arith, some)) v.same)
 
 pub returns-clause-walked : goal.returns-clause-walked
 returns-clause-walked g c =
-    walked_then (g.P.Pass.held c.args.pass.now) (g.P.Pass.held c.loop-link.pass)
-    (g.P.Pass.held c.read_quad.new.pass) c.loop-link.invariant.walked c.read_quad.ensures.walked
+    did_then c.loop-link.invariant.walked c.read_quad.ensures.walked
 
 pub returns-clause-steps : goal.returns-clause-steps
 returns-clause-steps g c =

@@ -2,8 +2,7 @@ use Rattle.std.proofs.Common.{◌≡◌, ◌+◌, ◌-◌, length}
 use Rattle.cf_shape.specs.Nodes.{levels_of}
 use Rattle.cf_law.specs.Readers.{picks}
 use Rattle.cf_law.specs.Shapes.{layout}
-use Rattle.cf_table.specs.Loads.{CountsLoads}
-use Rattle.cf_walk.specs.Walks.{OnlyWalked, spot_above, leaf_of}
+use Rattle.cf_walk.specs.Walks.{HasWalked, spot_above, leaf_of}
 use Rattle.cf_walk.proofs.Counted.{IsCounting}
 use Rattle.cf_walk.proofs.Walked.{IsWalking}
 use Rattle.cf_walk.proofs.quads.chain_quad.Given as goal
@@ -13,14 +12,13 @@ ghost-begin g a = spot_above (a.log).now.shape (a.leaf).lane (a.leaf).key (level
 
 abbrev pub invariant-loop-link : goal.invariant-loop-link
 invariant-loop-link g l = record {
-  walked : OnlyWalked (g.P.Pass.held l.fn.pass) (g.P.Pass.held l.pass);
+  walked : HasWalked (g.P.Pass.held l.fn.pass) (g.P.Pass.held l.pass) l.fn.steps l.steps;
   walking : IsWalking (l.log).shape ((g.P.Pass.held l.fn.pass).view).seen l.writer (leaf_of (l.log).shape (l.leaf).lane (l.leaf).key) l.link
       (g.P.Pass.held l.pass).view;
   same : picks (layout (l.log).shape) l.writer (leaf_of (l.log).shape (l.leaf).lane (l.leaf).key) ((g.P.Pass.held l.fn.pass).view).seen l.link
       ≡ picks (layout (l.log).shape) l.writer (leaf_of (l.log).shape (l.leaf).lane (l.leaf).key) ((g.P.Pass.held l.fn.pass).view).seen
       (length ((g.P.Pass.held l.fn.pass).view).seen);
   count : IsCounting (l.log).shape l.writer (g.P.Pass.held l.fn.pass) (g.P.Pass.held l.pass) l.link 0 (l.fn.steps + 1) l.steps;
-  loads : CountsLoads (g.P.Pass.held l.fn.pass) (g.P.Pass.held l.pass) l.fn.steps l.steps;
 }
 
 abbrev pub decreases-loop-link : goal.decreases-loop-link

@@ -1,36 +1,28 @@
-use Rattle.std.proofs.Common.{◌≡◌, ◌∙◌, ◌+◌, ◌*◌, ℕ, List, slice_get, length, ap, sym, arith}
+use Rattle.std.proofs.Common.{◌≡◌, ◌∙◌, ◌+◌, ◌*◌, ℕ, List, length, ap, arith}
 use Rattle.cf_row.specs.declared.row.Entry.{Entry}
 use Rattle.cf_fold.specs.Quads.{QuadValue, quad_of}
 use Rattle.cf_shape.specs.Lanes.{ShapeValue}
 use Rattle.cf_walk.specs.Walks.{leaf_amounts}
 use Rattle.cf_walk.proofs.Counted.{all_begins, all_more, all_ends}
-use Rattle.cf_walk.proofs.Walked.{walked_none, walked_then, walked_seen, of_walked, above_then}
+use Rattle.cf_walk.proofs.Walked.{did_nothing, did_then, measuring_then, walked_seen, above_then}
 use Rattle.cf_walk.proofs.Versions.{amounts_start, amounts_next, amounts_few}
 use Rattle.cf_walk.proofs.quads.leaf_quad.Goals as goal
 
 pub loop-writer-init : goal.loop-writer-init
 loop-writer-init g c = record {
-  walked = walked_none (g.P.Pass.held c.args.pass.now);
+  walked = did_nothing (g.P.Pass.held c.args.pass.now) _;
   quad = amounts_start c.args.log.now.shape c.args.leaf.lane c.args.leaf.key ((g.P.Pass.held c.args.pass.now).view).seen;
   few = omega arith;
-  loads = omega arith;
   count = all_begins c.args.log.now.shape (g.P.Pass.held c.args.pass.now) (length ((g.P.Pass.held c.args.pass.now).view).seen) c.args.steps.now 0;
 }
 
-pub chain_quad-quad-requires-clause-of : goal.chain_quad-quad-requires-clause-of
-chain_quad-quad-requires-clause-of g c =
-    of_walked c.args.log.now (g.P.Pass.held c.args.pass.now) (g.P.Pass.held c.loop-writer.pass) c.loop-writer.invariant.walked c.requires.of
+pub chain_quad-quad-requires-clause-measures : goal.chain_quad-quad-requires-clause-measures
+chain_quad-quad-requires-clause-measures g c = measuring_then c.loop-writer.invariant.walked.only c.requires.measures
 
 pub chain_quad-quad-requires-clause-above : goal.chain_quad-quad-requires-clause-above
 chain_quad-quad-requires-clause-above g c =
     above_then c.args.log.now.shape c.args.leaf.lane c.args.leaf.key c.args.leaf.node (g.P.Pass.held c.args.pass.now)
-    (g.P.Pass.held c.loop-writer.pass) c.loop-writer.invariant.walked c.requires.above
-
-pub chain_quad-quad-requires-clause-fit : goal.chain_quad-quad-requires-clause-fit
-chain_quad-quad-requires-clause-fit g c o e at =
-    c.requires.fit o e
-    (ap (λ (es : List Entry). slice_get es o)
-    (sym (walked_seen (g.P.Pass.held c.args.pass.now) (g.P.Pass.held c.loop-writer.pass) c.loop-writer.invariant.walked)) ∙ at)
+    (g.P.Pass.held c.loop-writer.pass) c.loop-writer.invariant.walked.only c.requires.above
 
 pub merge-total-requires : goal.merge-total-requires
 merge-total-requires g c =
@@ -43,10 +35,10 @@ merge-total-requires g c =
     let hands = lawful.writers in
     let all : c.writers-writer-end.result ≡ s.writers = c.writers-writer-end.ensures.writers ∙ ap (λ (x : ShapeValue). x.writers) c.shape.ensures.shape in
     let test = c.loop-writer-test.true in
-    let far = ap (λ (es : List Entry). length es) (walked_seen f m v.walked) in
+    let far = ap (λ (es : List Entry). length es) (walked_seen f m v.walked.only) in
     let mine = ap (λ (q : QuadValue). q.count) c.chain_quad-quad.ensures.quad in
     let most = amounts_few s c.args.leaf.lane c.args.leaf.key c.loop-writer.writer (length (m.view).seen) (m.view).seen in
-    let few = c.requires.few in
+    let few = c.requires.measures.reads.few in
     let before = v.few in
     record { few = omega (arith, mine, most, far, few, room, hands, all, test, before) }
 
@@ -59,20 +51,19 @@ loop-writer-preserved g c =
     let f = g.P.Pass.held c.args.pass.now in
     let m = g.P.Pass.held c.loop-writer.pass in
     let n = g.P.Pass.held c.chain_quad-quad.new.pass in
-    let same = walked_seen f m v.walked in
+    let same = walked_seen f m v.walked.only in
     let room = c.shape.ensures.lawful.capacity in
     let far = ap (λ (es : List Entry). length es) same in
     let mine = ap (λ (q : QuadValue). q.count) c.chain_quad-quad.ensures.quad in
     let most = amounts_few s leaf.lane leaf.key w (length (m.view).seen) (m.view).seen in
-    let few = c.requires.few in
+    let few = c.requires.measures.reads.few in
     let before = v.few in
     let sum = c.merge-total.ensures.count in
     record {
-      walked = walked_then f m n v.walked c.chain_quad-quad.ensures.walked;
+      walked = did_then v.walked c.chain_quad-quad.ensures.walked;
       quad = amounts_next s leaf.lane leaf.key w (w + 1) (f.view).seen (m.view).seen c.loop-writer.total c.chain_quad-quad.result c.merge-total.result
           (omega arith) same v.quad c.chain_quad-quad.ensures.quad c.merge-total.ensures.merged;
       few = omega (arith, mine, most, far, few, room, before, sum);
-      loads = let least = v.loads in let loads = c.chain_quad-quad.ensures.loads in omega (arith, least, loads);
       count = all_more s m n (length (f.view).seen) w (w + 1) c.args.steps.now (3 * w) 3 (3 * (w + 1)) c.loop-writer.steps _ far (omega arith)
           (omega arith) v.count c.chain_quad-quad.ensures.steps;
     }

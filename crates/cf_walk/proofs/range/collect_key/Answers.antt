@@ -9,7 +9,7 @@ pub returns-in_ok-collect_leaf-in-Leaf-clause-found : goal.returns-in_ok-collect
 returns-in_ok-collect_leaf-in-Leaf-clause-found g c =
     let s = c.args.log.now.shape in
     let seen = ((g.P.Pass.held c.args.pass.now).view).seen in
-    let same = walked_seen (g.P.Pass.held c.args.pass.now) (g.P.Pass.held c.reach.new.pass) c.reach.ensures.walked in
+    let same = walked_seen (g.P.Pass.held c.args.pass.now) (g.P.Pass.held c.reach.new.pass) c.reach.ensures.walked.only in
     leaf_over s c.args.keys.lane c.args.keys.low c.args.keys.high seen c.args.found.now.items (c.collect_leaf.new.found).items c.requires.range
     (c.in_ok-collect_leaf-in-Leaf.ensures.found
     ∙ ap (λ (es : List Entry). c.args.found.now.items ++ leaf_places s c.args.keys.lane c.args.keys.low es s.writers) same)

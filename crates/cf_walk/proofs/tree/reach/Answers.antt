@@ -4,7 +4,7 @@ use Rattle.cf_shape.specs.Nodes.{levels_of}
 use Rattle.cf_law.specs.Steps.{Knows}
 use Rattle.cf_walk.specs.Walks.{spot_above}
 use Rattle.cf_walk.proofs.Keys.{some_levels}
-use Rattle.cf_walk.proofs.Walked.{walked_none, walked_then, walked_seen}
+use Rattle.cf_walk.proofs.Walked.{did_nothing, did_then, walked_seen}
 use Rattle.cf_walk.proofs.Turns.{turn_next, turn_knows, gap_from_none}
 use Rattle.cf_walk.specs.Reached.{IsPath}
 use Rattle.cf_walk.specs.declared.tree.Path.{Path}
@@ -19,7 +19,7 @@ go_down-child-requires-clause-turn g c =
     ∙ ap (λ (x : ShapeValue). levels_of x c.args.lane) c.shape.ensures.shape in
     let test = c.loop-level-test.true in
     let low = c.loop-level.auto.level in
-    turn_next s c.args.lane c.args.key c.loop-level.level c.loop-level.node c.span_of-span.result (g.P.Pass.held c.loop-level.pass).view c.requires.lane
+    turn_next s c.args.lane c.args.key c.loop-level.level c.loop-level.node c.span_of-span.result (g.P.Pass.held c.loop-level.pass).view c.requires.lane.exists
     (omega (arith, low)) (omega (arith, test, all))
     (c.span_of-span.ensures.span ∙ ap (λ (n : ℕ). 16 ^ (n - c.loop-level.level)) all) v.within v.knows
 
@@ -34,7 +34,7 @@ returns-then-child-eq0-clause-reached g c =
       c.span_of-span.ensures.some,
       gap_from_none s m.view c.args.lane c.args.key c.loop-level.level (levels_of s c.args.lane - c.loop-level.level) c.span_of-span.result
           ((g.P.Pass.held c.args.pass.now).view).seen (omega (arith, test, all)) (omega (arith, test, all))
-          (c.span_of-span.ensures.span ∙ ap (λ (n : ℕ). 16 ^ (n - c.loop-level.level)) all) (walked_seen (g.P.Pass.held c.args.pass.now) m v.walked)
+          (c.span_of-span.ensures.span ∙ ap (λ (n : ℕ). 16 ^ (n - c.loop-level.level)) all) (walked_seen (g.P.Pass.held c.args.pass.now) m v.walked.only)
           (c.go_down-child.ensures.turned.none c.if-child-eq0.true),
     )
 
@@ -53,11 +53,10 @@ loop-level-init g c =
       path = is;
       key = refl;
       depth = refl;
-      walked = walked_none m;
+      walked = did_nothing m _;
       within = λ more. path_within s c.args.lane (d + 1) p m.view is refl more;
       knows = λ more. path_knows s c.args.lane (d + 1) c.args.key p m.view is refl refl more;
       steps = omega arith;
-      loads = omega arith;
     }
 
 pub loop-level-preserved : goal.loop-level-preserved
@@ -76,20 +75,19 @@ loop-level-preserved g c =
       path = path_longer s c.args.lane c.loop-level.level (c.go_down-child.result - 1) c.loop-level.path _ (g.P.Pass.held c.go_down-child.new.pass).view
           (path_then s c.args.lane c.loop-level.path (g.P.Pass.held c.loop-level.pass)
           (g.P.Pass.held c.go_down-child.new.pass) turned.walked v.path) refl refl refl (sym v.depth) (omega (arith, test, all))
-          (some_levels s c.args.lane c.shape.ensures.lawful c.requires.lane).1
+          (some_levels s c.args.lane c.shape.ensures.lawful c.requires.lane.exists).1
           (turned.within (omega (arith, some)))
           (path_node s c.args.lane c.args.key c.loop-level.path.key c.loop-level.level (c.go_down-child.result - 1) c.span_of-span.result
           (g.P.Pass.held c.go_down-child.new.pass).view v.key
           (c.span_of-span.ensures.span ∙ ap (λ (n : ℕ). 16 ^ (n - c.loop-level.level)) all) (turned.knows (omega (arith, some))));
       key = v.key;
       depth = refl;
-      walked = walked_then (g.P.Pass.held c.args.pass.now) (g.P.Pass.held c.loop-level.pass) (g.P.Pass.held c.go_down-child.new.pass) v.walked turned.walked;
+      walked = did_then v.walked (record { only = turned.walked; loads = c.go_down-child.ensures.loads });
       within = λ lt. turned.within (omega (arith, some));
       knows = λ lt. turn_knows s c.args.lane c.args.key c.loop-level.level (c.loop-level.level + 1) (c.go_down-child.result - 1) c.span_of-span.result
           (g.P.Pass.held c.go_down-child.new.pass).view (omega arith)
           (c.span_of-span.ensures.span ∙ ap (λ (n : ℕ). 16 ^ (n - c.loop-level.level)) all) (turned.knows (omega (arith, some)));
       steps = omega (arith, before, more, low);
-      loads = let least = v.loads in let loads = c.go_down-child.ensures.loads in omega (arith, least, loads);
     }
 
 pub returns-clause-reached : goal.returns-clause-reached
@@ -100,11 +98,11 @@ returns-clause-reached g c =
     ∙ ap (λ (x : ShapeValue). levels_of x c.args.lane) c.shape.ensures.shape in
     let past = c.loop-level-test.false in
     let far = c.loop-level.auto in
-    let some = (some_levels s c.args.lane c.shape.ensures.lawful c.requires.lane).0 in
+    let some = (some_levels s c.args.lane c.shape.ensures.lawful c.requires.lane.exists).0 in
     let more : 1 < c.loop-level.level = omega (arith, past, all, some) in
     let end' : c.loop-level.level ≡ levels_of s c.args.lane = omega (arith, past, all, far) in
     record {
-      exists = c.requires.lane;
+      exists = c.requires.lane.exists;
       within = v.within more;
       knows = subst (λ (n : ℕ). Knows (g.P.Pass.held c.loop-level.pass).view (spot_above s c.args.lane c.args.key (n - 1)) c.loop-level.node) end'
           (v.knows more);

@@ -25,5 +25,5 @@ returns-clause-number g c =
     let capacity = c.capacity.ensures.capacity ∙ ap (λ (x : ShapeValue). x.capacity) c.shape.ensures.shape in
     let place = c.min-place.ensures ∙ ap (λ (k : ℕ). min c.args.offset (k - 1)) capacity in
     (number_read s (g.P.Pass.held c.args.pass.now) (g.P.Pass.held c.load_word.new.pass) c.args.offset c.min-place.result c.args.attr
-    (get_or c.self.inside.places c.args.attr 0) c.load_word.result c.shape.ensures.lawful place c.requires.covered number there.0
+    (get_or c.self.inside.places c.args.attr 0) c.load_word.result c.shape.ensures.lawful place c.requires.covered.within number there.0
     (omega (arith, low)) c.load_word.ensures.made).number

@@ -4,18 +4,18 @@ use Rattle.cf_shape.specs.Lanes.{ShapeValue}
 use Rattle.cf_plain.specs.Asks.{rows_in}
 use Rattle.cf_plain.specs.Segments.{finding_in}
 use Rattle.cf_query.specs.Stretches.{IsStretch, stretch}
-use Rattle.cf_table.specs.Moves.{AreFit}
+use Rattle.cf_table.specs.Moves.{IsReading}
 use Rattle.cf_table.specs.Values.{LogValue, PassValue}
 use Rattle.cf_scan.proofs.Joining.{found_ok, log_at, place_low}
 use Rattle.cf_scan.proofs.parts.Part.scan_counted.Goals as goal
 
-pub finding_stretch-found-requires-clause-fit : goal.finding_stretch-found-requires-clause-fit
-finding_stretch-found-requires-clause-fit g c =
+pub finding_stretch-found-requires-clause-reads : goal.finding_stretch-found-requires-clause-reads
+finding_stretch-found-requires-clause-reads g c =
     let part = c.requires.part in
     let place = c.args.self.now.place in
     let one = c.index-logs-self.result in
     let same = log_at c.args.logs.now place one part.log part.at (place_low c.args.logs.now place part.log part.at) c.index-logs-self.is in
-    subst (λ (log : LogValue). AreFit log.shape (c.args.self.now.reader).view) (sym same) part.reads.fit
+    subst (λ (log : LogValue). IsReading log c.args.self.now.reader) (sym same) part.reads
 
 pub returns : goal.returns
 returns g c =
@@ -26,7 +26,7 @@ returns g c =
     let one = c.index-logs-self.result in
     let same = log_at c.args.logs.now self.place one part.log part.at (place_low c.args.logs.now self.place part.log part.at) c.index-logs-self.is in
     let shape_is : (one.now).shape ≡ shape = ap (λ (log : LogValue). log.shape) same ∙ part.shape_is in
-    let seen = ap (λ (h : PassValue). (h.view).seen) c.finding_stretch-found.ensures.looked in
+    let seen = ap (λ (h : PassValue). (h.view).seen) c.finding_stretch-found.ensures.looked.only in
     record {
       scanned = record {
         is = record {
