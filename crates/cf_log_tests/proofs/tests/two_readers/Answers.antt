@@ -6,13 +6,13 @@ use Rattle.cf_table.specs.Moves.{AreAll}
 use Rattle.cf_log_tests.proofs.Writers.{forked_first, appended, all_one, home_same}
 use Rattle.cf_log_tests.proofs.tests.two_readers.Goals as goal
 
-pub append-requires-clause-may : goal.append-requires-clause-may
-append-requires-clause-may g c =
+pub append-requires : goal.append-requires
+append-requires g c =
     let o = c.in_ok-log.ensures in
     let ready = forked_first c.in_ok-shape.shape c.in_ok-log.log c.in_ok-log.root c.fork-first.new.root c.fork-second.new.root c.deal.new.root
     c.first_of-writer.result c.in_ok-deal.field-0.items c.first_of-writer.ensures.0 o.shape o.root c.fork-first.ensures.root c.fork-second.ensures.root
     c.in_ok-deal.ensures.dealt c.first_of-writer.ensures.1 in
-    record { of = ready.of; fits = search rules; rest = ready.rest }
+    record { may = record { of = ready.of; fits = search rules; rest = ready.rest } }
 
 pub gather-requires-clause-all : goal.gather-requires-clause-all
 gather-requires-clause-all g c =
