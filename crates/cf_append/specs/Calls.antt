@@ -21,7 +21,7 @@ pub record OnlyReads (log : LogValue) (before after : PassValue) (steps later : 
   pub books : (after.view).books ≡ (before.view).books
   pub loads : CountsLoads before after steps later
 
--- The same, and it is at rest and may have used nodes, each for a spot that is On. An answer has that meaning by the pass. There is none
+-- As `HasKept`, and it is at rest and may have used nodes, each for a spot that is On. An answer has that meaning by the pass. There is none
 -- only if one of these spots lacks a node; then what was seen of the pass's own entries are the first of them.
 pub record HasMadeNodes {T : Type 0} (log : LogValue) (On : Spot → Type 0) (Means : Pass → T → Type 0) (before after : PassValue) (steps later : ℕ)
     (result : Option T) : Type 0 where
