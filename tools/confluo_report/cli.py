@@ -45,7 +45,7 @@ from .stream import OWN_TROUBLE, STATUSES, stream
 from .tables import style_for
 from .tcpdump import Notes
 from .textfile import Textfile, unread
-from .unparsed import notice
+from .unparsed import notice, notice_without
 from .version import version
 from .watchdog import watchdog_of
 
@@ -121,8 +121,10 @@ def _show(words: Words) -> int:
     viewer = Viewer(setup, details.lines, style, words.most, addresses, flows)
     if isinstance(read, Merged):
         lines = merged_shown(viewer, read)
+        lines[1:1] = notice_without(setup)
     elif isinstance(read, Snapshot):
         lines = snapshot_lines(viewer, read)
+        lines[1:1] = notice_without(setup)
     else:
         lines = report_lines(viewer, read)
         lines[1:1] = notice(read, setup, details.all)
@@ -263,7 +265,8 @@ def _over(words: Words) -> int:
     assert setup
     if words.jobs == 0:
         raise Complaint("--jobs is at least 1")
-    plan, found = plan_of(read_bytes(words.setup)), find(words.captures, setup.is_packet)
+    plan = plan_of(read_bytes(words.setup), words.format == "show")
+    found = find(words.captures, setup.is_packet)
     if found.others:
         print(f"confluo-report: {found.others} other files of the folders are not captures", file=sys.stderr)
     way = Way(words.jobs, words.scheduler, words.keep_going, words.truncated, words.split)

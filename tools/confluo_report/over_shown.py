@@ -14,6 +14,7 @@ from .over import Over
 from .reports import Ask, Found, lines_of
 from .setups import Setup
 from .show import Viewer, alert_lines, ask_lines, body_lines, count_text, heading
+from .unparsed import notice_without
 from .tables import style_for
 from .values import grouped
 
@@ -27,6 +28,7 @@ def _tables(answered: Over, setup: Setup, most: int) -> str:
     lines += [f"left out: {it.text()}" for it in answered.left_out]
     for it in answered.captures:
         if it.truncated is not None:
+    lines += notice_without(setup, answered.unparsed)
             lines.append(f"{it.name} is cut off after {grouped(it.truncated)}: what came then is missing")
     for ask in answered.report.asks:
         lines += (
