@@ -4,7 +4,6 @@ from __future__ import annotations
 
 import argparse
 import contextlib
-import errno
 import os
 import pathlib
 import sys
@@ -33,6 +32,7 @@ from .over_find import find
 from .over_setup import plan_of
 from .over_shown import FORMS
 from .packets import copy_packets
+from .places import NO_ROOM
 from .plot import drawing_of, plot
 from .questions import write_setup
 from .report_addresses import addresses_of, flows_of
@@ -718,7 +718,7 @@ def main(arguments: Sequence[str] | None = None) -> int:
         _drop_output()
         return 0
     except OSError as error:
-        no_room = error.errno in (errno.ENOSPC, errno.EDQUOT, errno.EFBIG)
+        no_room = error.errno in NO_ROOM
         _trouble(f"{error.filename or ('standard output' if no_room else 'input')}: {error.strerror}")
         if no_room:
             _drop_output()
