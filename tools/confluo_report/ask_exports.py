@@ -82,8 +82,9 @@ def _rows(answer: dict[str, Any]) -> Iterator[tuple[object, ...]]:
     """The rows of an answer, without its question: capture, place, key, value and percent."""
     for place, it in enumerate(answer.get("keys", ()), 1):
         yield "", place, it["text"], it["value"], it.get("percent", "")
-        if "answers" in it:
-            yield "", place, f"answers of {it['text']}", it["answers"], ""
+        for name in ("answers", "resets"):
+            if name in it:
+                yield "", place, f"{name} of {it['text']}", it[name], ""
     for place, it in enumerate(answer.get("marks", ()), 1):
         yield "", place, it["time"], it["value"], ""
     for part in answer.get("parts", ()):
