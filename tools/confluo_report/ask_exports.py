@@ -4,12 +4,11 @@ from __future__ import annotations
 
 import csv
 import io
-import json
 from typing import Any, Iterator, Sequence
 
 from .ask import Answered, Job, fired_in, in_order, joined_marks, meant_buckets, ranking
 from .doubled import doubled_object
-from .exports import FORMAT, body_object
+from .exports import FORMAT, body_object, json_line
 from .merge import Joined
 from .paired import paired_object
 from .questions import Query
@@ -75,7 +74,7 @@ def answers_object(job: Job, answered: Sequence[Answered]) -> dict[str, Any]:
 
 
 def answers_json(job: Job, answered: Sequence[Answered]) -> str:
-    return json.dumps(answers_object(job, answered)) + "\n"
+    return json_line(answers_object(job, answered))
 
 
 def _rows(answer: dict[str, Any]) -> Iterator[tuple[object, ...]]:
