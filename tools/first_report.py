@@ -4,9 +4,10 @@
     tools/first_report.py [SETUP CAPTURE]
 
 Without names it asks the example, shows what the report should look like and says whether it did. `make try SETUP=.. CAPTURE=..`
-calls it. `rt try` builds the program without proofs and with checks as it runs, which takes some minutes at every call, and keeps
-nothing. It ends with 0 if there is a report, for the example the expected one, else with confluo's own status, or with 1 if
-nothing ran. Needs the kit, and of Python the standard library only.
+calls it; a setup of one's own is checked before, and the report is shown as tables too. `rt try` builds the program without proofs
+and with checks as it runs, which takes some minutes at every call, and keeps nothing. It ends with 0 if there is a report, for the
+example the expected one, else with confluo's own status, with 1 if nothing ran, or with 2 if the setup is not valid. Needs the kit,
+and of Python the standard library only.
 """
 
 import pathlib
@@ -82,11 +83,13 @@ def read_all(file):
     return file.read().decode("utf-8", "replace")
 
 
-def explain(status, report, setup, capture):
-    """What confluo-report says of a refusal."""
-    words = [sys.executable, ROOT / "tools" / "confluo-report", "explain", "--status", str(status)]
-    words += ["--setup", setup, "--capture", capture]
-    subprocess.run(words, input="".join(f"{it}\n" for it in report), text=True)
+def tool(*words, report=()):
+    """Runs confluo-report with the words, and the report as standard input; its status."""
+    sys.stdout.flush()
+    text = "".join(f"{it}\n" for it in report)
+    return subprocess.run(
+        [sys.executable, ROOT / "tools" / "confluo-report", *words], input=text, text=True
+    ).returncode
 
 
 def main(words):
@@ -96,6 +99,9 @@ def main(words):
     for it in (setup, capture):
         if not it.is_file():
             sys.exit(f"There is no file {it}.")
+    if words and tool("check", "--capture", capture, setup):
+        print("Nothing was built: the setup is not valid.")
+        return 2
     name = capture if words else capture.relative_to(ROOT)
     print(f"This builds confluo without its proofs and asks it about {name}.")
     print("It takes 1 to 4 minutes, prints the report at the end, and leaves nothing behind.")
@@ -115,12 +121,14 @@ def main(words):
         return 1
     print("confluo prints:")
     print(shown(report), end="")
-    sys.stdout.flush()
     if status:
-        explain(status, report, setup, capture)
+        tool("explain", "--status", str(status), "--setup", setup, "--capture", capture, report=report)
         print(f"confluo refused (status {status}), for the reason above.")
         return status
-    if not words and not check_documents.agrees(expected, report):
+    if words:
+        print("As tables, which `confluo-report show` makes of it:")
+        tool("show", "--setup", setup, report=report)
+    elif not check_documents.agrees(expected, report):
         print("WRONG: this is another report than the expected one.")
         return 1
     print(f"OK: {'the report is as expected' if not words else 'this is the report'}. {PROOF}")

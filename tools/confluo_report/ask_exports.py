@@ -4,12 +4,11 @@ from __future__ import annotations
 
 import csv
 import io
-import json
 from typing import Any, Iterator, Sequence
 
 from .ask import Answered, Job, fired_in, in_order, joined_marks, meant_buckets, ranking
 from .doubled import doubled_object
-from .exports import FORMAT, body_object
+from .exports import FORMAT, body_object, json_line
 from .merge import Joined
 from .paired import paired_object
 from .questions import Query
@@ -75,15 +74,16 @@ def answers_object(job: Job, answered: Sequence[Answered]) -> dict[str, Any]:
 
 
 def answers_json(job: Job, answered: Sequence[Answered]) -> str:
-    return json.dumps(answers_object(job, answered)) + "\n"
+    return json_line(answers_object(job, answered))
 
 
 def _rows(answer: dict[str, Any]) -> Iterator[tuple[object, ...]]:
     """The rows of an answer, without its question: capture, place, key, value and percent."""
     for place, it in enumerate(answer.get("keys", ()), 1):
         yield "", place, it["text"], it["value"], it.get("percent", "")
-        if "answers" in it:
-            yield "", place, f"answers of {it['text']}", it["answers"], ""
+        for name in ("answers", "resets"):
+            if name in it:
+                yield "", place, f"{name} of {it['text']}", it[name], ""
     for place, it in enumerate(answer.get("marks", ()), 1):
         yield "", place, it["time"], it["value"], ""
     for part in answer.get("parts", ()):

@@ -4,7 +4,6 @@ from __future__ import annotations
 
 import argparse
 import contextlib
-import errno
 import os
 import pathlib
 import sys
@@ -33,6 +32,7 @@ from .over_find import find
 from .over_setup import plan_of
 from .over_shown import FORMS
 from .packets import copy_packets
+from .places import NO_ROOM
 from .plot import drawing_of, plot
 from .questions import write_setup
 from .report_addresses import addresses_of, flows_of
@@ -45,7 +45,7 @@ from .stream import OWN_TROUBLE, STATUSES, stream
 from .tables import style_for
 from .tcpdump import Notes
 from .textfile import Textfile, unread
-from .unparsed import notice
+from .unparsed import notice, notice_without
 from .version import version
 from .watchdog import watchdog_of
 
@@ -121,8 +121,10 @@ def _show(words: Words) -> int:
     viewer = Viewer(setup, details.lines, style, words.most, addresses, flows)
     if isinstance(read, Merged):
         lines = merged_shown(viewer, read)
+        lines[1:1] = notice_without(setup)
     elif isinstance(read, Snapshot):
         lines = snapshot_lines(viewer, read)
+        lines[1:1] = notice_without(setup)
     else:
         lines = report_lines(viewer, read)
         lines[1:1] = notice(read, setup, details.all)
@@ -263,7 +265,8 @@ def _over(words: Words) -> int:
     assert setup
     if words.jobs == 0:
         raise Complaint("--jobs is at least 1")
-    plan, found = plan_of(read_bytes(words.setup)), find(words.captures, setup.is_packet)
+    plan = plan_of(read_bytes(words.setup), words.format == "show")
+    found = find(words.captures, setup.is_packet)
     if found.others:
         print(f"confluo-report: {found.others} other files of the folders are not captures", file=sys.stderr)
     way = Way(words.jobs, words.scheduler, words.keep_going, words.truncated, words.split)
@@ -715,7 +718,7 @@ def main(arguments: Sequence[str] | None = None) -> int:
         _drop_output()
         return 0
     except OSError as error:
-        no_room = error.errno in (errno.ENOSPC, errno.EDQUOT, errno.EFBIG)
+        no_room = error.errno in NO_ROOM
         _trouble(f"{error.filename or ('standard output' if no_room else 'input')}: {error.strerror}")
         if no_room:
             _drop_output()

@@ -5,6 +5,7 @@ from __future__ import annotations
 import csv
 import io
 import json
+import re
 from typing import Any, Iterator, Mapping, Optional, Sequence
 
 from .addresses import Ranked
@@ -36,7 +37,15 @@ Addresses = Mapping[str, Ranked]
 # Conversations whose endpoints are known.
 Flows = Optional[Mapping[int, str]]
 QUAD_PARTS = ("count", "sum", "least", "greatest")
+# In JSON an escaped backslash, two halves that are one character, and a half alone: a byte of a name that is not UTF-8.
+ESCAPES = re.compile(r"\\\\|\\ud[89ab]..\\ud[c-f]..|(\\ud[89a-f]..)")
 COLUMNS = ("part", "host", "name", "kind", "prefix", "place", "key", "value")
+
+
+def json_line(found: Any, indent: int | None = None) -> str:
+    """The text of it. What is no character is U+FFFD, which every reader takes."""
+    text = json.dumps(found, indent=indent)
+    return ESCAPES.sub(lambda it: r"\ufffd" if it.group(1) else it.group(), text) + "\n"
 
 
 def _time(setup: Setup | None, bucket: int) -> dict[str, Any]:
@@ -218,7 +227,7 @@ def json_text(
     flows: Flows = None,
 ) -> str:
     """The report as one JSON text."""
-    return json.dumps(report_object(read, setup, addresses, flows), indent=indent) + "\n"
+    return json_line(report_object(read, setup, addresses, flows), indent)
 
 
 Cell = object

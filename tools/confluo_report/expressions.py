@@ -119,15 +119,20 @@ MORE = tuple(
 )
 
 
-def unknown_attribute(schema: Sequence[Attribute], name: str, remedy: str = "") -> str:
-    """That no attribute has the name, and what may have been meant. The remedy is for an attribute of `packet6`."""
+def unknown_attribute(
+    schema: Sequence[Attribute], name: str, remedy: str = "", others: Sequence[str] = ()
+) -> str:
+    """That no attribute has the name, and what may have been meant: one, or one of the other words that may be there.
+
+    The remedy is for an attribute of `packet6`.
+    """
     names = [it.name for it in schema]
     if name in (*HALVES, *(it.name for it in MORE)) and Attribute("etype", "u16") in schema:
         why = f"`{name}` is an attribute that only `schema packet6` has"
         if name in HALVES:
             why = f"`{name}` is an attribute of IPv6, which only `schema packet6` has"
         return f"{why}: {remedy}" if remedy else why
-    near = difflib.get_close_matches(name, names, 1, 0.6)
+    near = difflib.get_close_matches(name, [*names, *others], 1, 0.6)
     meant = f"; is `{near[0]}` meant?" if near else ""
     return f"no attribute is called `{name}`{meant}; there are {', '.join(names)}"
 

@@ -12,6 +12,7 @@ from typing import Callable, Iterable
 
 from .errors import Complaint
 from .merge import Merged
+from .places import cannot_be_written, replaced_at
 from .reports import (
     Body,
     Fired,
@@ -296,15 +297,22 @@ def labels_of(texts: Iterable[str]) -> dict[str, str]:
 
 
 def write_at_once(path: str, text: str, is_synced: bool = True) -> None:
-    """The file has the whole text or is as before: a new file takes its place in one step.
+    """The file has the whole text or is as before: a new file takes its place in one step. A device or pipe is written to.
 
     If it is not synced, this does not wait for the disk, and a crash of the machine may leave it empty.
     """
-    place = pathlib.Path(path)
+    place = replaced_at(path)
+    if place is None:
+        try:
+            with open(path, "w", encoding="utf-8") as file:
+                file.write(text)
+        except OSError as error:
+            raise cannot_be_written(path, error) from error
+        return
     try:
         handle, name = tempfile.mkstemp(prefix=f".{place.name}.", suffix=".new", dir=place.parent)
     except OSError as error:
-        raise Complaint(f"{path} cannot be written: {error.strerror}") from error
+        raise cannot_be_written(path, error) from error
     try:
         with os.fdopen(handle, "w", encoding="utf-8") as file:
             file.write(text)

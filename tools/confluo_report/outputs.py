@@ -228,7 +228,7 @@ class TextOutput(Output):
         self.writer.flush(self.stopper)
 
     def close(self) -> None:
-        # What came before a stop, or before a line that is none of `watch`.
+        # What came before a stop, or before a line that is not one of `watch`.
         with contextlib.suppress(OSError):
             self.writer.flush(self.stopper)
 

@@ -17,11 +17,12 @@ from .nodes import FIRST_NODES, MOST_CAPACITY, MOST_RECORDS, Sizes, long_options
 from .over_dask import by_scheduler
 from .over_part import Ended, Piece, Work
 from .over_pool import by_processes, processors
-from .over_setup import Key, Plan, Sum, report_of, sum_of
+from .over_setup import Key, Plan, Sum, report_of, sum_of, unparsed_of
 from .over_split import EACH, Cut, guesses_of, size_of, walked, whole
 from .program import find_program, program
 from .progress import Parts
 from .reports import Refusal, Report, refusal_of
+from .unparsed import Unparsed
 
 # The status of a run over a capture that breaks a rule.
 BROKEN = 3
@@ -55,11 +56,15 @@ class LeftOut:
 
 @dataclass(frozen=True)
 class Over:
-    """The report over all captures, whose records are numbered through all of them, and the captures."""
+    """The report over all captures, whose records are numbered through all of them, and the captures.
+
+    `unparsed` are the packets that `schema packet` does not parse, if they were counted.
+    """
 
     report: Report
     captures: tuple[Counted, ...]
     left_out: tuple[LeftOut, ...]
+    unparsed: Unparsed | None = None
 
     def by_capture(self, rows: Sequence[int]) -> list[tuple[str, list[int]]]:
         """The captures of records that are given by ascending numbers, each with its own numbers of them."""
@@ -279,7 +284,7 @@ def over(plan: Plan, captures: Sequence[str], way: Way) -> Over:
     report = replace(
         report_of(plan, gathering.total), truncated=counted[0].truncated if len(counted) == 1 else None
     )
-    return Over(report, counted, left_out)
+    return Over(report, counted, left_out, unparsed_of(plan, gathering.total))
 
 
 @dataclass(frozen=True)

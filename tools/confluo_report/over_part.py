@@ -1,6 +1,6 @@
 """Runs confluo over one capture, with more tree nodes if it asks for them.
 
-A worker of Dask is handed this module by value, so it needs the standard library alone, and what goes in
+A worker of Dask is handed this module by value, so it needs only the standard library, and what goes in
 and comes out is plain.
 """
 

@@ -1,7 +1,7 @@
 """The setup that each part of a question over many captures runs, and how its reports are added up.
 
-A trigger's threshold is for the sum, so a part tells the value of every bucket, or of every bucket and key. In place of a tally's
-first keys a part tells all its groups.
+A trigger's threshold is for the sum, so a part reports the value of every bucket, or of every bucket and key. In place of a tally's
+first keys a part reports all its groups.
 """
 
 from __future__ import annotations
@@ -13,6 +13,7 @@ from typing import Callable, Iterator, Mapping, Tuple, TypeVar
 
 from .matching import must_match
 from .merge import joined_group, joined_quad
+from .questions import UNPARSED
 from .reports import (
     Alert,
     Ask,
@@ -28,7 +29,8 @@ from .reports import (
     Top,
     parse_report,
 )
-from .setups import Question, Setup, Trigger, parse_setup
+from .setups import Question, Setup, SetupFault, Trigger, parse_setup
+from .unparsed import Unparsed
 
 FINDING = ("list", "find", "between")
 # A capture's place, and that of a piece in it.
@@ -54,23 +56,52 @@ HOLDS: Mapping[str, Callable[[int, int], bool]] = {
 
 @dataclass(frozen=True)
 class Plan:
-    """A setup, the one that each part runs, and by the names of triggers those that tell their values in a part."""
+    """A setup, the one that each part runs, and by the names of triggers those that report their values in a part.
+
+    `counting` are the names of a part's own questions for packets that are not parsed, if there are any.
+    """
 
     setup: Setup
     text: bytes
     part: Setup
     told_by: Mapping[str, str]
+    counting: tuple[str, ...] = ()
 
 
-def plan_of(data: bytes) -> Plan:
+def plan_of(data: bytes, counts_unparsed: bool = False) -> Plan:
     """The plan for a setup's bytes, which are valid."""
     setup = parse_setup(data)
     told_by: dict[str, str] = {}
     first: dict[tuple[str, str], str] = {}
     for it in setup.triggers:
         told_by[it.name] = first.setdefault((it.aggregate.name, it.part), it.name)
-    text = "".join(f"{it}\n" for it in _part_lines(setup, data, set(first.values()))).encode("latin-1")
+    lines = list(_part_lines(setup, data, set(first.values())))
+    if counts_unparsed and setup.source == "packet":
+        counting = _unused(lines)
+        asks = [f"ask {name} total len {it}" for name, it in zip(counting, UNPARSED.values())]
+        text = _text([*lines, *asks])
+        try:
+            return Plan(setup, text, parse_setup(text), told_by, counting)
+        except SetupFault:
+            # With these there are too many questions.
+            pass
+    text = _text(lines)
     return Plan(setup, text, parse_setup(text), told_by)
+
+
+def _text(lines: list[str]) -> bytes:
+    return "".join(f"{it}\n" for it in lines).encode("latin-1")
+
+
+def _unused(lines: list[str]) -> tuple[str, ...]:
+    """Names for the tool's own questions that no statement gives."""
+    given = {word for line in lines for word in line.split()[1:2]}
+    names = []
+    for it in UNPARSED:
+        while it in given:
+            it += "_"
+        names.append(it)
+    return tuple(names)
 
 
 def _part_lines(setup: Setup, data: bytes, telling: set[str]) -> Iterator[str]:
@@ -105,7 +136,7 @@ class Sum:
     groups: dict[str, dict[Place, Group]] = field(default_factory=dict)
 
     def add(self, other: Sum, plan: Plan) -> None:
-        """Adds the other one to this, which takes the time of the other alone."""
+        """Adds the other one to this, which takes only the time of the other."""
         self.records |= other.records
         self.cuts |= other.cuts
         for name, its in other.found.items():
@@ -168,6 +199,12 @@ def _marks(plan: Plan, total: Sum, trigger: Trigger) -> tuple[Pair, ...]:
     holds = HOLDS[trigger.operator]
     meant = sorted(it for it in values.items() if holds(it[1], trigger.number))
     return tuple(Pair(place[0], value, *place[1:]) for place, value in meant)
+
+
+def unparsed_of(plan: Plan, total: Sum) -> Unparsed | None:
+    """How many packets of all parts are not parsed, if that was asked."""
+    counts = [total.quads[it].count for it in plan.counting]
+    return Unparsed(*counts, sum(total.records.values())) if counts else None
 
 
 def _body(

@@ -4,17 +4,17 @@ from __future__ import annotations
 
 import csv
 import io
-import json
 import sys
 from typing import Any, Callable, Iterator
 
-from .exports import COLUMNS, FORMAT, Cell, Table, body_object, report_object
+from .exports import COLUMNS, FORMAT, Cell, Table, body_object, json_line, report_object
 from .metrics import Families, metrics_text
 from .over import Over
 from .reports import Ask, Found, lines_of
 from .setups import Setup
 from .show import Viewer, alert_lines, ask_lines, body_lines, count_text, heading
 from .tables import style_for
+from .unparsed import notice_without
 from .values import grouped
 
 
@@ -28,6 +28,7 @@ def _tables(answered: Over, setup: Setup, most: int) -> str:
     for it in answered.captures:
         if it.truncated is not None:
             lines.append(f"{it.name} is cut off after {grouped(it.truncated)}: what came then is missing")
+    lines += notice_without(setup, answered.unparsed)
     for ask in answered.report.asks:
         lines += (
             _found_lines(viewer, answered, ask, ask.body)
@@ -72,7 +73,7 @@ def _ask_object(answered: Over, ask: Ask, setup: Setup) -> dict[str, Any]:
 
 
 def _json(answered: Over, setup: Setup, _: int) -> str:
-    return json.dumps(over_object(answered, setup)) + "\n"
+    return json_line(over_object(answered, setup))
 
 
 def _rows(answered: Over, setup: Setup) -> Iterator[tuple[Cell, ...]]:

@@ -3,15 +3,13 @@
 from __future__ import annotations
 
 import os
-import pathlib
 import struct
-import sys
-import tempfile
 from dataclasses import dataclass
 from typing import BinaryIO, Callable, Iterator, Sequence
 
 from .captures import LINKS, MAGICS, MOST_CAPTURED, CaptureFault, Frame, Reading, frames, opened, pieces
 from .errors import Complaint
+from .places import written
 from .progress import shown
 from .reports import Found, Report
 from .unparsed import Unparsed
@@ -68,7 +66,7 @@ def copy_found(
 
 
 def _copy_quickly(capture: str, wanted: set[int], out: BinaryIO, to_end: bool) -> Copied | None:
-    """The same of a classic file without a fault, by the lengths of its packets alone; nothing if the file is another."""
+    """The same of a classic file without a fault, only by the lengths of its packets; nothing if the file is another."""
     if not os.path.isfile(capture):
         return None
     with open(capture, "rb") as file:
@@ -136,38 +134,16 @@ def copy_packets(report: Report, name: str, capture: str, out: str, source: str)
     wanted = rows_found(report, name, source)
     # A report does not say its schema; packet6 reads each capture that packet reads.
     reading = Reading(report.truncated is not None, "packet6")
-    with tempfile.TemporaryFile() if out == "-" else _new_file(out) as file:
+    with written(out) as file:
         try:
             copied = copy_found(capture, wanted, file, reading)
-            if copied.records != report.records:
-                raise Complaint(
-                    f"{capture} is not the capture of {source}: it has {copied.records} records, "
-                    f"and the report {report.records}"
-                )
-            if reading.cut != report.truncated:
-                raise Complaint(f"{capture} is not the capture of {source}: it is not cut off")
-        except (Complaint, CaptureFault) as fault:
-            if out != "-":
-                os.unlink(file.name)
-            if isinstance(fault, CaptureFault):
-                raise Complaint(f"{capture}: record {fault.record} is faulty, code {fault.code}") from fault
-            raise
-        if out == "-":
-            file.seek(0)
-            sys.stdout.buffer.write(file.read())
-            sys.stdout.buffer.flush()
-        else:
-            file.flush()
-            os.chmod(file.name, 0o644)
-            os.replace(file.name, out)
+        except CaptureFault as fault:
+            raise Complaint(f"{capture}: record {fault.record} is faulty, code {fault.code}") from fault
+        if copied.records != report.records:
+            raise Complaint(
+                f"{capture} is not the capture of {source}: it has {copied.records} records, "
+                f"and the report {report.records}"
+            )
+        if reading.cut != report.truncated:
+            raise Complaint(f"{capture} is not the capture of {source}: it is not cut off")
     return copied
-
-
-def _new_file(out: str) -> BinaryIO:
-    place = pathlib.Path(out)
-    try:
-        return tempfile.NamedTemporaryFile(  # type: ignore[return-value]
-            prefix=f".{place.name}.", dir=place.parent, delete=False
-        )
-    except OSError as error:
-        raise Complaint(f"{out} cannot be written: {error.strerror}") from error

@@ -1,7 +1,8 @@
 """Questions that count two kinds of packets of each conversation: SYNs and SYN-ACKs, echo requests and answers.
 
 One `top` lists at most 1,000 conversations. If there are more, the numbers of conversations are cut into ranges that are asked
-one by one, and ranges that are still too full are cut again. So the counts are exact, or the question is refused.
+one by one, and ranges that are still too full are cut again. So the counts are exact, or the question is refused. Resets only
+say more of connections that are unanswered: where there are too many they are left out.
 """
 
 from __future__ import annotations
@@ -27,18 +28,20 @@ PARTS = 4
 Ask = Callable[[Sequence[str]], list[list[Top]]]
 Range = tuple[int, int]
 HEADS = {
-    "unanswered": ("connection", ("SYNs",), "first SYN"),
+    "unanswered": ("connection", ("SYNs", "resets"), "first SYN"),
     "pings": ("hosts", ("requests", "answers"), "first request"),
 }
+RESET = "is_rst==1"
 
 
 @dataclass(frozen=True)
 class Row:
-    """A conversation by its number, and how many packets it has of both kinds."""
+    """A conversation by its number, how many packets it has of both kinds, and if it is unanswered how many resets."""
 
     number: int
     asked: int
     answered: int
+    resets: int | None = None
 
 
 @dataclass(frozen=True)
@@ -112,21 +115,36 @@ def paired(
     others = Query(query.text, query.verb, expression=PAIRS[query.verb][1])
     answered = {it: count - less.get(it, 0) for it, count in _counts(others, second, ask).items()}
     answered = {it: count for it, count in answered.items() if count}
+    resets = None
     if query.verb == "unanswered":
         numbers = [it for it in asked if it not in answered]
+        resets = _resets(query, ask) if numbers else None
     else:
         numbers = list(asked if query.condition != "*" else asked | answered)
+    of_resets = {} if resets is None else {it: resets.get(it, 0) for it in numbers}
     rows = sorted(
-        (Row(it, asked.get(it, 0), answered.get(it, 0)) for it in numbers),
+        (Row(it, asked.get(it, 0), answered.get(it, 0), of_resets.get(it)) for it in numbers),
         key=lambda it: (-it.asked, it.number),
     )
     return Paired(tuple(rows), len(asked))
 
 
+def _resets(query: Query, ask: Ask) -> dict[int, int] | None:
+    """How many resets each conversation has, if that can be said exactly."""
+    try:
+        return _counts(Query(query.text, query.verb, expression=RESET), ask([RESET])[0], ask)
+    except Complaint:
+        return None
+
+
 def count_of(query: Query, answer: Paired) -> str:
     """How many there are, for the title."""
     count = grouped(len(answer.rows))
-    return f": {count} of {grouped(answer.all)} connections" if query.verb == "unanswered" else f": {count}"
+    if query.verb != "unanswered":
+        return f": {count}"
+    resets = [it.resets for it in answer.rows if it.resets is not None]
+    refused = f", {grouped(sum(map(bool, resets)))} refused" if resets else ""
+    return f": {count} of {grouped(answer.all)} connections{refused}"
 
 
 def paired_lines(viewer: Viewer, query: Query, answer: Paired) -> list[str]:
@@ -135,7 +153,8 @@ def paired_lines(viewer: Viewer, query: Query, answer: Paired) -> list[str]:
     rows = []
     for place, it in enumerate(answer.rows[: query.count], 1):
         known = answer.known(it)
-        numbers = [grouped(it.asked), grouped(it.answered)][: len(counts)]
+        second = it.answered if query.verb == "pings" else it.resets
+        numbers = [grouped(it.asked), "" if second is None else grouped(second)]
         rows.append([f"{place}.", known.text, *numbers, utc(known.first)])
     if not rows:
         return ["  none"]
@@ -150,6 +169,8 @@ def paired_object(query: Query, answer: Paired) -> dict[str, object]:
     for it in answer.rows[: query.count]:
         known = answer.known(it)
         more = {"answers": it.answered} if query.verb == "pings" else {}
+        if it.resets is not None:
+            more["resets"] = it.resets
         keys.append({"text": known.text, "value": it.asked, **more, "first": utc(known.first)})
     whole = {"whole": answer.all} if query.verb == "unanswered" else {}
     return {"kind": query.verb, "keys": keys, "all": len(keys) == len(answer.rows), **whole}

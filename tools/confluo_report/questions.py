@@ -42,7 +42,7 @@ from typing import Sequence
 
 from .conditions import ConditionFault, TooLong, program_form
 from .errors import Complaint
-from .expressions import MOST_ATOMS, Attribute, is_form
+from .expressions import MOST_ATOMS, Attribute, is_form, unknown_attribute
 from .setups import PACKETS, SECOND
 from .values import UNITS
 
@@ -268,6 +268,7 @@ def parse_question(text: str, schema: Sequence[Attribute] = PACKETS["packet6"]) 
     words = found.groupdict()
     if verb == "find":
         return _finding(text, words["key"] or "", words["value"] or "", schema)
+    _check_names(found, schema)
     condition = words.get("where") or "*"
     query = Query(text, verb, condition, key=words.get("key") or "")
     if condition != "*":
@@ -280,6 +281,20 @@ def parse_question(text: str, schema: Sequence[Attribute] = PACKETS["packet6"]) 
         if words.get("second") and words.get("different"):
             raise Complaint(f"`{text}`: different values are counted of one attribute, not of two together")
     return _filled(_keyed(query, words.get("bits"), schema), words)
+
+
+def _check_names(found: re.Match[str], schema: Sequence[Attribute]) -> None:
+    """A word that is no attribute is shown in the question, if nothing else of the form is called so."""
+    names = [it.name for it in schema]
+    others = {"measure": ("bytes", "packets")} | dict.fromkeys(("key", "second"), tuple(UNITS.values()))
+    for group in ("key", "second", "different", "measure"):
+        word = found.groupdict().get(group)
+        its = others.get(group, ())
+        if not word or word in (*names, *its) or (group != "measure" and unit_of(word)):
+            continue
+        why = unknown_attribute(schema, word, "leave out `--schema packet`", its)
+        text = found.string
+        raise Complaint(f"`{text}` cannot be asked: {why}\n    {text}\n    {' ' * found.start(group)}^")
 
 
 def _form(schema: Sequence[Attribute], query: Query, condition: str, begin: int) -> str:

@@ -171,7 +171,7 @@ class RoundAlert:
 
 @dataclass(frozen=True)
 class RoundCrowded:
-    """A bucket that has as many keys as `watch` keeps: records of others count for totals alone. `prefix` is as in an alert."""
+    """A bucket that has as many keys as `watch` keeps: records of others count only for totals. `prefix` is as in an alert."""
 
     name: str
     bucket: int

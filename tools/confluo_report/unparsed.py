@@ -16,6 +16,7 @@ WRITE = "write `schema packet6`"
 UNKNOWN = (
     "`schema packet` counts packets of IPv6 and does not parse them; --capture FILE says how many these are"
 )
+ELSEWHERE = UNKNOWN.replace("--capture FILE", "`confluo-report check --capture FILE`")
 
 
 @dataclass
@@ -70,6 +71,13 @@ def unparsed_by(report: Report, setup: Setup) -> Unparsed | None:
             count = ask.body.count if isinstance(ask.body, Quad) else len(ask.body.rows)
             return Unparsed(count, 0, report.records - (report.window or 0))
     return None
+
+
+def notice_without(setup: Setup | None, known: Unparsed | None = None) -> list[str]:
+    """The same of what is not the report of one capture."""
+    if setup is None or setup.source != "packet":
+        return []
+    return unparsed_line(known, WRITE) if known else [f"{ELSEWHERE}."]
 
 
 def notice(report: Report, setup: Setup | None, known: Unparsed | None) -> list[str]:

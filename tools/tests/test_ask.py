@@ -140,7 +140,17 @@ class Questions(unittest.TestCase):
         self.assertEqual((ended.status, ended.err), (0, ""))
         self.assertEqual(ended.out.splitlines()[1:3], ["# top src by bytes", "tally tally1 src len *"])
         for words, why in (
-            (("top scr by bytes",), "`top scr by bytes` cannot be asked: no attribute is called `scr`"),
+            (
+                ("top scr by bytes",),
+                "`top scr by bytes` cannot be asked: no attribute is called `scr`; is `src` meant?",
+            ),
+            (("top 3 scr by bytes",), "\n    top 3 scr by bytes\n          ^\n"),
+            (("top src by byte",), "is `bytes` meant?"),
+            (("over 5 packet in a second",), "is `packets` meant?"),
+            (("over 5 packets in a second by scr",), "is `src` meant?"),
+            (("top src, dprt by bytes",), "is `dport` meant?"),
+            (("top src by different dprt",), "is `dport` meant?"),
+            (("top 1 secnd by bytes",), "is `second` meant?"),
             (("list dport~53",), "`~` is not part of a condition\n    list dport~53\n              ^"),
             (("--schema", "foo", "list *"), "--schema foo: `foo` is not packet, packet6 or records"),
             (("nosuchfile", "list *"), "neither a file nor a question"),

@@ -17,6 +17,7 @@ from unittest import mock
 from support import CUT_REPORT, CUT_SNAPSHOT, EXAMPLES, REPORT, ROOT, SNAPSHOT, tool
 
 from confluo_report.errors import Complaint
+from confluo_report.exports import json_line
 from confluo_report.metrics import labels_of, write_at_once
 
 TEXTS = [it.read_text() for it in sorted(EXAMPLES.rglob("*.report"))]
@@ -254,6 +255,18 @@ class Exports(unittest.TestCase):
         ended = tool("prometheus", stdin=f"records 1\nalert t 1 {2**53 + 1}\n")
         self.assertEqual((ended.status, ended.out), (2, ""))
         self.assertIn("no Prometheus value holds it exactly", ended.err)
+
+    def test_json_has_only_characters(self) -> None:
+        for name, wanted in (
+            ("n\udcff.pcap", "n\ufffd.pcap"),
+            ("\udc80\udcff", "\ufffd\ufffd"),
+            ("\U0001f480", "\U0001f480"),
+            ("\\udcff", "\\udcff"),
+            ("\\\udcff", "\\\ufffd"),
+        ):
+            text = json_line([name])
+            self.assertEqual(json.loads(text), [wanted])
+            self.assertTrue(text.isascii() and text.endswith("\n"))
 
     @unittest.skipUnless(shutil.which("promtool"), "promtool is missing: apt-get install prometheus")
     def test_promtool_finds_nothing(self) -> None:

@@ -68,19 +68,38 @@ class FirstReport(unittest.TestCase):
             "records 2\nask big list 1: 1\norder 0*2\n", ENDED.format(0), 0, *words
         )
         self.assertEqual(status, 0)
+        self.assertTrue(said.startswith(f"{words[0]}: valid: packets, by the second"))
         self.assertIn("    ask big list 1: 1\n", said)
+        self.assertIn("big  packets with len>=100: 1\n", said)
         self.assertRegex(said.splitlines()[-1], r"^OK: this is the report\. ")
         asked = (self.folder / "words").read_text()
         self.assertIn(f"--data c={ROOT / 'examples' / 'two_frames.pcap'} -- run --setup s --writers 1", asked)
 
-    def test_a_refusal_is_explained(self):
+    def test_a_faulty_setup_is_explained_before_the_build(self):
         setup = self.folder / "my.setup"
         setup.write_text("schema packet\nask all list nothing==1\n")
-        words = (setup, EXAMPLES / "two_frames.pcap")
-        status, said, _ = self.run_with("setup: line 2 code 13\n", ENDED.format(2), 2, *words)
+        status, said, _ = self.run_with("", "", 0, setup, EXAMPLES / "two_frames.pcap")
         self.assertEqual(status, 2)
-        self.assertIn("nothing", said)
-        self.assertRegex(said.splitlines()[-1], r"^confluo refused \(status 2\)")
+        self.assertIn("no attribute is called `nothing`", said)
+        self.assertEqual(said.splitlines()[-1], "Nothing was built: the setup is not valid.")
+        self.assertFalse((self.folder / "words").exists())
+
+    def test_packets_that_are_not_parsed_are_counted(self):
+        words = (EXAMPLES / "two_frames.setup", EXAMPLES / "dual_stack" / "dual_stack.pcap")
+        status, said, _ = self.run_with(
+            "records 691\nask big list 0:\norder 0*691\n", ENDED.format(0), 0, *words
+        )
+        self.assertEqual(status, 0)
+        self.assertIn("239 of 691 packets are IPv6 and were not parsed", said.splitlines()[1])
+
+    def test_a_refusal_is_explained(self):
+        capture = self.folder / "my.pcap"
+        capture.write_text("hello, world")
+        words = (EXAMPLES / "two_frames.setup", capture)
+        status, said, _ = self.run_with("capture: record 0 code 1\n", ENDED.format(3), 3, *words)
+        self.assertEqual(status, 3)
+        self.assertIn("its first bytes are not those of pcap or pcapng", said)
+        self.assertRegex(said.splitlines()[-1], r"^confluo refused \(status 3\)")
 
     def test_a_build_that_fails_shows_why(self):
         status, said, _ = self.run_with("", "error: something\nrun=none proved=no\n", 2)

@@ -177,9 +177,33 @@ class Answers(unittest.TestCase):
         self.assertEqual((ended.status, ended.out), (2, ""))
         self.assertIn("`unanswered 1` cannot be answered exactly", ended.err)
 
+    def test_refused_and_ignored_connections(self) -> None:
+        frames = [tcp(1, 2, 5, 2), tcp(2, 1, 443, 20, 5), tcp(1, 3, 6, 2), tcp(1, 3, 6, 2), tcp(1, 4, 7, 2)]
+        # The last one is answered; another has no SYN.
+        frames += [tcp(1, 4, 7, 18), tcp(4, 1, 443, 4, 7), tcp(1, 9, 8, 4)]
+        path = self.capture("refused", frames)
+        lines = self.asked(path, "unanswered")
+        self.assertEqual(
+            lines[2:4], ["unanswered: 2 of 3 connections, 1 refused", "connection SYNs resets first SYN"]
+        )
+        self.assertEqual(lines[4], "1. TCP 10.0.0.1:6 > 10.0.0.3:443 2 0 1970-01-01 00:00:02Z")
+        self.assertEqual(lines[5], "2. TCP 10.0.0.1:5 > 10.0.0.2:443 1 1 1970-01-01 00:00:00Z")
+        self.assertEqual([it["resets"] for it in self.answer(path, "unanswered")["keys"]], [0, 1])
+        # Of more connections with resets than can be counted exactly nothing is said.
+        many = self.capture("many", [*frames, *(tcp(1, 9, port, 4) for port in range(100, 200))])
+        with mock.patch("confluo_report.paired.MOST_TOP", 4), mock.patch(
+            "confluo_report.ask.MOST_TOP", 4
+        ), mock.patch("confluo_report.questions.MOST_TOP", 4), mock.patch(
+            "confluo_report.paired.MOST_RUNS", 1
+        ):
+            lines = self.asked(many, "unanswered 2")
+            self.assertEqual(lines[2], "unanswered 2: 2 of 3 connections")
+            self.assertEqual(lines[4], "1. TCP 10.0.0.1:6 > 10.0.0.3:443 2 1970-01-01 00:00:02Z")
+            self.assertNotIn("resets", self.answer(many, "unanswered 2")["keys"][0])
+
     def test_a_flood_is_unanswered(self) -> None:
         lines = self.asked(INCIDENTS / "syn_flood.pcap", "unanswered 1")
-        self.assertEqual(lines[2], "unanswered 1: 96 of 169 connections")
+        self.assertEqual(lines[2], "unanswered 1: 96 of 169 connections, 0 refused")
         self.assertEqual(lines[5], "and 95 more")
 
     def test_pings(self) -> None:
@@ -217,6 +241,7 @@ class Answers(unittest.TestCase):
         pings, unanswered, flows = found["answers"]
         self.assertEqual((pings["kind"], pings["keys"][0]["answers"], pings["all"]), ("pings", 4, False))
         self.assertEqual((unanswered["whole"], len(unanswered["keys"])), (115, 2))
+        self.assertEqual([it["resets"] for it in unanswered["keys"]], [0, 0])
         self.assertEqual(flows["keys"], [{"text": "TCP 10.77.0.1:39354 > 10.77.0.2:5201", "value": 139177}])
         rows = list(csv.DictReader(io.StringIO(tool("ask", "--csv", *words).out)))
         self.assertIn(

@@ -19,7 +19,7 @@ from typing import Any
 from unittest import mock
 
 from cases import CAPTURES
-from support import EXAMPLES, ROOT, TOOLS, block, confluo, frame, frame6, needs_program, pcap, tool
+from support import EXAMPLES, ROOT, TOOLS, block, confluo, frame, frame6, needs_program, pcap, tagged, tool
 
 from confluo_report.errors import Complaint
 from confluo_report.over_dask import words_of
@@ -607,6 +607,29 @@ class Runs(Case):
             'confluo_found_records{ask="l",kind="list"} 4',
         ):
             self.assertIn(f"{line}\n", metrics)
+
+    def test_packets_that_are_not_parsed_are_counted(self) -> None:
+        one, two = self.folder / "one.pcap", self.folder / "two.pcap"
+        one.write_bytes(pcap([(1, frame()), (2, frame6()), (3, tagged())]))
+        two.write_bytes(pcap([(1, frame6()), (2, frame())]))
+        said = (
+            "2 of 5 packets are IPv6, and 1 has a second VLAN tag or a service tag: these were not parsed (addresses and "
+            "ports are 0): write `schema packet6`"
+        )
+        plain = "schema packet\nask q list dport==80\n"
+        # The tool's own questions have names that the setup does not give.
+        for setup in (plain, f"{plain}filter ipv6 *\nask ipv6_ list *\nask tagged total len *\n"):
+            for words in ((), ("--split",)):
+                out = self.over(one, two, *words, setup=setup)[1].splitlines()
+                self.assertEqual(out[:2], ["5 packets of 2 captures", said])
+                self.assertIn("q  packets with dport==80: 2", out)
+                self.assertEqual(sum("ipv6" in it for it in out), len(setup.split("ask ipv6_")) - 1, out)
+        full = plain + "".join(f"ask q{at} list *\n" for at in range(30))
+        out = self.over(one, two, setup=full)[1].splitlines()
+        self.assertIn("`confluo-report check --capture FILE` says how many", out[1])
+        self.assertNotIn("not parsed", self.over(one, two, setup=plain.replace("packet", "packet6"))[1])
+        good = self.captures()[0]
+        self.assertNotIn("pars", self.over(good, setup=plain)[1])
 
     def test_json_meets_its_schema(self) -> None:
         try:

@@ -4,7 +4,10 @@ import io
 import os
 import pathlib
 import random
+import resource
+import stat
 import tempfile
+import threading
 import unittest
 from unittest import mock
 
@@ -94,6 +97,47 @@ class Packets(unittest.TestCase):
             self.assertEqual((ended.status, ended.out), (2, ""), why)
             self.assertIn(why, ended.err)
         self.assertEqual((self.out.read_text(), os.listdir(self.place.name)), ("before", ["found.pcap"]))
+
+    def test_a_full_disk_is_named_and_keeps_nothing(self) -> None:
+        self.out.write_text("before")
+        most = resource.getrlimit(resource.RLIMIT_FSIZE)
+        resource.setrlimit(resource.RLIMIT_FSIZE, (100, most[1]))
+        try:
+            ended = tool("packets", "--ask", "open", "--out", self.out, REPORT, CAPTURE)
+        finally:
+            resource.setrlimit(resource.RLIMIT_FSIZE, most)
+        self.assertEqual((ended.status, ended.out), (2, ""))
+        self.assertEqual(ended.err, f"confluo-report: {self.out} cannot be written: File too large\n")
+        self.assertEqual((self.out.read_text(), os.listdir(self.place.name)), ("before", ["found.pcap"]))
+
+    def test_a_pipe_or_device_is_written_to(self) -> None:
+        words = ("packets", "--ask", "open", "--out")
+        self.assertEqual(tool(*words, self.out, REPORT, CAPTURE).status, 0)
+        pipe = pathlib.Path(self.place.name, "pipe")
+        os.mkfifo(pipe)
+        report = ("prometheus", "--textfile", pipe, REPORT)
+        for asked, wanted in (
+            ((*words, pipe, REPORT, CAPTURE), self.out.read_bytes()),
+            (report, tool("prometheus", REPORT).out.encode()),
+        ):
+            read: "list[bytes]" = []
+            reader = threading.Thread(target=lambda: read.append(pipe.read_bytes()), daemon=True)
+            reader.start()
+            self.assertEqual(tool(*asked).status, 0)
+            reader.join(60)
+            self.assertEqual(read, [wanted])
+            self.assertTrue(stat.S_ISFIFO(pipe.stat().st_mode))
+
+    def test_what_a_link_leads_to_is_replaced(self) -> None:
+        link = pathlib.Path(self.place.name, "link")
+        link.symlink_to("found.pcap")
+        for _ in range(2):
+            self.assertEqual(tool("packets", "--ask", "open", "--out", link, REPORT, CAPTURE).status, 0)
+            self.assertEqual(len(frames_in(self.out.read_bytes())), 2)
+            self.assertTrue(link.is_symlink())
+        self.assertIn(
+            "Is a directory", tool(*("packets", "--ask", "open", "--out", "/", REPORT, CAPTURE)).err
+        )
 
     def plotted(self, *words: object) -> str:
         try:

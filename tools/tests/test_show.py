@@ -98,6 +98,16 @@ class Shows(unittest.TestCase):
             self.assertEqual(out.splitlines()[:2], ["3 packets", said])
             self.assertIn(f"{paths[1]}: {said}\n", tool("check", "--capture", paths[1], paths[0]).out)
             self.assertIn("--capture FILE says how many", tool("show", "--setup", paths[0], stdin=report).out)
+            where = "`confluo-report check --capture FILE` says how many these are.\n"
+            listed = "ask all list 2: 0 1\n"
+            reports = [pathlib.Path(folder, it) for it in ("a.report", "b.report")]
+            for it in reports:
+                it.write_text(f"records 3\n{listed}order 0*3\n")
+            for path, has_it in ((paths[0], True), (paths[2], False)):
+                path.write_text(path.read_text().replace("total len", "list"))
+                merged = tool("merge", "--setup", path, *reports).out
+                for text in (merged, f"cut 3\nhost 0 @3\n{listed}"):
+                    self.assertEqual(where in tool("show", "--setup", path, stdin=text).out, has_it, text)
             self.assertIn("--capture FILE says how many", tool("check", paths[0]).out)
             self.assertNotIn("FILE", tool("show", "--setup", paths[2], stdin=report).out)
             paths[0].write_text(setup + "ask six total len etype==0x86dd\n")

@@ -92,7 +92,10 @@ class TenQuestions(unittest.TestCase):
         self.same(words, self.counted("src", lambda it: it["flags"] in SYN_ACK))
         begun = {self.ends(it, "src", "dst") for it in self.packets if it["flags"] in SYN}
         answered = {self.ends(it, "dst", "src") for it in self.packets if it["flags"] in SYN_ACK}
-        title = f"unanswered: {len(begun - answered):,} of {len(begun):,} connections"
+        ends = (("src", "dst"), ("dst", "src"))
+        reset = {self.ends(it, *way) for it in self.packets if it["flags"] in RESET for way in ends}
+        silent = begun - answered
+        title = f"unanswered: {len(silent)} of {len(begun)} connections, {len(silent & reset)} refused"
         self.assertIn(title, self.asked("unanswered"))
 
     def test_3_segments_sent_again(self) -> None:
