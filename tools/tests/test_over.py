@@ -668,12 +668,12 @@ class Runs(Case):
 
 def wait_for_lines(path: pathlib.Path, count: int) -> list[int]:
     """The numbers in the lines of a file, once there are so many."""
-    for _ in range(600):
+    for _ in range(3600):
         lines = path.read_text().split() if path.exists() else []
         if len(lines) >= count:
             return list(map(int, lines))
         time.sleep(0.05)
-    raise AssertionError(f"{path} has fewer than {count} lines after half a minute")
+    raise AssertionError(f"{path} has fewer than {count} lines after three minutes")
 
 
 def is_alive(number: int) -> bool:
