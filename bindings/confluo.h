@@ -97,7 +97,7 @@
 ** calls and codes, and mends what was not as this text says. If anything else changes, also below 1.0, the soname's number is raised. abi.txt,
 ** next to this file in the sources, lists what C sees, and a test compares. A later text may ask for changes in the source of a program;
 ** CHANGELOG.md names them. The library is for Linux on x86-64. */
-#define CONFLUO_VERSION 22000
+#define CONFLUO_VERSION 22001
 
 /* A log, a writer and a reader. */
 typedef struct confluo_log confluo_log;

@@ -83,6 +83,8 @@ class Packages(unittest.TestCase):
         dated = re.findall(r"(?m)^## (\S+)\n\n\d{4}-", (ROOT / "CHANGELOG.md").read_text())
         self.assertEqual(re.findall(r"(?m)^confluo \((\S+)\)", said), dated)
         self.assertLessEqual(max(map(len, said.splitlines())), 120)
+        for entry in re.split(r"(?m)^confluo ", said)[1:]:
+            self.assertIn("\n  * ", entry)
 
     def test_documents_of_units_are_installed(self):
         stage = self.stages / "confluo"

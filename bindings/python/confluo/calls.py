@@ -9,7 +9,7 @@ import pathlib
 from typing import Any, Iterable, Sequence, SupportsIndex, Union
 
 SHARED = "libconfluo.so.0"
-VERSION = 22000  # CONFLUO_VERSION of the header that this package is written for
+VERSION = 22001  # CONFLUO_VERSION of the header that this package is written for
 
 WORD, LONG, SIZE, TEXT = ctypes.c_uint32, ctypes.c_uint64, ctypes.c_size_t, ctypes.c_char_p
 TO = ctypes.POINTER

@@ -474,7 +474,7 @@ mod tests {
     fn versions_fit() {
         let cases = [
             (21_999, false),
-            (22_000, true),
+            (22_001, true),
             (29_007, true),
             (999_999, true),
             (1_000_000, false),
@@ -483,7 +483,7 @@ mod tests {
             assert_eq!(fits(version), wanted, "{version}");
         }
         let said = OpenError::Version(3_002).to_string();
-        assert!(said.starts_with("libconfluo has version 0.3.2, and this crate needs 0.22.0"));
+        assert!(said.starts_with("libconfluo has version 0.3.2, and this crate needs 0.22.1"));
     }
 
     #[test]

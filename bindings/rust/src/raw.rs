@@ -116,7 +116,7 @@ pub struct Head {
 }
 
 /// `CONFLUO_VERSION` of the header that this crate is written for.
-pub const VERSION: u32 = 22_000;
+pub const VERSION: u32 = 22_001;
 
 pub const OK: u32 = 0;
 pub const MEMORY: u32 = 1;

@@ -12,3 +12,7 @@ pub mod Closed
 pub mod Lined
 pub mod Looked
 pub mod Meant
+pub mod Spanned
+pub mod Ended
+pub mod Behind
+pub mod Spans

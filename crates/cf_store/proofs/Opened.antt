@@ -10,7 +10,8 @@ use Rattle.cf_table.specs.Values.{PassValue, LogValue, book_of}
 use Rattle.cf_table.specs.Rule.{root_pass}
 use Rattle.cf_table.specs.Moves.{AreDealt, HoldsAllBooks}
 use Rattle.cf_store.specs.Homes.{PlaceValue, at_home}
-use Rattle.cf_setup.specs.Setups.{SetupValue}
+use Rattle.cf_shape.specs.Lanes.{ShapeValue}
+use Rattle.cf_setup.specs.Setups.{SetupValue, shaped}
 use Rattle.cf_setup.specs.SetupText.{SetupText}
 use Rattle.cf_setup.specs.Reading.{Answers}
 use Rattle.cf_setup.specs.declared.parse.SetupFault.{SetupFault}
@@ -102,3 +103,12 @@ pub by_setup : {A : Type 0} (Is : SetupValue → A → Type 0) (text : List ℕ)
     → BySetup (λ s found. found ≡ s) text sizes (Ok setup) → IfOk r (Is setup) → IfErr r (λ e. e ≡ NoMemory) → BySetup Is text sizes r
 by_setup Is text sizes setup (Ok a) of ok err = (setup, subst (λ (s : SetupValue). SetupText text (Ok s)) (sym of.3) of.1, of.2, ok)
 by_setup Is text sizes setup (Err e) of ok err = subst (λ (x : OpenRefusal). BySetup Is text sizes (Err x)) (sym err) tt
+
+-- the setup that was read is what the text is
+pub stated_by : (text : List ℕ) (sizes : Sizes) (setup : SetupValue) → BySetup (λ s found. found ≡ s) text sizes (Ok setup) → SetupText text (Ok setup)
+stated_by text sizes setup of = subst (λ (s : SetupValue). SetupText text (Ok s)) (sym of.3) of.1
+
+-- a shape that is so large is the setup's, by its own sizes
+pub is_shaped : (setup : SetupValue) (sizes : Sizes) (shape : ShapeValue) → shape ≡ sized setup sizes
+    → shape ≡ shaped setup shape.capacity shape.writers shape.nodes
+is_shaped setup sizes shape is = subst (λ (s : ShapeValue). s ≡ shaped setup s.capacity s.writers s.nodes) (sym is) refl

@@ -8,3 +8,5 @@ pub mod Closes
 pub mod Reports
 pub mod Homes
 pub mod Seen
+pub mod Spans
+pub mod Ends

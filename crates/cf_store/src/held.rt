@@ -1,10 +1,12 @@
 // A log, its writers and its readers, as a program holds them.
-ghost use Rattle.std.specs.Prelude.{◌≡◌, ◌++◌, ◌∷◌, [], All, true};
+ghost use Rattle.std.specs.Prelude.{◌≡◌, ◌++◌, ◌∷◌, [], All, Ok, true};
 ghost use Rattle.std.specs.List.{list_all};
 ghost use Rattle.std.specs.Arc.{arc_value};
 ghost use Rattle.cf_law.specs.Steps.{new_pass};
 ghost use Rattle.cf_table.specs.Values.{IsOf};
 ghost use Rattle.cf_plain.specs.Asks.{suits_of, suits_trigger};
+ghost use Rattle.cf_setup.specs.Setups.{shaped as shaped_by};
+ghost use Rattle.cf_setup.specs.Reading.{setup_at};
 ghost use Rattle.cf_store.specs.Homes.{MayCome};
 ghost use Rattle.cf_table.specs.Moves.{IsReading};
 ghost use Rattle.cf_append.specs.Appends.{IsReady};
@@ -24,6 +26,8 @@ pub struct Shared {
     pub(crate) text: Vec<u8>,
     ghost suited: { list_all (suits_of log.shape) setup.asks ≡ true },
     ghost armed: { list_all (suits_trigger log.shape) setup.triggers ≡ true },
+    ghost stated: { setup_at text.items ≡ Ok setup },
+    ghost shaped: { log.shape ≡ shaped_by setup log.shape.capacity log.shape.writers log.shape.nodes },
 }
 
 /// A log, with the places of its writers. The pass of a writer that is freed, in whatever thread, comes back to its place.

@@ -6,6 +6,7 @@
 
 mod answers;
 mod close;
+mod ends;
 mod held;
 mod law;
 mod line;
@@ -17,7 +18,9 @@ mod reader;
 mod refusals;
 mod report;
 mod shown;
+mod span;
 mod tags;
+mod told;
 mod values;
 mod way;
 mod writer;
@@ -27,8 +30,9 @@ pub use law::seen_reports_are_histories;
 pub use log::measure;
 pub use merges::merge;
 pub use refusals::{
-    AppendRefusal, AskRefusal, CloseRefusal, LaneRefusal, LineRefusal, MergeRefusal, OpenRefusal,
-    RowRefusal, TakeRefusal,
+    AddRefusal, AppendRefusal, AskRefusal, CloseRefusal, LaneRefusal, LineRefusal, MergeRefusal,
+    OpenRefusal, RowRefusal, TakeRefusal,
 };
 pub use shown::{Capture, Fault, Framed, Head, Room, Shown, ShownValue, Sizes};
+pub use span::Span;
 pub use way::Sent;

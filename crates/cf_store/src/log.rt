@@ -6,6 +6,7 @@ ghost use Rattle.std.specs.Box.{box_value};
 ghost use Rattle.std.specs.Arc.{arc_value};
 ghost use Rattle.cf_shape.specs.Places.{sizes_of, word_total as word_total_of};
 ghost use Rattle.cf_law.specs.Steps.{new_pass};
+ghost use Rattle.cf_setup.specs.SetupText.{SetupText};
 ghost use Rattle.cf_table.specs.Values.{IsOf};
 ghost use Rattle.cf_store.specs.Homes.{IsHomeAt};
 ghost use Rattle.cf_store.specs.Parts.{AreNumbered, IsPlaceOf};
@@ -116,6 +117,7 @@ impl Log {
         sizes: Sizes,
     ) -> Result<Log, OpenRefusal>
         requires sizes { AreSizes sizes }
+        requires stated { SetupText text.items (Ok setup) }
         ensures ok { IfOk result (IsNew text.items setup sizes) }
         ensures refused { IfErr result (λ refusal. refusal ≡ NoMemory) }
     {

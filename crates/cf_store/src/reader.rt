@@ -3,12 +3,13 @@ ghost use Rattle.std.specs.Prelude.{◌≡◌, ◌<◌, [], ◌∷◌, ◌++◌,
 ghost use Rattle.std.specs.List.{flat_map};
 ghost use Rattle.std.specs.Arc.{arc_value};
 ghost use Rattle.cf_shape.specs.Lanes.{both_keys};
-ghost use Rattle.cf_plain.specs.Asks.{Suits};
+ghost use Rattle.cf_plain.specs.Asks.{Suits, rows_in};
 ghost use Rattle.cf_plain.specs.Groups.{first_key, other_key, pair_of};
+ghost use Rattle.cf_plain.specs.Segments.{finding_in};
 ghost use Rattle.cf_table.specs.Moves.{IsReading};
 ghost use Rattle.cf_store.specs.declared.refusals.AskRefusal.TheVariants.{Memory};
 ghost use Rattle.cf_store.specs.Asks.{AnswersQuestion, AnswersSeen, AsksAt, AsksSeen, AsksTail, FindsGroups, IsMeasured, IsTold, ReadsRow, ShowsRowAt, TellsGroups, is_keyed as is_keyed_of, keys_words, mark_words as mark_words_of, group_words as group_words_of, groups_words, body_words as body_words_of, body_kind as body_kind_of};
-ghost use Rattle.cf_store.specs.Reports.{Reports};
+ghost use Rattle.cf_store.specs.Reports.{HasWalked, Reports};
 
 use crate::held::{Reader, Shared};
 use crate::refusals::{AskRefusal, LaneRefusal, RowRefusal};
@@ -16,8 +17,8 @@ use crate::report::report_seen;
 use crate::shown::{Head, Shown, ShownValue};
 use crate::values::show_row;
 use cf_fold::Quad;
-use cf_log::{ask, ask_seen, groups_seen, row, tail};
-use cf_plain::{Answer, Ask, Body, Fired, Group};
+use cf_log::{ask, ask_seen, finding_seen, groups_seen, row, tail};
+use cf_plain::{Answer, Ask, Body, Finding, Fired, Group};
 use cf_row::{Memory as NoMemory, Row};
 use cf_shape::{Shape, keeps_apart, measures};
 use cf_table::{Pass, ReaderPass};
@@ -256,6 +257,18 @@ impl Reader {
     {
         let told = ask_seen_of(&self.of, alloc, &mut self.pass, number)?;
         self.keep(alloc, &told)
+    }
+
+    // What the question finds in what the reader has seen, and how many records that are. It keeps its words.
+    pub(crate) fn find(&mut self, alloc: Global, question: &Ask) -> Result<(u32, Finding), NoMemory>
+        requires { Suits (arc_value self.old.of).log.shape question.now }
+        ensures walked { HasWalked self.old self.new }
+        ensures count { IfOk result (λ found. found.0 ≡ length (self.old.pass.view).seen) }
+        ensures found { IfOk result (λ found. found.1 ≡ finding_in (arc_value self.old.of).log.shape question.now (rows_in (self.old.pass.view).seen)) }
+    {
+        let tail = self.pass.covered();
+        let found = finding_seen(&self.of.log, alloc, &mut self.pass, question)?;
+        Ok((tail, found))
     }
 
     /// Tells the groups of a lane in what the reader has seen, and keeps their words: of each group its key, and its quad. A lane that

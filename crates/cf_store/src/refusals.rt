@@ -81,3 +81,13 @@ pub enum CloseRefusal {
     Busy,
     Memory,
 }
+
+/// Why a reader is not added to a span.
+#[derive(Clone, Copy)]
+pub enum AddRefusal {
+    /// Its log has another setup's text than those of the span, or is of another size.
+    Unlike,
+    /// The logs would take more than 2^20 records.
+    Full,
+    Memory,
+}

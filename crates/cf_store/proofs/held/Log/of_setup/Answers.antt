@@ -1,10 +1,11 @@
-use Rattle.std.proofs.Common.{◌∙◌, ap, refl, subst}
+use Rattle.std.proofs.Common.{◌∙◌, Ok, ap, refl, subst, sym}
 use Rattle.cf_shape.specs.Lanes.{ShapeValue}
 use Rattle.cf_setup.specs.Setups.{IsSetup}
+use Rattle.cf_setup.proofs.SetupReads.{setup_only}
 use Rattle.cf_table.specs.Values.{PassValue}
 use Rattle.cf_store.proofs.Homeward.{all_placed}
 use Rattle.cf_store.proofs.Numbered.{all_numbered}
-use Rattle.cf_store.proofs.Opened.{all_ready, all_new, new_log, root_new}
+use Rattle.cf_store.proofs.Opened.{all_ready, all_new, is_shaped, new_log, root_new}
 use Rattle.cf_store.proofs.Suited.{all_armed, all_suit}
 use Rattle.cf_store.proofs.held.Log.of_setup.Goals as goal
 
@@ -26,6 +27,8 @@ invariant_of-of_parts c = record {
       (subst IsSetup c.setup.view_is c.setup.invariant) (c.in-Ok.ensures.shape ∙ c.in_ok-shape.ensures.ok);
   armed = all_armed c.args.setup c.args.sizes.capacity c.args.sizes.writers c.args.sizes.nodes c.in-Ok.log.shape
       (subst IsSetup c.setup.view_is c.setup.invariant) (c.in-Ok.ensures.shape ∙ c.in_ok-shape.ensures.ok);
+  stated = sym ((setup_only c.args.text.items).only (Ok c.args.setup) c.requires.stated);
+  shaped = is_shaped c.args.setup c.args.sizes c.in-Ok.log.shape (c.in-Ok.ensures.shape ∙ c.in_ok-shape.ensures.ok);
 }
 
 pub returns-clause-ok : goal.returns-clause-ok

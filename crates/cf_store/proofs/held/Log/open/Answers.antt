@@ -1,7 +1,13 @@
-use Rattle.std.proofs.Common.{IfOk, List, ℕ, subst}
+use Rattle.std.proofs.Common.{IfOk, List, Ok, ℕ, subst, sym}
+use Rattle.cf_setup.specs.SetupText.{SetupText}
 use Rattle.cf_store.specs.Opens.{IsNew}
-use Rattle.cf_store.proofs.Opened.{by_setup}
+use Rattle.cf_store.proofs.Opened.{by_setup, stated_by}
 use Rattle.cf_store.proofs.held.Log.open.Goals as goal
+
+pub of_setup-requires-clause-stated : goal.of_setup-requires-clause-stated
+of_setup-requires-clause-stated c =
+    subst (λ (text : List ℕ). SetupText text (Ok c.in_ok-setup.setup)) (sym c.in-Ok.ensures.items)
+    (stated_by c.args.text.now c.args.sizes c.in_ok-setup.setup c.in_ok-setup.ensures)
 
 pub returns : goal.returns
 returns c =
