@@ -14,8 +14,11 @@
 **   All questions of a report can have one tail: look at it once (confluo_tail), and ask of what was seen (confluo_ask_seen). A reader
 **   need not look again and again: confluo_wait sleeps until records come.
 **   When all writers are freed a log can be closed (confluo_close), which leaves a reader of all its records and their report.
-**   A log that is full stays open to readers. Open the next one and go on there. What an aggregate or a tally measured in several logs can
-**   be merged (confluo_groups, confluo_merge), as if one log had all records.
+**   A log that is full stays open to readers. Open the next one, of the same setup and sizes, take its writers, and go on there. A span
+**   asks such logs as if one log had the records of all, one after another: make it of a reader of the first log (confluo_span_of), and add
+**   a reader of each next one (confluo_span_add). A rolling log keeps the last so many: let the first go then (confluo_span_drop_first),
+**   and free its other handles. Each thread that asks has a span of its own. What an aggregate or a tally measured in any logs can be
+**   merged (confluo_groups, confluo_merge).
 **
 ** EXAMPLE
 **
@@ -36,14 +39,26 @@
 **   if (confluo_ask(reader, 0, &head) == CONFLUO_OK)                                   // in the reader's thread
 **       for (size_t k = 0, n = confluo_words(reader, 0, places, 100); k < n; k++) printf("record %u\n", (unsigned)places[k]);
 **
-**   confluo_free_writer(writer), confluo_free_reader(reader), confluo_free_log(log);   // in any order
+**   confluo_span *span = NULL;                                                         // the last 8 logs, as one
+**   size_t logs = 0;
+**   if (confluo_span_of(&reader, &span)) return 1;                                     // the span has the reader now
+**   if (code == CONFLUO_FULL) {                                                        // go on in a next log
+**       confluo_free_writer(writer), confluo_free_log(log), writer = NULL, log = NULL;
+**       if (confluo_open_str(&log, setup, &sizes, NULL)) return 1;
+**       if (confluo_take_writer(log, &writer, NULL) || confluo_take_reader(log, &reader)) return 1;
+**       if (confluo_span_add(span, &reader) || confluo_span_logs(span, &logs)) return 1;
+**       if (logs > 8 && confluo_span_drop_first(span)) return 1;
+**   }
+**   if (confluo_span_ask(span, 0, &head)) return 1;                                    // of the records of all its logs
+**
+**   confluo_free_writer(writer), confluo_free_span(span), confluo_free_log(log);       // in any order
 **
 **   bindings/example.c is a whole program with three threads. Link libconfluo.a or libconfluo.so, and nothing else.
 **
 ** HANDLES
 **
-**   A log, a writer and a reader are pointers that a call gives and another one frees. NULL is a handle that leads to nothing: each call
-**   answers CONFLUO_NOTHING to it, and freeing it does nothing.
+**   A log, a writer, a reader and a span are pointers that a call gives and another one frees. NULL is a handle that leads to nothing: each
+**   call answers CONFLUO_NOTHING to it, and freeing it does nothing.
 **   In C and C++ all calls are inline functions of this header around the library's own calls, which "THE LIBRARY'S OWN CALLS" below lists
 **   for other languages. What that costs: one malloc for each handle, of at most 48 bytes; a copy of the setup's text for each log; and in
 **   each call a load and a store (see THREADS), which take about 10 nanoseconds together.
@@ -97,12 +112,13 @@
 ** calls and codes, and mends what was not as this text says. If anything else changes, also below 1.0, the soname's number is raised. abi.txt,
 ** next to this file in the sources, lists what C sees, and a test compares. A later text may ask for changes in the source of a program;
 ** CHANGELOG.md names them. The library is for Linux on x86-64. */
-#define CONFLUO_VERSION 22001
+#define CONFLUO_VERSION 23000
 
-/* A log, a writer and a reader. */
+/* A log, a writer and a reader, and a span of readers. */
 typedef struct confluo_log confluo_log;
 typedef struct confluo_writer confluo_writer;
 typedef struct confluo_reader confluo_reader;
+typedef struct confluo_span confluo_span;
 
 /* What calls answer. The calls' type is uint32_t, as a later library may answer another one: switch ((confluo_code)code) has the compiler
 ** look for cases that are missing. */
@@ -113,7 +129,7 @@ typedef enum confluo_code {
     CONFLUO_SETUP = 3,        /* the setup is faulty; confluo_fault says where */
     CONFLUO_NOTHING = 4,      /* the handle is NULL, or a log that is closed */
     CONFLUO_NO_WRITER = 5,    /* all writers of the log are taken */
-    CONFLUO_FULL = 6,         /* the log is full: it has taken as many records as it can */
+    CONFLUO_FULL = 6,         /* the log is full: it has taken as many records as it can; or a span would take more than 2^20 */
     CONFLUO_NODES = 7,        /* the writer has too few nodes for this row, and none left now; a row that needs no new one still fits */
     CONFLUO_UNFIT = 8,        /* the row does not fit the schema of the log */
     CONFLUO_FRAME = 9,        /* the frame has 2^32 bytes or more, its link is not read, it is not in the buffer, or a reserved field is not 0 */
@@ -122,7 +138,9 @@ typedef enum confluo_code {
     CONFLUO_NO_ROW = 12,      /* the reader has seen no record at that offset */
     CONFLUO_NO_NAME = 13,     /* the setup has nothing of that sort and number */
     CONFLUO_NO_GROUPS = 14,   /* the words are no list of groups, or both lists have more than 2^20 numbers together */
-    CONFLUO_BUSY = 15         /* a writer of the log is taken */
+    CONFLUO_BUSY = 15,        /* a writer of the log is taken */
+    CONFLUO_UNLIKE = 16,      /* the log of the reader has another setup or other sizes than those of the span */
+    CONFLUO_ONE_LOG = 17      /* the span has one log, which stays */
 } confluo_code;
 
 /* How large a log is. */
@@ -237,7 +255,9 @@ static inline const char *confluo_error_name(uint32_t code) {
                                         "the reader has seen no record at that offset",
                                         "the setup has nothing of that sort and number",
                                         "the words are no groups, or of too many numbers",
-                                        "a writer of the log is taken"};
+                                        "a writer of the log is taken",
+                                        "the reader's log has another setup or size than the span's",
+                                        "the span has one log, which stays"};
     return code < sizeof texts / sizeof *texts ? texts[code] : "no code of confluo";
 }
 
@@ -311,6 +331,7 @@ confluo_close(confluo_log *log, confluo_reader **reader) CONFLUO_CALL(close);
 static inline void confluo_free_log(confluo_log *log) CONFLUO_CALL(free_log);
 static inline void confluo_free_writer(confluo_writer *writer) CONFLUO_CALL(free_writer);
 static inline void confluo_free_reader(confluo_reader *reader) CONFLUO_CALL(free_reader);
+static inline void confluo_free_span(confluo_span *span) CONFLUO_CALL(free_span);
 
 /* Appends the record of a captured frame, and says its offset. `bytes` are the captured bytes of the frame; they are read within the call,
 ** and neither copied nor kept. The call needs no memory. A frame whose headers cannot be read is a record all the same, with 0 in those
@@ -447,6 +468,50 @@ confluo_row(confluo_reader *reader, uint32_t offset, uint32_t *number, confluo_v
 ** answer yet, if `from` is past the last word, and if `reader` is NULL. The thread that has `reader`. */
 static inline size_t confluo_words(confluo_reader *reader, size_t from, uint64_t *out, size_t out_len) CONFLUO_CALL(words);
 
+/* Makes a span of the log of one reader, puts it at `span`, and makes the reader's pointer NULL: the span has the reader now, with what it
+** has seen and the words of its last answer. The thread that has the reader.
+**
+**   CONFLUO_NOTHING    the reader is NULL
+**   CONFLUO_MEMORY     the reader stays, with what it has seen and its words */
+static inline CONFLUO_CHECKED CONFLUO_NEEDS(1, 2) uint32_t confluo_span_of(confluo_reader **reader, confluo_span **span) CONFLUO_CALL(span_of);
+
+/* Adds the reader of the log that comes next, behind the others, and makes the reader's pointer NULL. From now on the span looks at that log
+** too, as soon as it has seen all records that the log before it takes: a log that is left before it is full hides those behind it. So give
+** the writers nodes enough. The thread that has `span` and the reader.
+**
+**   CONFLUO_NOTHING    `span` or the reader is NULL
+**   CONFLUO_UNLIKE     the log was opened from another text of a setup or with other sizes than those of the span; the reader stays
+**   CONFLUO_FULL       the logs would take more than 2^20 records together, as 16 of 65,536 do; the reader stays
+**   CONFLUO_MEMORY     the reader stays */
+static inline CONFLUO_CHECKED CONFLUO_NEEDS(2) uint32_t confluo_span_add(confluo_span *span, confluo_reader **reader) CONFLUO_CALL(span_add);
+
+/* Lets the first log go, with the span's reader of it. What the span sees begins with the log behind it, whose first record has the offset 0
+** then. The words of the last answer stay. The thread that has `span`.
+**
+**   CONFLUO_NOTHING    `span` leads to nothing
+**   CONFLUO_ONE_LOG    it is the only one, and stays */
+static inline CONFLUO_CHECKED uint32_t confluo_span_drop_first(confluo_span *span) CONFLUO_CALL(span_drop_first);
+
+/* Says how many logs the span has. The thread that has `span`.
+**
+**   CONFLUO_NOTHING    `span` leads to nothing */
+static inline CONFLUO_NEEDS(2) uint32_t confluo_span_logs(confluo_span *span, size_t *logs) CONFLUO_CALL(span_logs);
+
+/* As the calls of a reader with these names, on the records of all logs of the span, one after another: offsets count from the first record
+** of its first log, and a tail is how many records are seen together. What is seen is always the beginning of one history. The numbers of
+** questions and lanes are those of the setup, which all its logs have. The thread that has `span`; codes as for those calls. */
+static inline CONFLUO_NEEDS(2) uint32_t confluo_span_tail(confluo_span *span, uint32_t *tail) CONFLUO_CALL(span_tail);
+static inline CONFLUO_CHECKED CONFLUO_NEEDS(3) uint32_t
+confluo_span_ask(confluo_span *span, uint32_t question, confluo_head *head) CONFLUO_CALL(span_ask);
+static inline CONFLUO_CHECKED CONFLUO_NEEDS(3) uint32_t
+confluo_span_ask_seen(confluo_span *span, uint32_t question, confluo_head *head) CONFLUO_CALL(span_ask_seen);
+static inline CONFLUO_CHECKED CONFLUO_NEEDS(3) uint32_t
+confluo_span_groups(confluo_span *span, uint32_t lane, confluo_head *head) CONFLUO_CALL(span_groups);
+static inline CONFLUO_CHECKED CONFLUO_NEEDS(6) uint32_t
+confluo_span_row(confluo_span *span, uint32_t offset, uint32_t *number, confluo_value *values, size_t values_len,
+                 size_t *count) CONFLUO_CALL(span_row);
+static inline size_t confluo_span_words(confluo_span *span, size_t from, uint64_t *out, size_t out_len) CONFLUO_CALL(span_words);
+
 /* Copies the report of the records that the reader has seen to `text`, as far as there is room, with a byte 0 after it if there is room
 ** for that too, and says in `count` how many bytes it has. It is the text that `confluo run` prints of these records: how many they are,
 ** what each question and trigger of the setup means on them (records are shown by the numbers that they were appended with), and the
@@ -544,6 +609,7 @@ confluo_question_str(confluo_log *log, const char *name, uint32_t *number);
 typedef struct confluo_raw_log { bool full_private; void *at_private; } confluo_raw_log;
 typedef struct confluo_raw_writer { bool full_private; void *at_private; } confluo_raw_writer;
 typedef struct confluo_raw_reader { bool full_private; void *at_private; } confluo_raw_reader;
+typedef struct confluo_raw_span { bool full_private; void *at_private; } confluo_raw_span;
 
 #ifdef __cplusplus
 extern "C" {
@@ -576,6 +642,17 @@ uint32_t confluo_raw_merge(const uint64_t *one, size_t one_len, const uint64_t *
 uint32_t confluo_raw_row(confluo_raw_reader *reader, uint32_t offset, uint32_t *number, confluo_value *values, size_t values_len,
                          size_t *count) __asm__("confluo_row");
 size_t confluo_raw_words(confluo_raw_reader *reader, size_t from, uint64_t *out, size_t out_len) __asm__("confluo_words");
+uint32_t confluo_raw_span_of(confluo_raw_reader *reader, confluo_raw_span *span) __asm__("confluo_span_of");
+uint32_t confluo_raw_span_add(confluo_raw_span *span, confluo_raw_reader *reader) __asm__("confluo_span_add");
+uint32_t confluo_raw_span_drop_first(confluo_raw_span *span) __asm__("confluo_span_drop_first");
+uint32_t confluo_raw_span_logs(confluo_raw_span *span, size_t *logs) __asm__("confluo_span_logs");
+uint32_t confluo_raw_span_tail(confluo_raw_span *span, uint32_t *tail) __asm__("confluo_span_tail");
+uint32_t confluo_raw_span_ask(confluo_raw_span *span, uint32_t question, confluo_head *head) __asm__("confluo_span_ask");
+uint32_t confluo_raw_span_ask_seen(confluo_raw_span *span, uint32_t question, confluo_head *head) __asm__("confluo_span_ask_seen");
+uint32_t confluo_raw_span_groups(confluo_raw_span *span, uint32_t lane, confluo_head *head) __asm__("confluo_span_groups");
+uint32_t confluo_raw_span_row(confluo_raw_span *span, uint32_t offset, uint32_t *number, confluo_value *values, size_t values_len,
+                              size_t *count) __asm__("confluo_span_row");
+size_t confluo_raw_span_words(confluo_raw_span *span, size_t from, uint64_t *out, size_t out_len) __asm__("confluo_span_words");
 uint32_t confluo_raw_report(confluo_raw_reader *reader, uint8_t *text, size_t text_len, size_t *count) __asm__("confluo_report");
 uint32_t confluo_raw_tail(confluo_raw_reader *reader, uint32_t *tail) __asm__("confluo_tail");
 uint32_t confluo_raw_name(confluo_raw_log *log, uint32_t sort, uint32_t number, uint8_t *name, size_t name_len,
@@ -586,6 +663,7 @@ uint32_t confluo_raw_width(confluo_raw_log *log, uint64_t *width) __asm__("confl
 void confluo_raw_free_log(confluo_raw_log *log) __asm__("confluo_free_log");
 void confluo_raw_free_writer(confluo_raw_writer *writer) __asm__("confluo_free_writer");
 void confluo_raw_free_reader(confluo_raw_reader *reader) __asm__("confluo_free_reader");
+void confluo_raw_free_span(confluo_raw_span *span) __asm__("confluo_free_span");
 /* (of the C library, whose headers do not show these in strict modes) */
 long confluo_futex_private(long number, ...) __asm__("syscall");
 int confluo_clock_private(int clock, int64_t *seconds_and_nanoseconds) __asm__("clock_gettime");
@@ -609,6 +687,7 @@ struct confluo_reader {
     confluo_shared_private *shared_private;
     uint32_t passed_private;
 };
+struct confluo_span { confluo_raw_span raw_private; uint32_t passed_private; };
 
 /* A handle that was in another thread is seen as that one's last call left it. */
 static inline void confluo_begin_private(const uint32_t *passed) { (void)__atomic_load_n(passed, __ATOMIC_SEQ_CST); }
@@ -772,6 +851,12 @@ static inline void confluo_free_reader(confluo_reader *reader) {
     confluo_release_private(reader->shared_private);
     free(reader);
 }
+static inline void confluo_free_span(confluo_span *span) {
+    if (span == NULL) return;
+    confluo_begin_private(&span->passed_private);
+    confluo_raw_free_span(&span->raw_private);
+    free(span);
+}
 
 static inline uint32_t confluo_append(confluo_writer *writer, const confluo_capture *capture, const uint8_t *bytes, size_t bytes_len,
                                       uint32_t *offset) {
@@ -877,6 +962,70 @@ static inline uint32_t confluo_row(confluo_reader *reader, uint32_t offset, uint
 static inline size_t confluo_words(confluo_reader *reader, size_t from, uint64_t *out, size_t out_len) {
     uint64_t no_out;
     CONFLUO_BY(reader, size_t, 0, confluo_raw_words(&reader->raw_private, from, out_len != 0 ? out : &no_out, out_len));
+}
+/* A reader that a span has taken: what is left of it is freed. */
+static inline void confluo_taken_private(confluo_reader **reader) {
+    confluo_free_reader(*reader);
+    *reader = NULL;
+}
+static inline uint32_t confluo_span_of(confluo_reader **reader, confluo_span **span) {
+    confluo_span *made;
+    uint32_t code;
+    if (*reader == NULL) return CONFLUO_NOTHING;
+    made = (confluo_span *)confluo_made_private(sizeof *made);
+    if (made == NULL) return CONFLUO_MEMORY;
+    confluo_begin_private(&(*reader)->passed_private);
+    code = confluo_raw_span_of(&(*reader)->raw_private, &made->raw_private);
+    confluo_end_private(&(*reader)->passed_private);
+    confluo_end_private(&made->passed_private);
+    if (code != CONFLUO_OK) {
+        free(made);
+        return code;
+    }
+    confluo_taken_private(reader);
+    *span = made;
+    return code;
+}
+static inline uint32_t confluo_span_add(confluo_span *span, confluo_reader **reader) {
+    uint32_t code;
+    if (span == NULL || *reader == NULL) return CONFLUO_NOTHING;
+    confluo_begin_private(&span->passed_private);
+    confluo_begin_private(&(*reader)->passed_private);
+    code = confluo_raw_span_add(&span->raw_private, &(*reader)->raw_private);
+    confluo_end_private(&(*reader)->passed_private);
+    confluo_end_private(&span->passed_private);
+    if (code == CONFLUO_OK) confluo_taken_private(reader);
+    return code;
+}
+static inline uint32_t confluo_span_drop_first(confluo_span *span) {
+    CONFLUO_BY(span, uint32_t, CONFLUO_NOTHING, confluo_raw_span_drop_first(&span->raw_private));
+}
+static inline uint32_t confluo_span_logs(confluo_span *span, size_t *logs) {
+    CONFLUO_BY(span, uint32_t, CONFLUO_NOTHING, confluo_raw_span_logs(&span->raw_private, logs));
+}
+static inline uint32_t confluo_span_tail(confluo_span *span, uint32_t *tail) {
+    CONFLUO_BY(span, uint32_t, CONFLUO_NOTHING, confluo_raw_span_tail(&span->raw_private, tail));
+}
+static inline uint32_t confluo_span_ask(confluo_span *span, uint32_t question, confluo_head *head) {
+    CONFLUO_BY(span, uint32_t, CONFLUO_NOTHING, confluo_raw_span_ask(&span->raw_private, question, head));
+}
+static inline uint32_t confluo_span_ask_seen(confluo_span *span, uint32_t question, confluo_head *head) {
+    CONFLUO_BY(span, uint32_t, CONFLUO_NOTHING, confluo_raw_span_ask_seen(&span->raw_private, question, head));
+}
+static inline uint32_t confluo_span_groups(confluo_span *span, uint32_t lane, confluo_head *head) {
+    CONFLUO_BY(span, uint32_t, CONFLUO_NOTHING, confluo_raw_span_groups(&span->raw_private, lane, head));
+}
+static inline uint32_t confluo_span_row(confluo_span *span, uint32_t offset, uint32_t *number, confluo_value *values, size_t values_len,
+                                        size_t *count) {
+    confluo_value no_value;
+    uint32_t no_number;
+    CONFLUO_BY(span, uint32_t, CONFLUO_NOTHING,
+               confluo_raw_span_row(&span->raw_private, offset, number != NULL ? number : &no_number,
+                                    values_len != 0 ? values : &no_value, values_len, count));
+}
+static inline size_t confluo_span_words(confluo_span *span, size_t from, uint64_t *out, size_t out_len) {
+    uint64_t no_out;
+    CONFLUO_BY(span, size_t, 0, confluo_raw_span_words(&span->raw_private, from, out_len != 0 ? out : &no_out, out_len));
 }
 static inline uint32_t confluo_ended_private(uint32_t code, char *text, size_t room, const size_t *count) {
     if (code == CONFLUO_OK && *count < room) text[*count] = 0;
@@ -1023,7 +1172,7 @@ static inline uint32_t confluo_question_str(confluo_log *log, const char *name, 
 CONFLUO_IS(sizeof(bool) == 1 && sizeof(void *) == 8 && sizeof(size_t) == 8);
 CONFLUO_IS(sizeof(confluo_raw_log) == 16 && sizeof(confluo_raw_writer) == 16 && sizeof(confluo_raw_reader) == 16);
 CONFLUO_IS(offsetof(confluo_raw_log, at_private) == 8 && offsetof(confluo_raw_writer, at_private) == 8);
-CONFLUO_IS(offsetof(confluo_raw_reader, at_private) == 8);
+CONFLUO_IS(sizeof(confluo_raw_span) == 16 && offsetof(confluo_raw_reader, at_private) == 8 && offsetof(confluo_raw_span, at_private) == 8);
 CONFLUO_IS(sizeof(confluo_sizes) == 16 && sizeof(confluo_fault) == 8 && sizeof(confluo_capture) == 24);
 CONFLUO_IS(sizeof(confluo_frame) == 40 && sizeof(confluo_value) == 32 && sizeof(confluo_about) == 40);
 CONFLUO_IS(sizeof(confluo_room) == 16 && sizeof(confluo_head) == 16 && offsetof(confluo_head, count) == 8);

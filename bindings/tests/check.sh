@@ -60,7 +60,7 @@ for flags in -O2 -fsanitize=address,undefined -fsanitize=thread; do
     done
     build page "$flags" "$folder/page.c"
     [ "$("$folder/page")" = "2000 records, 120000 bytes" ] || { echo "check-c: the example of docs/LIBRARY.md prints something else"; exit 1; }
-    for name in calls asks names batches closes inline raw waits threads; do
+    for name in calls asks names batches closes inline raw waits threads spans; do
         build $name "$flags" "$here/$name.c"
         "$folder/$name"
     done

@@ -38,7 +38,37 @@ static void nothing_is_given(void) {
     is(confluo_merge(NULL, 0, NULL, 0, NULL, 0, &count), CONFLUO_OK, "no groups");
     is(count, 0, "no groups");
     confluo_free_writer(writer), confluo_free_reader(reader), confluo_free_log(log);
-    confluo_free_writer(NULL), confluo_free_reader(NULL), confluo_free_log(NULL);
+    confluo_free_writer(NULL), confluo_free_reader(NULL), confluo_free_span(NULL), confluo_free_log(NULL);
+}
+
+static void a_span_has_its_readers(void) {
+    parts it = parts_of("schema records ts:u64\nask all list *\n", 1, 0), next = parts_of("schema records ts:u64\nask all list *\n", 1, 0);
+    confluo_reader *none = NULL;
+    confluo_span *span = NULL;
+    confluo_head head;
+    uint64_t words[2] = {7, 7};
+    size_t count = 7;
+    is(confluo_append_values(it.writer, 5, (const uint64_t[]){1000}, 1, NULL), CONFLUO_OK, "append");
+    is(confluo_append_values(next.writer, 6, (const uint64_t[]){2000}, 1, NULL), CONFLUO_OK, "append");
+    is(confluo_span_of(&none, &span), CONFLUO_NOTHING, "a span of nothing");
+    is(confluo_span_add(NULL, &it.reader), CONFLUO_NOTHING, "add to nothing");
+    is(confluo_span_of(&it.reader, &span), CONFLUO_OK, "span");
+    is(confluo_span_add(span, &none), CONFLUO_NOTHING, "add nothing");
+    is(confluo_span_add(span, &next.reader), CONFLUO_OK, "add");
+    is(it.reader == NULL && next.reader == NULL, 1, "the span has both");
+    is(confluo_span_ask(span, 0, &head), CONFLUO_OK, "ask");
+    is(head.tail, 2, "its tail");
+    is(confluo_span_words(span, 0, words, 2), 2, "its words");
+    is(words[1], 1, "a place in the second log");
+    is(confluo_span_words(span, 0, NULL, 0), 0, "no words");
+    is(confluo_span_row(span, 1, NULL, NULL, 0, &count), CONFLUO_OK, "row");
+    is(count, 1, "row");
+    is(confluo_span_drop_first(span), CONFLUO_OK, "drop the first");
+    is(confluo_span_logs(span, &count), CONFLUO_OK, "logs");
+    is(count, 1, "one log");
+    is(confluo_span_drop_first(span), CONFLUO_ONE_LOG, "drop the only one");
+    confluo_free_span(span);
+    free_parts(&it), free_parts(&next);
 }
 
 static void texts(void) {
@@ -157,6 +187,7 @@ static void addresses(void) {
 
 int main(void) {
     nothing_is_given();
+    a_span_has_its_readers();
     texts();
     a_line_is_line_1();
     texts_that_end_with_0();

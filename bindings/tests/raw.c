@@ -14,6 +14,7 @@ static void *handles(void *given) {
     confluo_raw_log log = {false, NULL};
     confluo_raw_writer writer = {false, NULL};
     confluo_raw_reader reader = {false, NULL};
+    confluo_raw_span span = {false, NULL};
     confluo_head head;
     confluo_fault fault = {7, 7};
     uint32_t number = 7, offset = 7;
@@ -40,6 +41,15 @@ static void *handles(void *given) {
     is(confluo_raw_close(&log, &reader), CONFLUO_NOTHING, "close twice");
     is(confluo_raw_ask_seen(&reader, 0, &head), CONFLUO_OK, "ask by the last reader");
     is(head.tail, 1, "its tail");
+    is(confluo_raw_span_add(&span, &reader), CONFLUO_NOTHING, "add to nothing");
+    is(confluo_raw_ask_seen(&reader, 0, &head), CONFLUO_OK, "ask by the reader, which stays");
+    is(confluo_raw_span_of(&reader, &span), CONFLUO_OK, "a span of the reader");
+    is(confluo_raw_ask_seen(&reader, 0, &head), CONFLUO_NOTHING, "ask by the reader that the span has");
+    is(confluo_raw_span_of(&reader, &span), CONFLUO_NOTHING, "a span of nothing");
+    is(confluo_raw_span_add(&span, &reader), CONFLUO_NOTHING, "add nothing");
+    is(confluo_raw_span_ask(&span, 0, &head), CONFLUO_OK, "ask by the span that it keeps");
+    is(head.tail, 1, "its tail");
+    confluo_raw_free_span(&span), confluo_raw_free_span(&span);
     confluo_raw_free_reader(&reader), confluo_raw_free_reader(&reader);
     confluo_raw_free_log(&log), confluo_raw_free_log(&log);
     return given;

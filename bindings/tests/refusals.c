@@ -23,16 +23,17 @@ static const char setup[] =
 typedef struct parts {
     confluo_log *log;
     confluo_writer *writer;
-    confluo_reader *reader, *last;
-    uint32_t number, named, offsets[4];
+    confluo_reader *reader, *last, *other;
+    confluo_span *span;
+    uint32_t number, named, spanned, offsets[4];
     size_t done; /* of a batch */
-    confluo_head head;
+    confluo_head head, all, groups;
     confluo_value row[20];
     char text[200];
     size_t long_is;
 } parts;
 
-enum { STEPS = 18 };
+enum { STEPS = 25 };
 
 /* Frames 2 and 3 of the log, but for what is appended of them. */
 static uint32_t append_batch(parts *at) {
@@ -77,9 +78,16 @@ static uint32_t call(parts *at, int step) {
     case 12: return confluo_ask_text(at->reader, "ask new list *", 14, &at->head, &fault);
     case 13: return confluo_ask_seen(at->reader, 1, &at->head);
     case 14: return confluo_reads_link(at->log, 1);
-    case 15: confluo_free_writer(at->writer), at->writer = NULL; return confluo_close(at->log, &at->last);
-    case 16: return confluo_reader_number(at->last, CONFLUO_QUESTIONS, "all", &at->named);
-    default: return confluo_report(at->last, at->text, sizeof at->text, &at->long_is);
+    case 15: return confluo_take_reader(at->log, &at->other);
+    case 16: confluo_free_writer(at->writer), at->writer = NULL; return confluo_close(at->log, &at->last);
+    case 17: return confluo_reader_number(at->last, CONFLUO_QUESTIONS, "all", &at->named);
+    case 18: return confluo_report(at->last, at->text, sizeof at->text, &at->long_is);
+    case 19: return confluo_span_of(&at->last, &at->span);
+    case 20: return confluo_span_add(at->span, &at->other);
+    case 21: return confluo_span_ask(at->span, 1, &at->all);
+    case 22: return confluo_span_groups(at->span, 1, &at->groups);
+    case 23: return confluo_span_row(at->span, 2, &at->spanned, at->row, 20, &count);
+    default: return confluo_span_ask_seen(at->span, 1, &at->all);
     }
 }
 
@@ -109,6 +117,7 @@ int main(void) {
         const size_t count = confluo_words(at.reader, 0, words, 5);
         int wrong = step != STEPS || at.head.tail != 4 || count != 4 || at.number != 5 || at.named != 1 || words[3] != 3;
         wrong |= at.long_is < 9 || memcmp(at.text, "records 4", 9) != 0;
+        wrong |= at.all.tail != 4 || at.all.count != 4 || at.groups.count == 0 || at.spanned != 5 || at.last != NULL || at.other != NULL;
         for (uint32_t k = 0; k < 4; k++) wrong |= at.offsets[k] != k || words[k] != k;
         if (wrong) {
             fprintf(stderr, "refusals: allocation %ld, step %d\n", tries, step);
@@ -118,6 +127,8 @@ int main(void) {
         confluo_free_log(at.log);
         confluo_free_reader(at.reader);
         confluo_free_reader(at.last);
+        confluo_free_reader(at.other);
+        confluo_free_span(at.span);
     }
     printf("refusals: %ld allocations, each refused once; by call", tries);
     for (int k = 0; k < STEPS; k++) printf(" %ld", refused[k]);

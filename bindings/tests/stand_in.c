@@ -12,7 +12,7 @@
 #define CONFLUO_STAND_IN_VERSION CONFLUO_VERSION
 #endif
 
-enum { MOST = 24 };
+enum { MOST = 24, MOST_LOGS = 16 };
 typedef struct {
     char name[33];
     uint32_t kind, of; /* of an attribute its bits; of a question its kind and attribute */
@@ -35,6 +35,11 @@ typedef struct {
     uint64_t *words;
     size_t count;
 } part;
+/* The readers of a span, of which the first has the words. A reader by itself answers as a span of one. */
+typedef struct {
+    part *parts[MOST_LOGS];
+    size_t count;
+} spanned;
 
 static pthread_mutex_t lock = PTHREAD_MUTEX_INITIALIZER;
 
@@ -227,28 +232,43 @@ uint32_t confluo_raw_room_of(confluo_raw_writer *writer, confluo_room *room) {
     return CONFLUO_OK;
 }
 
-static uint32_t answer(part *it, const thing *question, confluo_head *head) {
-    shared *log = it->log;
+static uint32_t seen_by(const spanned *span) {
+    uint32_t seen = 0;
+    for (size_t k = 0; k < span->count && seen == k * span->parts[0]->log->capacity; k++) seen += span->parts[k]->seen;
+    return seen;
+}
+static const record *record_at(const spanned *span, uint32_t offset) {
+    const uint32_t capacity = span->parts[0]->log->capacity;
+    return &span->parts[offset / capacity]->log->records[offset % capacity];
+}
+static uint32_t answer_of(const spanned *span, const thing *question, confluo_head *head) {
+    part *it = span->parts[0];
+    const uint32_t seen = seen_by(span);
     const bool is_total = question->kind == 6;
-    it->count = is_total ? 4 : it->seen;
+    it->count = is_total ? 4 : seen;
     it->words = realloc(it->words, (it->count + 1) * sizeof *it->words);
     uint64_t *quad = it->words;
-    for (uint32_t k = 0; k < it->seen && !is_total; k++) it->words[k] = k;
+    for (uint32_t k = 0; k < seen && !is_total; k++) it->words[k] = k;
     if (is_total) memset(quad, 0, 4 * sizeof *quad);
-    for (uint32_t k = 0; k < it->seen && is_total; k++) {
-        const uint64_t value = log->records[k].values[question->of];
+    for (uint32_t k = 0; k < seen && is_total; k++) {
+        const uint64_t value = record_at(span, k)->values[question->of];
         quad[0]++, quad[1] += value;
         if (k == 0 || value < quad[2]) quad[2] = value;
         if (value > quad[3]) quad[3] = value;
     }
-    *head = (confluo_head){it->seen, is_total ? CONFLUO_QUAD : CONFLUO_PLACES, it->count};
+    *head = (confluo_head){seen, is_total ? CONFLUO_QUAD : CONFLUO_PLACES, it->count};
     return CONFLUO_OK;
+}
+static uint32_t answer(part *it, const thing *question, confluo_head *head) { return answer_of(&(spanned){{it}, 1}, question, head); }
+static uint32_t tail_of(part *it) {
+    pthread_mutex_lock(&lock);
+    it->seen = it->log->count;
+    pthread_mutex_unlock(&lock);
+    return it->seen;
 }
 uint32_t confluo_raw_tail(confluo_raw_reader *reader, uint32_t *tail) {
     if (!reader->full_private) return CONFLUO_NOTHING;
-    pthread_mutex_lock(&lock);
-    *tail = ((part *)reader->at_private)->seen = LOG(reader)->count;
-    pthread_mutex_unlock(&lock);
+    *tail = tail_of(reader->at_private);
     return CONFLUO_OK;
 }
 uint32_t confluo_raw_ask_seen(confluo_raw_reader *reader, uint32_t question, confluo_head *head) {
@@ -283,20 +303,97 @@ uint32_t confluo_raw_merge(const uint64_t *one, size_t one_len, const uint64_t *
     *count = one_len + other_len;
     return CONFLUO_OK;
 }
-uint32_t confluo_raw_row(confluo_raw_reader *reader, uint32_t offset, uint32_t *number, confluo_value *values, size_t values_len,
-                         size_t *count) {
-    if (!reader->full_private) return CONFLUO_NOTHING;
-    if (offset >= ((part *)reader->at_private)->seen) return CONFLUO_NO_ROW;
-    const record *it = &LOG(reader)->records[offset];
-    *number = it->number, *count = LOG(reader)->attributes;
+static uint32_t row_of(const spanned *span, uint32_t offset, uint32_t *number, confluo_value *values, size_t values_len, size_t *count) {
+    if (offset >= seen_by(span)) return CONFLUO_NO_ROW;
+    const record *it = record_at(span, offset);
+    *number = it->number, *count = span->parts[0]->log->attributes;
     for (size_t k = 0; k < *count && k < values_len; k++) values[k] = (confluo_value){.number = it->values[k]};
     return CONFLUO_OK;
 }
-size_t confluo_raw_words(confluo_raw_reader *reader, size_t from, uint64_t *out, size_t out_len) {
-    const part *it = reader->full_private ? reader->at_private : NULL;
+uint32_t confluo_raw_row(confluo_raw_reader *reader, uint32_t offset, uint32_t *number, confluo_value *values, size_t values_len,
+                         size_t *count) {
+    if (!reader->full_private) return CONFLUO_NOTHING;
+    return row_of(&(spanned){{reader->at_private}, 1}, offset, number, values, values_len, count);
+}
+static size_t words_of(const part *it, size_t from, uint64_t *out, size_t out_len) {
     const size_t left = it && from < it->count ? it->count - from : 0, count = left < out_len ? left : out_len;
     if (count) memcpy(out, it->words + from, count * sizeof *out);
     return count;
+}
+size_t confluo_raw_words(confluo_raw_reader *reader, size_t from, uint64_t *out, size_t out_len) {
+    return words_of(reader->full_private ? reader->at_private : NULL, from, out, out_len);
+}
+
+void confluo_raw_free_span(confluo_raw_span *span) {
+    spanned *it = span->full_private ? span->at_private : NULL;
+    for (size_t k = 0; it && k < it->count; k++) confluo_raw_free_reader(&(confluo_raw_reader){true, it->parts[k]});
+    free(it);
+    *span = (confluo_raw_span){false, NULL};
+}
+uint32_t confluo_raw_span_of(confluo_raw_reader *reader, confluo_raw_span *span) {
+    if (!reader->full_private) return CONFLUO_NOTHING;
+    spanned *made = calloc(1, sizeof *made);
+    made->parts[0] = reader->at_private, made->count = 1;
+    *reader = (confluo_raw_reader){false, NULL};
+    confluo_raw_free_span(span);
+    *span = (confluo_raw_span){true, made};
+    return CONFLUO_OK;
+}
+uint32_t confluo_raw_span_add(confluo_raw_span *span, confluo_raw_reader *reader) {
+    if (!span->full_private || !reader->full_private) return CONFLUO_NOTHING;
+    spanned *it = span->at_private;
+    const shared *one = it->parts[0]->log, *other = LOG(reader);
+    const bool is_like = one->capacity == other->capacity && one->writers == other->writers && one->attributes == other->attributes;
+    if (!is_like || one->questions != other->questions) return CONFLUO_UNLIKE;
+    if (it->count == MOST_LOGS || (it->count + 1) * one->capacity > 1 << 20) return CONFLUO_FULL;
+    it->parts[it->count++] = reader->at_private;
+    *reader = (confluo_raw_reader){false, NULL};
+    return CONFLUO_OK;
+}
+uint32_t confluo_raw_span_drop_first(confluo_raw_span *span) {
+    if (!span->full_private) return CONFLUO_NOTHING;
+    spanned *it = span->at_private;
+    part *first = it->parts[0];
+    if (it->count == 1) return CONFLUO_ONE_LOG;
+    memmove(it->parts, it->parts + 1, --it->count * sizeof *it->parts);
+    uint64_t *const words = it->parts[0]->words;
+    it->parts[0]->words = first->words, it->parts[0]->count = first->count, first->words = words;
+    confluo_raw_free_reader(&(confluo_raw_reader){true, first});
+    return CONFLUO_OK;
+}
+uint32_t confluo_raw_span_logs(confluo_raw_span *span, size_t *logs) {
+    if (!span->full_private) return CONFLUO_NOTHING;
+    *logs = ((spanned *)span->at_private)->count;
+    return CONFLUO_OK;
+}
+uint32_t confluo_raw_span_tail(confluo_raw_span *span, uint32_t *tail) {
+    if (!span->full_private) return CONFLUO_NOTHING;
+    spanned *it = span->at_private;
+    for (size_t k = 0; k < it->count && tail_of(it->parts[k]) == it->parts[k]->log->capacity;) k++;
+    *tail = seen_by(it);
+    return CONFLUO_OK;
+}
+uint32_t confluo_raw_span_ask_seen(confluo_raw_span *span, uint32_t question, confluo_head *head) {
+    if (!span->full_private) return CONFLUO_NOTHING;
+    const spanned *it = span->at_private;
+    const shared *log = it->parts[0]->log;
+    return question < log->questions ? answer_of(it, &log->question[question], head) : (uint32_t)CONFLUO_NO_QUESTION;
+}
+uint32_t confluo_raw_span_ask(confluo_raw_span *span, uint32_t question, confluo_head *head) {
+    uint32_t tail, code = confluo_raw_span_tail(span, &tail);
+    return code ? code : confluo_raw_span_ask_seen(span, question, head);
+}
+uint32_t confluo_raw_span_groups(confluo_raw_span *span, uint32_t lane, confluo_head *head) {
+    (void)lane, (void)head;
+    return span->full_private ? CONFLUO_NO_LANE : CONFLUO_NOTHING;
+}
+uint32_t confluo_raw_span_row(confluo_raw_span *span, uint32_t offset, uint32_t *number, confluo_value *values, size_t values_len,
+                              size_t *count) {
+    if (!span->full_private) return CONFLUO_NOTHING;
+    return row_of(span->at_private, offset, number, values, values_len, count);
+}
+size_t confluo_raw_span_words(confluo_raw_span *span, size_t from, uint64_t *out, size_t out_len) {
+    return words_of(span->full_private ? ((spanned *)span->at_private)->parts[0] : NULL, from, out, out_len);
 }
 uint32_t confluo_raw_report(confluo_raw_reader *reader, uint8_t *text, size_t text_len, size_t *count) {
     char said[40];

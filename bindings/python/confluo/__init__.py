@@ -7,7 +7,8 @@
         writer.append_values(0, [1000, 7, 60])
         print(reader.ask("all").words)
 
-A log has a fixed number of writers, each for one thread at a time, and any number of readers. Each object has a
+A log has a fixed number of writers, each for one thread at a time, and any number of readers. A Span asks logs that follow one another
+as one. Each object has a
 lock, so an object may be used from several threads; different objects of one log run at the same time. Numbers that
 do not fit are refused with ValueError, and never cut. What the library refuses is an Error, with its code. In a
 forked child the objects of the parent must not be used, and they refuse to be; open a log of its own there. Do not
@@ -20,7 +21,7 @@ each call does.
 
 from .answers import Answer, Kind, Quad
 from .errors import Code, Error, SetupError
-from .log import Appended, Frame, Log, Reader, Room, Row, Writer, check, version
+from .log import Appended, Frame, Log, Reader, Room, Row, Span, Writer, check, version
 from .names import Attribute, Lane, Names, Question, Trigger
 from .over import Over, over
 
@@ -42,6 +43,7 @@ __all__ = [
     "Room",
     "Row",
     "SetupError",
+    "Span",
     "Trigger",
     "Writer",
     "check",

@@ -9,7 +9,7 @@ import pathlib
 from typing import Any, Iterable, Sequence, SupportsIndex, Union
 
 SHARED = "libconfluo.so.0"
-VERSION = 22001  # CONFLUO_VERSION of the header that this package is written for
+VERSION = 23000  # CONFLUO_VERSION of the header that this package is written for
 
 WORD, LONG, SIZE, TEXT = ctypes.c_uint32, ctypes.c_uint64, ctypes.c_size_t, ctypes.c_char_p
 TO = ctypes.POINTER
@@ -84,6 +84,16 @@ CALLS = {
     "merge": (WORD, [TO(LONG), SIZE, TO(LONG), SIZE, TO(LONG), SIZE, TO(SIZE)]),
     "row": (WORD, [TO(Handle), WORD, TO(WORD), TO(ValueOf), SIZE, TO(SIZE)]),
     "words": (SIZE, [TO(Handle), SIZE, TO(LONG), SIZE]),
+    "span_of": (WORD, [TO(Handle), TO(Handle)]),
+    "span_add": (WORD, [TO(Handle), TO(Handle)]),
+    "span_drop_first": (WORD, [TO(Handle)]),
+    "span_logs": (WORD, [TO(Handle), TO(SIZE)]),
+    "span_tail": (WORD, [TO(Handle), TO(WORD)]),
+    "span_ask": (WORD, [TO(Handle), WORD, TO(Head)]),
+    "span_ask_seen": (WORD, [TO(Handle), WORD, TO(Head)]),
+    "span_groups": (WORD, [TO(Handle), WORD, TO(Head)]),
+    "span_row": (WORD, [TO(Handle), WORD, TO(WORD), TO(ValueOf), SIZE, TO(SIZE)]),
+    "span_words": (SIZE, [TO(Handle), SIZE, TO(LONG), SIZE]),
     "report": (WORD, [TO(Handle), TEXT, SIZE, TO(SIZE)]),
     "tail": (WORD, [TO(Handle), TO(WORD)]),
     "name": (WORD, [TO(Handle), WORD, WORD, TEXT, SIZE, TO(SIZE)]),
@@ -93,6 +103,7 @@ CALLS = {
     "free_log": (None, [TO(Handle)]),
     "free_writer": (None, [TO(Handle)]),
     "free_reader": (None, [TO(Handle)]),
+    "free_span": (None, [TO(Handle)]),
 }
 
 

@@ -28,6 +28,8 @@ class Code(enum.IntEnum):
     NO_NAME = 13
     NO_GROUPS = 14
     BUSY = 15
+    UNLIKE = 16
+    ONE_LOG = 17
 
 
 # The rule that a line of a setup breaks, by the code of its fault (docs/FORMATS.md).

@@ -1,4 +1,4 @@
-"""Logs, writers and readers."""
+"""Logs, writers, readers and spans of readers."""
 
 from __future__ import annotations
 
@@ -268,44 +268,37 @@ class Writer(Part):
         return Room(room.capacity, room.covered, room.nodes_left)
 
 
-class Reader(Part):
-    """A reader of a log."""
+class Asks(Part):
+    """What a reader and a span answer. Their calls of the library have one name, behind `_calls`."""
 
-    _free = "free_reader"
+    _calls = ""
 
-    def __init__(self, names: Names, waits: Waits) -> None:
+    def __init__(self, names: Names) -> None:
         super().__init__()
-        self.names, self._waits = names, waits
+        self.names = names
 
     def ask(self, question: Union[str, int]) -> Answer:
         """The answer to a question of the setup, given by its name or its number, on all records below the tail."""
         return self._answer("ask", self.names.number("questions", question))
 
-    def ask_text(self, line: Union[str, BytesLike]) -> Answer:
-        """The answer to the question that a line of the setup's language says, as one more line of the setup, which must have fewer than
-        32; its name must be new. SetupError if the line is faulty, Error with NO_QUESTION if it is no question.
-        """
-        text = text_of(line)
-        return self._answer("ask_text", text, len(text), fault=calls.Fault())
-
     def ask_seen(self, question: Union[str, int]) -> Answer:
-        """The same on the records that the reader has seen: those below the tail that `tail` or `ask` found last."""
+        """The same on the records that it has seen: those below the tail that `tail` or `ask` found last."""
         return self._answer("ask_seen", self.names.number("questions", question))
 
     def groups(self, lane: Union[str, int]) -> Answer:
-        """All groups of an aggregate or a tally, given by its name or its number, on the records that the reader has seen. Those of an
+        """All groups of an aggregate or a tally, given by its name or its number, on the records that it has seen. Those of an
         aggregate by a key are the answer to a question."""
         return self._answer("groups", self.names.number("lanes", lane))
 
     def row(self, offset: int) -> Row:
-        """The record at an offset that the reader has seen."""
+        """The record at an offset that it has seen."""
         number, count, values = WORD(), SIZE(), (calls.ValueOf * 32)()
-        self._call("row", checked(offset, 32, "offset"), number, values, 32, count)
+        self._call(self._calls + "row", checked(offset, 32, "offset"), number, values, 32, count)
         found = [bytes(it.bytes[: it.length]) if it.kind else it.number for it in values[: count.value]]
         return Row(number.value, dict(zip((it.name for it in self.names.attributes), found)))
 
     def rows(self, offsets: Optional[Iterable[int]] = None) -> Iterator[Row]:
-        """The records at these offsets, read one by one; without them all that the reader has seen."""
+        """The records at these offsets, read one by one; without them all that it has seen."""
         if offsets is not None:
             yield from map(self.row, offsets)
             return
@@ -333,15 +326,38 @@ class Reader(Part):
         self._check()
         head = calls.Head()
         with self._lock:
-            code = call(name)(self._handle, *words, head, *([] if fault is None else [fault]))
+            code = call(self._calls + name)(self._handle, *words, head, *([] if fault is None else [fault]))
             if fault is not None and fault.line:
                 fault.line = 1  # the library counts the line on from the setup's
             wanted(code, fault)
             found = (LONG * max(1, head.count))()
-            count = call("words")(self._handle, 0, found, head.count)
+            count = call(self._calls + "words")(self._handle, 0, found, head.count)
         return Answer(
             head.tail, head.kind, arrays.array("Q", memoryview(found).cast("B")[: 8 * count].tobytes())
         )
+
+    def tail(self) -> int:
+        """How many records are below the tail now."""
+        tail = WORD()
+        self._call(self._calls + "tail", tail)
+        return tail.value
+
+
+class Reader(Asks):
+    """A reader of a log."""
+
+    _free = "free_reader"
+
+    def __init__(self, names: Names, waits: Waits) -> None:
+        super().__init__(names)
+        self._waits = waits
+
+    def ask_text(self, line: Union[str, BytesLike]) -> Answer:
+        """The answer to the question that a line of the setup's language says, as one more line of the setup, which must have fewer than
+        32; its name must be new. SetupError if the line is faulty, Error with NO_QUESTION if it is no question.
+        """
+        text = text_of(line)
+        return self._answer("ask_text", text, len(text), fault=calls.Fault())
 
     def report(self) -> str:
         """The report of the records that the reader has seen, as `confluo run` prints it: how many they are, what each question and trigger
@@ -356,12 +372,6 @@ class Reader(Part):
                 wanted(call("report")(self._handle, text, len(text), count))
         return text.raw[: count.value].decode("ascii")
 
-    def tail(self) -> int:
-        """How many records are below the tail now."""
-        tail = WORD()
-        self._call("tail", tail)
-        return tail.value
-
     def wait(self, after: int, seconds: Optional[float] = None) -> int:
         """Waits until more than `after` records are below the tail, the log is closed by `finish`, or so many seconds have gone by, and
         answers how many are below the tail then. The thread sleeps meanwhile."""
@@ -373,3 +383,42 @@ class Reader(Part):
             finally:
                 waits.count -= 1
         return self.tail()
+
+
+class Span(Asks):
+    """Readers of logs of one setup and the same sizes, each of which goes on where the one before is full, made of the reader of the first
+    log. It answers as one reader of one log that has the records of all: offsets count from the first record of the first log, and a tail
+    is how many records are seen together. A log is looked at as soon as all records are seen that the log before it takes, so one that is
+    left before it is full hides those behind it. A rolling log keeps the last so many:
+
+        span.add(next_log.reader())
+        if len(span) > 8:
+            span.drop_first()
+    """
+
+    _free = "free_span"
+    _calls = "span_"
+
+    def __init__(self, reader: Reader) -> None:
+        super().__init__(reader.names)
+        reader._check()
+        with reader._lock:
+            wanted(call("span_of")(reader._handle, self._handle))
+
+    def add(self, reader: Reader) -> None:
+        """Adds the reader of the log that comes next, which is the span's then: its own calls are refused with NOTHING. Error with UNLIKE
+        if its log was opened from another text of a setup or with other sizes, with FULL if the logs would take more than 2^20 records
+        together; then the reader stays."""
+        self._check()
+        with self._lock, reader._lock:
+            wanted(call("span_add")(self._handle, reader._handle))
+
+    def drop_first(self) -> None:
+        """Lets the first log go; Error with ONE_LOG if it is the only one. Offsets count from the log behind it then."""
+        self._call("span_drop_first")
+
+    def __len__(self) -> int:
+        """How many logs it has."""
+        logs = SIZE()
+        self._call("span_logs", logs)
+        return logs.value

@@ -54,6 +54,41 @@ class Forms(unittest.TestCase):
         with self.assertRaises(confluo.Error):
             list(self.reader.rows([3]))
 
+    def test_spans_ask_logs_as_one(self):
+        logs = [confluo.Log(SETUP, capacity=2) for _ in range(3)]
+        for k in range(6):
+            with logs[k // 2].writer() as writer:
+                writer.append_values(k, [1000 * k, 60 + k])
+        first = logs[0].reader()
+        with confluo.Span(first) as span:
+            with self.assertRaises(confluo.Error) as caught:
+                first.tail()
+            self.assertEqual(caught.exception.code, confluo.Code.NOTHING)
+            span.add(logs[1].reader())
+            self.assertEqual((len(span), span.tail(), span.ask("some").words), (2, 4, [0, 1, 2, 3]))
+            span.add(logs[2].reader())
+            self.assertEqual(span.ask_seen("some").words, [0, 1, 2, 3])
+            self.assertEqual(span.ask("all").rows, [confluo.Quad(6, 375, 60, 65)])
+            self.assertEqual(span.row(3), confluo.Row(3, {"ts": 3000, "len": 63}))
+            self.assertEqual([it.number for it in span.rows()], list(range(6)))
+            span.drop_first(), span.drop_first()
+            self.assertEqual((len(span), span.ask("some").words), (1, [0, 1]))
+            other = confluo.Log(SETUP, capacity=3).reader()
+            cases = [
+                (confluo.Code.ONE_LOG, span.drop_first),
+                (confluo.Code.UNLIKE, lambda: span.add(other)),
+                (confluo.Code.NOTHING, lambda: span.add(first)),
+                (confluo.Code.NOTHING, lambda: confluo.Span(first)),
+                (confluo.Code.NO_QUESTION, lambda: span.ask(7)),
+                (confluo.Code.NO_LANE, lambda: span.groups(0)),
+                (confluo.Code.NO_ROW, lambda: span.row(2)),
+            ]
+            for code, call in cases:
+                with self.subTest(code=code), self.assertRaises(confluo.Error) as caught:
+                    call()
+                self.assertEqual(caught.exception.code, code)
+            self.assertEqual(other.tail(), 0)
+
     def test_records_are_a_frame(self):
         try:
             import pandas  # noqa: F401

@@ -51,6 +51,10 @@ pub enum Code {
     NoGroups,
     /// A writer of the log is taken.
     Busy,
+    /// The log of the reader has another setup or other sizes than those of the span.
+    Unlike,
+    /// The span has one log, which stays.
+    OneLog,
     /// A code that this crate does not know, or that the call does not answer in the version that it was written for.
     Unknown(u32),
 }
@@ -73,6 +77,8 @@ impl Code {
             raw::NO_ROW => Code::NoRow,
             raw::NO_GROUPS => Code::NoGroups,
             raw::BUSY => Code::Busy,
+            raw::UNLIKE => Code::Unlike,
+            raw::ONE_LOG => Code::OneLog,
             other => Code::Unknown(other),
         }
     }
@@ -94,6 +100,8 @@ impl Code {
             Code::NoRow => raw::NO_ROW,
             Code::NoGroups => raw::NO_GROUPS,
             Code::Busy => raw::BUSY,
+            Code::Unlike => raw::UNLIKE,
+            Code::OneLog => raw::ONE_LOG,
             Code::Unknown(number) => number,
         }
     }
@@ -262,6 +270,20 @@ errors! {
         Memory = MEMORY,
         /// A writer of the log is taken.
         Busy = BUSY,
+    }
+    /// Why a span was not made.
+    SpanError {
+        /// Out of memory.
+        Memory = MEMORY,
+    }
+    /// Why a reader was not added to a span.
+    AddError {
+        /// Out of memory.
+        Memory = MEMORY,
+        /// Its log was opened from another text of a setup or with other sizes than those of the span.
+        Unlike = UNLIKE,
+        /// The logs would take more than 2^20 records together.
+        Full = FULL,
     }
     /// Why a report was not made.
     ReportError {
@@ -474,7 +496,7 @@ mod tests {
     fn versions_fit() {
         let cases = [
             (21_999, false),
-            (22_001, true),
+            (23_000, true),
             (29_007, true),
             (999_999, true),
             (1_000_000, false),
@@ -483,7 +505,7 @@ mod tests {
             assert_eq!(fits(version), wanted, "{version}");
         }
         let said = OpenError::Version(3_002).to_string();
-        assert!(said.starts_with("libconfluo has version 0.3.2, and this crate needs 0.22.1"));
+        assert!(said.starts_with("libconfluo has version 0.3.2, and this crate needs 0.23.0"));
     }
 
     #[test]

@@ -3,7 +3,7 @@
 //! A [`Log`] is opened from the text of a setup, which names what is kept and what is asked. It takes a fixed number of
 //! records, at most 65,536. A [`Writer`] appends records, a [`Reader`] asks the questions of the setup; each may run in
 //! a thread of its own at the same time as all others, and none takes a lock. An [`Answer`] is exactly the
-//! question's meaning on the records below the tail that it names.
+//! question's meaning on the records below the tail that it names. A [`Span`] asks logs that follow one another as one.
 //!
 //! ```
 //! use confluo::{Body, Log, Sizes};
@@ -33,7 +33,7 @@
 //!
 //! # Threads
 //!
-//! A log, a writer and a reader may be sent to another thread, by any means, and are used by one thread at a time: they
+//! A log, a writer, a reader and a span may be sent to another thread, by any means, and are used by one thread at a time: they
 //! are [`Send`] and not [`Sync`]. They may be dropped in any order; the memory of a log goes with the last of them. A
 //! forked child of a process that had threads must not use those of its parent. The deepest call takes less than 64 KiB
 //! of stack.
@@ -61,17 +61,19 @@ mod raw;
 mod reader;
 mod row;
 mod shared;
+mod span;
 mod writer;
 
 pub use answer::{merge, Answer, Body, Group, Groups, KeyedGroup, KeyedMark, Mark, Quad, Top};
 pub use error::{
-    AppendError, AskError, CloseError, Code, Error, Fault, GroupsError, LineError, MergeError, OpenError, ReportError,
-    RowError, TakeError,
+    AddError, AppendError, AskError, CloseError, Code, Error, Fault, GroupsError, LineError, MergeError, OpenError,
+    ReportError, RowError, SpanError, TakeError,
 };
 pub use log::{check, Log, Sizes};
 pub use names::{Asks, Attribute, Lane, LaneKind, Op, Part, Question, Setup, Trigger};
 pub use reader::{Reader, Rows};
 pub use row::{Row, Value};
+pub use span::Span;
 pub use writer::{Appended, Batch, Capture, Room, Writer};
 
 /// The examples of the documents, which are run as those of the crate are, where they are.

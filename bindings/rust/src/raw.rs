@@ -43,6 +43,7 @@ handles! {
     Log: confluo_free_log;
     Writer: confluo_free_writer;
     Reader: confluo_free_reader;
+    Span: confluo_free_span;
 }
 
 #[repr(C)]
@@ -116,7 +117,7 @@ pub struct Head {
 }
 
 /// `CONFLUO_VERSION` of the header that this crate is written for.
-pub const VERSION: u32 = 22_001;
+pub const VERSION: u32 = 23_000;
 
 pub const OK: u32 = 0;
 pub const MEMORY: u32 = 1;
@@ -132,6 +133,8 @@ pub const NO_LANE: u32 = 11;
 pub const NO_ROW: u32 = 12;
 pub const NO_GROUPS: u32 = 14;
 pub const BUSY: u32 = 15;
+pub const UNLIKE: u32 = 16;
+pub const ONE_LOG: u32 = 17;
 
 pub const PLACES: u32 = 0;
 pub const QUAD: u32 = 1;
@@ -229,6 +232,23 @@ extern "C" {
         count: *mut usize,
     ) -> u32;
     pub fn confluo_words(reader: *mut Reader, from: usize, out: *mut u64, out_len: usize) -> usize;
+    pub fn confluo_span_of(reader: *mut Reader, span: *mut Span) -> u32;
+    pub fn confluo_span_add(span: *mut Span, reader: *mut Reader) -> u32;
+    pub fn confluo_span_drop_first(span: *mut Span) -> u32;
+    pub fn confluo_span_logs(span: *mut Span, logs: *mut usize) -> u32;
+    pub fn confluo_span_tail(span: *mut Span, tail: *mut u32) -> u32;
+    pub fn confluo_span_ask(span: *mut Span, question: u32, head: *mut Head) -> u32;
+    pub fn confluo_span_ask_seen(span: *mut Span, question: u32, head: *mut Head) -> u32;
+    pub fn confluo_span_groups(span: *mut Span, lane: u32, head: *mut Head) -> u32;
+    pub fn confluo_span_row(
+        span: *mut Span,
+        offset: u32,
+        number: *mut u32,
+        values: *mut Value,
+        values_len: usize,
+        count: *mut usize,
+    ) -> u32;
+    pub fn confluo_span_words(span: *mut Span, from: usize, out: *mut u64, out_len: usize) -> usize;
     pub fn confluo_report(reader: *mut Reader, text: *mut u8, text_len: usize, count: *mut usize) -> u32;
     pub fn confluo_tail(reader: *mut Reader, tail: *mut u32) -> u32;
     pub fn confluo_name(

@@ -12,8 +12,8 @@ use std::time::Duration;
 /// A reader of a log.
 #[derive(Debug)]
 pub struct Reader {
-    held: Held<raw::Reader>,
-    shared: Arc<Shared>,
+    pub(crate) held: Held<raw::Reader>,
+    pub(crate) shared: Arc<Shared>,
 }
 
 impl Reader {
@@ -175,22 +175,11 @@ impl Reader {
     ///
     /// [`RowError::NoRow`] if the offset is not below the tail that the reader saw last; [`RowError::Memory`].
     pub fn row(&mut self, offset: u32) -> Result<Row, RowError> {
-        let mut values = vec![raw::Value::default(); MOST_ATTRIBUTES];
-        let (mut number, mut count) = (0, 0);
-        // SAFETY: the memory is ours, and as long as said.
-        let code = self.held.call(|reader| unsafe {
-            raw::confluo_row(
-                reader,
-                offset,
-                &mut number,
-                values.as_mut_ptr(),
-                values.len(),
-                &mut count,
-            )
-        });
-        RowError::check(code)?;
-        let values = values.iter().take(count).map(Value::of).collect();
-        Ok(Row { number, values })
+        // SAFETY: the memory is as long as said.
+        row_by(|number, values, length, count| {
+            self.held
+                .call(|reader| unsafe { raw::confluo_row(reader, offset, number, values, length, count) })
+        })
     }
 
     /// All records that the reader has seen, read back one by one, in the order of their offsets.
@@ -268,15 +257,31 @@ impl Reader {
     }
 
     fn words(&mut self, head: &raw::Head) -> Vec<u64> {
-        let length = usize::try_from(head.count).expect("an answer is in memory");
-        let mut words = vec![0; length];
-        // SAFETY: the memory is ours, and as long as said.
-        let copied = self
-            .held
-            .call(|reader| unsafe { raw::confluo_words(reader, 0, words.as_mut_ptr(), words.len()) });
-        words.truncate(copied);
-        words
+        // SAFETY: the memory is as long as said.
+        words_by(head, |words, length| {
+            self.held
+                .call(|reader| unsafe { raw::confluo_words(reader, 0, words, length) })
+        })
     }
+}
+
+/// The record that a call shows in memory of its own.
+pub(crate) fn row_by(call: impl FnOnce(*mut u32, *mut raw::Value, usize, *mut usize) -> u32) -> Result<Row, RowError> {
+    let mut values = vec![raw::Value::default(); MOST_ATTRIBUTES];
+    let (mut number, mut count) = (0, 0);
+    let length = values.len();
+    RowError::check(call(&mut number, values.as_mut_ptr(), length, &mut count))?;
+    let values = values.iter().take(count).map(Value::of).collect();
+    Ok(Row { number, values })
+}
+
+/// The words of the answer of that head, which a call copies.
+pub(crate) fn words_by(head: &raw::Head, call: impl FnOnce(*mut u64, usize) -> usize) -> Vec<u64> {
+    let length = usize::try_from(head.count).expect("an answer is in memory");
+    let mut words = vec![0; length];
+    let copied = call(words.as_mut_ptr(), length);
+    words.truncate(copied);
+    words
 }
 
 /// The records that a reader has seen, from [`Reader::rows`]. It ends after the last one, or after an error.

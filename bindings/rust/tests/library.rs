@@ -2,9 +2,9 @@
 #![forbid(unsafe_code)]
 
 use confluo::{
-    check, merge, Answer, AppendError, AskError, Asks, Body, Capture, CloseError, Fault, Group, Groups, GroupsError,
-    KeyedGroup, KeyedMark, LaneKind, Log, Mark, MergeError, Op, OpenError, Part, Quad, Reader, Row, RowError, Sizes,
-    TakeError, Top, Trigger, Value, Writer,
+    check, merge, AddError, Answer, AppendError, AskError, Asks, Body, Capture, CloseError, Fault, Group, Groups,
+    GroupsError, KeyedGroup, KeyedMark, LaneKind, Log, Mark, MergeError, Op, OpenError, Part, Quad, Reader, Row,
+    RowError, Sizes, Span, TakeError, Top, Trigger, Value, Writer,
 };
 use std::error::Error;
 use std::sync::mpsc;
@@ -40,7 +40,7 @@ macro_rules! is_not_sync {
     };
 }
 
-is_not_sync!(Log, Writer, Reader);
+is_not_sync!(Log, Writer, Reader, Span);
 
 fn is_send<T: Send>(_: &T) {}
 
@@ -101,6 +101,42 @@ fn calls_are_refused() -> Result<(), Box<dyn Error>> {
         ..capture
     };
     assert_eq!(other.writer()?.append(&unread, &[]), Err(AppendError::Frame));
+    Ok(())
+}
+
+#[test]
+fn spans_ask_logs_as_one() -> Result<(), Box<dyn Error>> {
+    let mut logs = Vec::new();
+    for first in [10, 20, 30] {
+        let mut log = Log::open(RECORDS, sizes(2, 1, 64))?;
+        let mut writer = log.writer()?;
+        for len in [first, first + 1] {
+            assert!(writer.append_values(first as u32, &[1, 1, len]).is_ok());
+        }
+        logs.push(log);
+    }
+    let mut span = Span::of(logs[0].reader()?).map_err(|(_, refused)| refused)?;
+    is_send(&span);
+    for log in &mut logs[1..] {
+        span.add(log.reader()?).map_err(|(_, refused)| refused)?;
+    }
+    assert_eq!((span.logs(), span.tail()), (3, 6));
+    assert_eq!(span.ask_named("one")?.body, Body::Places(vec![0, 1, 2, 3, 4, 5]));
+    assert_eq!(span.ask_named("other"), Err(AskError::NoQuestion));
+    let answer = span.ask_seen(0)?;
+    assert!(matches!(answer.body, Body::Quad(quad) if (quad.count, quad.sum) == (6, 123)));
+    let groups = span.groups(3)?;
+    assert_eq!((groups.tail, groups.groups[0].quad.sum), (6, 123));
+    assert_eq!(span.groups(0), Err(GroupsError::NoLane));
+    assert_eq!(span.row(3)?.values[2], Value::Number(21));
+    assert_eq!(span.row(6), Err(RowError::NoRow));
+    let numbers: Result<Vec<u32>, _> = span.rows().map(|row| row.map(|it| it.number)).collect();
+    assert_eq!(numbers?, [10, 10, 20, 20, 30, 30]);
+    let mut other = Log::open(RECORDS, sizes(3, 1, 64))?;
+    let (mut back, refused) = span.add(other.reader()?).unwrap_err();
+    assert_eq!((refused, back.ask(0)?.tail), (AddError::Unlike, 0));
+    assert!(span.drop_first() && span.drop_first() && !span.drop_first());
+    assert_eq!((span.logs(), span.ask(0)?.tail), (1, 2));
     Ok(())
 }
 

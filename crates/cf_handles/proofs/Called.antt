@@ -1,5 +1,5 @@
 -- Calls by handles are those of what they lead to.
-use Rattle.std.proofs.Common.{◌≡◌, ℕ, List, Result, Option, Some, None, Err, refl, sym, subst}
+use Rattle.std.proofs.Common.{◌≡◌, ◌∙◌, ℕ, List, Result, Option, Some, None, Err, refl, sym, subst}
 use Rattle.std.specs.Prelude.{IfNone, OnSome}
 use Rattle.cf_store.specs.declared.held.Reader.{Reader}
 use Rattle.cf_store.specs.declared.held.Writer.{Writer}
@@ -62,3 +62,7 @@ line_by line a b m n made is put did = subst (λ (x : Option Reader). LineBy lin
 
 pub no_line : (line : List ℕ) (a b : Option Reader) → a ≡ None → b ≡ None → LineBy line a b None
 no_line line a b is none = subst (λ (x : Option Reader). LineBy line x b None) (sym is) (none, refl)
+
+-- what leads to something does not lead to nothing
+pub filled : {A P : Type 0} (a : Option A) (x : A) → a ≡ Some x → a ≡ None → P
+filled a x is none = absurd (cc (sym is ∙ none))

@@ -1,7 +1,7 @@
 -- The codes that calls answer, their numbers and their texts.
 use Rattle.std.specs.Prelude.{ℕ, ◌==◌, List, Option, Some, None, codes, if◌then◌else◌}
 use Rattle.cf_handles.specs.declared.code.Code.{Code}
-use Rattle.cf_handles.specs.declared.code.Code.TheVariants.{Done, Memory, Sizes, Setup, Nothing, NoWriter, Full, Nodes, Unfit, Frame, NoQuestion, NoLane, NoRow, NoName, NoGroups, Busy}
+use Rattle.cf_handles.specs.declared.code.Code.TheVariants.{Done, Memory, Sizes, Setup, Nothing, NoWriter, Full, Nodes, Unfit, Frame, NoQuestion, NoLane, NoRow, NoName, NoGroups, Busy, Unlike, OneLog}
 use Rattle.cf_store.specs.declared.refusals.OpenRefusal.{OpenRefusal}
 use Rattle.cf_store.specs.declared.refusals.OpenRefusal.TheVariants as opens
 use Rattle.cf_store.specs.declared.refusals.TakeRefusal.{TakeRefusal}
@@ -18,6 +18,8 @@ use Rattle.cf_store.specs.declared.refusals.MergeRefusal.{MergeRefusal}
 use Rattle.cf_store.specs.declared.refusals.MergeRefusal.TheVariants as merges
 use Rattle.cf_store.specs.declared.refusals.CloseRefusal.{CloseRefusal}
 use Rattle.cf_store.specs.declared.refusals.CloseRefusal.TheVariants as closes
+use Rattle.cf_store.specs.declared.refusals.AddRefusal.{AddRefusal}
+use Rattle.cf_store.specs.declared.refusals.AddRefusal.TheVariants as adds
 use Rattle.cf_store.specs.declared.refusals.RowRefusal.{RowRefusal}
 use Rattle.cf_store.specs.declared.refusals.RowRefusal.TheVariants as rows
 
@@ -38,6 +40,8 @@ code_number NoRow = 12
 code_number NoName = 13
 code_number NoGroups = 14
 code_number Busy = 15
+code_number Unlike = 16
+code_number OneLog = 17
 
 -- the code of a setup or a log that was refused
 abbrev pub open_code : OpenRefusal → Code
@@ -84,6 +88,12 @@ abbrev pub close_code : CloseRefusal → Code
 close_code closes.Busy = Busy
 close_code closes.Memory = Memory
 
+-- the code of a reader that was not added to a span
+abbrev pub add_code : AddRefusal → Code
+add_code adds.Unlike = Unlike
+add_code adds.Full = Full
+add_code adds.Memory = Memory
+
 -- the code of a row that was not read
 abbrev pub row_code : RowRefusal → Code
 row_code rows.NoRow = NoRow
@@ -113,4 +123,6 @@ text_of n =
     else (if n == 13 then codes "the setup has nothing of that sort and number"
     else (if n == 14 then codes "the words are no groups, or of too many numbers"
     else (if n == 15 then codes "a writer of the log is taken"
-    else codes "no code of confluo")))))))))))))))
+    else (if n == 16 then codes "the reader's log has another setup or size than the span's"
+    else (if n == 17 then codes "the span has one log, which stays"
+    else codes "no code of confluo")))))))))))))))))

@@ -2,6 +2,7 @@ pub mod Seats
 pub mod Calls
 pub mod Named
 pub mod Ends
+pub mod Spanned
 pub mod Codes
 pub mod Copied
 pub mod Abouts

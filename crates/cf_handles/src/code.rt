@@ -1,10 +1,10 @@
 // The codes that calls answer, and their texts.
 ghost use Rattle.std.specs.Prelude.{◌≡◌};
-ghost use Rattle.cf_handles.specs.Codes.{code_number, text_of, open_code, take_code, append_code, ask_code, close_code, lane_code, line_code, merge_code, row_code, stop_code};
+ghost use Rattle.cf_handles.specs.Codes.{code_number, text_of, open_code, take_code, add_code, append_code, ask_code, close_code, lane_code, line_code, merge_code, row_code, stop_code};
 
 use cf_store::{
-    AppendRefusal, AskRefusal, CloseRefusal, LaneRefusal, LineRefusal, MergeRefusal, OpenRefusal,
-    RowRefusal, TakeRefusal,
+    AddRefusal, AppendRefusal, AskRefusal, CloseRefusal, LaneRefusal, LineRefusal, MergeRefusal,
+    OpenRefusal, RowRefusal, TakeRefusal,
 };
 
 /// What came of a call.
@@ -42,6 +42,10 @@ pub enum Code {
     NoGroups = 14,
     /// A writer of the log is taken.
     Busy = 15,
+    /// The reader's log has another setup or size than those of the span.
+    Unlike = 16,
+    /// The span has one log, which stays.
+    OneLog = 17,
 }
 
 impl Code {
@@ -137,6 +141,17 @@ impl Code {
         }
     }
 
+    /// Of a reader that was not added to a span.
+    pub fn of_add(refusal: AddRefusal) -> Code
+        ensures { result ≡ add_code refusal }
+    {
+        match refusal {
+            AddRefusal::Unlike => Code::Unlike,
+            AddRefusal::Full => Code::Full,
+            AddRefusal::Memory => Code::Memory,
+        }
+    }
+
     /// Of a row that was not read.
     pub fn of_row(refusal: RowRefusal) -> Code
         ensures { result ≡ row_code refusal }
@@ -179,6 +194,8 @@ pub fn message_of(number: u32) -> &'static [u8]
         13 => b"the setup has nothing of that sort and number",
         14 => b"the words are no groups, or of too many numbers",
         15 => b"a writer of the log is taken",
+        16 => b"the reader's log has another setup or size than the span's",
+        17 => b"the span has one log, which stays",
         _ => b"no code of confluo",
     }
 }

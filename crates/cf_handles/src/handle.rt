@@ -3,7 +3,7 @@ ghost use Rattle.std.specs.Prelude.{◌≡◌, ◌≢◌, ◌↔◌, IsTrue, Mat
 
 use crate::parts::Parts;
 use crate::seat::Seat;
-use cf_store::{Log, Reader, Writer};
+use cf_store::{Log, Reader, Span, Writer};
 use std::alloc::Global;
 use std::mem::replace;
 use std::ptr::null_mut;
@@ -24,6 +24,9 @@ pub type WriterHandle = Handle<Writer>;
 
 /// `confluo_reader`: a reader, or nothing.
 pub type ReaderHandle = Handle<Reader>;
+
+/// `confluo_span`: a span, or nothing.
+pub type SpanHandle = Handle<Span>;
 
 impl<T> Handle<T> {
     /// Nothing.

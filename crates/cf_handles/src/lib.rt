@@ -1,4 +1,4 @@
-//! What C calls, by handles of a log, of its writers and of its readers: the calls themselves, each with the number that it answers.
+//! What C calls, by handles of a log, of its writers, of its readers and of spans of readers: the calls themselves, each with the number that it answers.
 #![tactic(auto)]
 
 mod abouts;
@@ -10,9 +10,10 @@ mod parts;
 pub mod readers;
 mod seat;
 mod setup_names;
+pub mod spans;
 pub mod writers;
 
 pub use abouts::About;
 pub use code::message_of;
 pub use copies::copy_part;
-pub use handle::{Handle, LogHandle, ReaderHandle, WriterHandle};
+pub use handle::{Handle, LogHandle, ReaderHandle, SpanHandle, WriterHandle};

@@ -21,7 +21,7 @@ use cf_store::{AskRefusal, Fault, Head, LineRefusal, ShownValue, merge};
 use std::alloc::Global;
 
 // Shows the head of an answer, and answers the number of the code.
-fn show_head(made: Result<Head, AskRefusal>, head: &mut Head) -> u32
+pub(crate) fn show_head(made: Result<Head, AskRefusal>, head: &mut Head) -> u32
     ensures number { result ≡ number_of (coded ask_code made) }
     ensures head { head.new ≡ told_or (coded ask_code made) head.old }
 {

@@ -4,7 +4,6 @@ use Rattle.std.specs.List.{list_all}
 use Rattle.cf_store.specs.Values.{is_value, plain_row}
 use Rattle.std.specs.Arc.{arc_value}
 use Rattle.cf_row.specs.Row.{RowValue}
-use Rattle.cf_pcap.specs.Capture.{FrameValue}
 use Rattle.cf_row.specs.declared.packet6.PacketSchema.{PacketSchema}
 use Rattle.cf_setup.specs.declared.source.Source.{Source}
 use Rattle.cf_setup.specs.declared.source.Source.TheVariants.{Packets, Records}

@@ -1,5 +1,5 @@
 -- A reader's pass stays one whose records the log may have.
-use Rattle.std.proofs.Common.{◌≡◌, ◌∙◌, ◌≤◌, ◌<◌, ℕ, List, [], Some, length, slice_get, get_or, ap, sym, subst}
+use Rattle.std.proofs.Common.{◌≡◌, ◌∙◌, ◌≤◌, ◌<◌, ℕ, List, Some, length, slice_get, get_or, ap, sym, subst}
 use Rattle.std.proofs.lemmas.Option.{slice_get-get_or}
 use Rattle.cf_row.specs.declared.row.Entry.{Entry}
 use Rattle.cf_row.specs.Row.{Fits, RowValue}

@@ -9,7 +9,6 @@ use Rattle.std.proofs.lemmas.Option.{slice_get-get_or}
 use Rattle.cf_row.specs.declared.row.Entry.{Entry}
 use Rattle.cf_law.specs.Passes.{Book, Pass}
 use Rattle.cf_law.specs.Steps.{Holds, new_pass}
-use Rattle.cf_shape.specs.Lanes.{ShapeValue}
 use Rattle.cf_table.specs.Values.{IsOf, LogValue, PassValue, book_of}
 use Rattle.cf_table.specs.Moves.{AreAll, HasGathered, IsReading}
 use Rattle.cf_append.proofs.Appending.{rests_all}

@@ -1,5 +1,5 @@
 -- A writer's pass may come home after it appended, and the places of a log stay those of its writers.
-use Rattle.std.proofs.Common.{◌≡◌, ◌∙◌, ◌≤◌, ℕ, List, [], ◌∷◌, ◌++◌, Some, None, Result, Ok, Err, inl, inr, zero, suc, length, map, take, slice_get, get_or, set, All, ap, refl, sym, subst, arith, append-nil, length-take}
+use Rattle.std.proofs.Common.{◌≡◌, ◌∙◌, ◌≤◌, ℕ, List, [], ◌∷◌, ◌++◌, Some, Result, Ok, Err, inl, inr, zero, suc, length, map, take, slice_get, get_or, set, All, ap, refl, sym, subst, arith, append-nil, length-take}
 use Rattle.std.proofs.lemmas.List.{take-append-le}
 use Rattle.std.proofs.lemmas.Option.{get_or_from_slice_get, slice_get_within}
 use Rattle.cf_row.specs.Row.{RowValue}

@@ -1,5 +1,5 @@
 -- The places of a log stay those of its writers, in the order of their numbers.
-use Rattle.std.proofs.Common.{◌≡◌, ◌∙◌, ℕ, List, [], ◌∷◌, Some, None, inl, inr, zero, suc, length, map, slice_get, set, All, ap, refl, sym, subst, length-set}
+use Rattle.std.proofs.Common.{◌≡◌, ◌∙◌, ℕ, List, [], ◌∷◌, Some, inl, inr, zero, suc, length, map, slice_get, set, All, ap, refl, sym, subst, length-set}
 use Rattle.std.proofs.lemmas.List.{length-map}
 use Rattle.cf_law.specs.Passes.{Pass}
 use Rattle.cf_law.specs.Steps.{new_pass}

@@ -48,6 +48,11 @@ seen_last capacity first (reader ∷ others) (suc last) is =
     ∙ ap (λ (es : List Entry). (first.view).seen ++ es)
     (seen_last capacity reader.pass others last (last_less capacity (first.view).seen (seen_each (passes_of (reader ∷ others))) last is))
 
+pub seen_as_last : (capacity least : ℕ) (first : PassValue) (others : List Reader) (last : ℕ) → least ≡ capacity
+    → IsLast least (seen_each (first ∷ passes_of others)) last → seen_upto first others last ≡ seen_in capacity (seen_each (first ∷ passes_of others))
+seen_as_last capacity least first others last same is =
+    sym (seen_last capacity first others last (subst (λ (n : ℕ). IsLast n (seen_each (first ∷ passes_of others)) last) same is))
+
 -- one log more
 pub upto_more : (first : PassValue) (others : List Reader) (i : ℕ) (d : Reader) → i < length others
     → seen_upto first others (suc i) ≡ seen_upto first others i ++ ((get_or others i d).pass.view).seen

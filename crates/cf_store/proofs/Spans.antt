@@ -22,15 +22,17 @@ use Rattle.cf_query.specs.Asking.{HasAsked}
 use Rattle.cf_query.specs.Walks.{OnlyWalked}
 use Rattle.cf_query.proofs.Walked.{walked_none}
 use Rattle.cf_query.proofs.Walking.{walked_looked}
-use Rattle.cf_store.specs.Asks.{AsksTail, ReadsRow}
-use Rattle.cf_store.specs.Spans.{AddsReader, AllLike, AreLike, AsksSpanAt, AsksSpanSeen, DropsFirst, IsLike, AsksTails, ReadsSpanRow, HaveWalked, IsSpan, SpanValue, passes_of, seen_by, seen_each, seen_in, span_of}
-use Rattle.cf_store.specs.Ends.{AreBehind, AsksOthers, AsksWith, TellsSeen, Walks}
+use Rattle.cf_store.specs.Asks.{AsksTail, IsMeasured, ReadsRow, body_kind, body_words}
+use Rattle.cf_store.specs.Spans.{AddsReader, AllLike, AreLike, AsksSpanAt, AsksSpanSeen, DropsFirst, IsLike, AsksTails, MeasuresIn, ReadsSpanRow, HaveWalked, IsSpan, SpanValue, TellsSpanGroups, passes_of, seen_by, seen_each, seen_in, span_of}
+use Rattle.cf_store.specs.Ends.{AreBehind, AsksOthers, AsksWith, GroupsWith, TellsGroupsSeen, TellsSeen, Walks}
 use Rattle.cf_store.specs.declared.held.Reader.{Reader}
 use Rattle.cf_store.specs.declared.held.Shared.{Shared}
 use Rattle.cf_store.specs.declared.reader.Told.{Told}
 use Rattle.cf_store.specs.declared.shown.Head.{Head}
 use Rattle.cf_store.specs.declared.refusals.AskRefusal.{AskRefusal}
 use Rattle.cf_store.specs.declared.refusals.AskRefusal.TheVariants.{Memory, NoQuestion}
+use Rattle.cf_store.specs.declared.refusals.LaneRefusal.{LaneRefusal}
+use Rattle.cf_store.specs.declared.refusals.LaneRefusal.TheVariants as lanes
 use Rattle.cf_store.specs.declared.refusals.RowRefusal.{RowRefusal}
 use Rattle.cf_store.specs.declared.refusals.RowRefusal.TheVariants as rows
 use Rattle.cf_store.proofs.Aware.{walked_aware}
@@ -146,6 +148,43 @@ asked_still question m n ms ns (Ok head) is asked = span_still m n ms ns is aske
 asked_still question m n ms ns (Err NoQuestion) is asked =
     span_still m n ms ns is asked.0 (subst (AllZip Walks ms) (sym asked.2.1) (all_stay ms))
 asked_still question m n ms ns (Err Memory) is asked = span_still m n ms ns is asked.0 asked.2.1
+
+-- what telling the groups of a lane in what is seen answers
+measures_in : (shared : Shared) (lane : ℕ) → IsMeasured shared lane → MeasuresIn shared.log.shape lane
+measures_in shared lane is = record { there = is.there; measured = is.measured; whole = is.whole }
+
+measures_of : (shared : Shared) (lane : ℕ) → MeasuresIn shared.log.shape lane → IsMeasured shared lane
+measures_of shared lane is = record { there = is.there; measured = is.measured; whole = is.whole }
+
+pub groups_seen : (lane : ℕ) (m n : Reader) (ms ns : List Reader) (r : Result Head LaneRefusal) → GroupsWith lane m n ms ns r
+    → TellsSpanGroups lane (span_of m ms) (span_of n ns) r
+groups_seen lane m n ms ns (Ok head) told =
+    let t : Told = told.1.0 in
+    let tells = told.1.1 in
+    let is = told.1.2 in (
+      span_walked m n ms ns told.0 tells.0.0 tells.0.1,
+      record {
+        measures = measures_in (arc_value m.of) lane tells.1;
+        words_are = is.words_are ∙ ap body_words tells.3;
+        tail = is.tail ∙ tells.2;
+        kind = is.kind ∙ ap₂ body_kind tells.4 tells.3;
+        count = is.count;
+      },
+    )
+groups_seen lane m n ms ns (Err lanes.NoLane) told =
+    (span_same m n ms ns told.0 told.1 told.2.0 told.2.1, λ measures. told.2.2 (measures_of (arc_value m.of) lane measures))
+groups_seen lane m n ms ns (Err lanes.Memory) told =
+    subst (HaveWalked (span_of m ms) (span_of n ns)) told.1 (span_walked m n ms ns told.0 told.2.0 told.2.1)
+
+pub groups_still : (lane : ℕ) (m n : Reader) (ms ns : List Reader) (r : Result Head LaneRefusal) → IsSpan m ms → GroupsWith lane m n ms ns r → IsSpan n ns
+groups_still lane m n ms ns (Ok head) is told = span_still m n ms ns is told.0 told.1.1.0.1
+groups_still lane m n ms ns (Err lanes.NoLane) is told = span_still m n ms ns is told.0 (subst (AllZip Walks ms) (sym told.2.1) (all_stay ms))
+groups_still lane m n ms ns (Err lanes.Memory) is told = span_still m n ms ns is told.0 told.2.1
+
+-- a span of one log has the reader of that
+pub one_reader : (first : Reader) (others : List Reader) → length (span_of first others).passes ≡ 1 → span_of first [] ≡ span_of first others
+one_reader first [] one = refl
+one_reader first (reader ∷ others) one = absurd (omega (arith, one))
 
 -- at each place of two lists
 zip_from : {X : Type 0} (R : X → X → Type 0) (xs ys : List X) → length ys ≡ length xs
@@ -403,6 +442,12 @@ pub told_reads : (shared : Shared) (question : ℕ) (m n : PassValue) (ms ns : L
 told_reads shared question m n ms ns (Ok told) reading tells = walked_aware shared.log m n reading tells.0.0
 told_reads shared question m n ms ns (Err NoQuestion) reading tells = subst (IsReading shared.log) (sym tells.0) reading
 told_reads shared question m n ms ns (Err Memory) reading tells = walked_aware shared.log m n reading tells.0
+
+pub groups_read : (shared : Shared) (lane : ℕ) (m n : PassValue) (ms ns : List Reader) (r : Result Told LaneRefusal) → IsReading shared.log m
+    → TellsGroupsSeen shared lane m n ms ns r → IsReading shared.log n
+groups_read shared lane m n ms ns (Ok told) reading tells = walked_aware shared.log m n reading tells.0.0
+groups_read shared lane m n ms ns (Err lanes.NoLane) reading tells = subst (IsReading shared.log) (sym tells.0) reading
+groups_read shared lane m n ms ns (Err lanes.Memory) reading tells = walked_aware shared.log m n reading tells.0
 
 not_there : {X : Type 0} (xs : List X) (i : ℕ) → i < length xs → slice_get xs i ≡ None → ⊥
 not_there [] i low none = omega (arith, low)

@@ -1,12 +1,14 @@
 -- How far readers of logs that stand one behind the other look, and what they find up to there.
-use Rattle.std.specs.Prelude.{◌≡◌, ℕ, ◌+◌, ◌*◌, ◌<◌, ◌≤◌, ◌^◌, zero, suc, List, [], ◌∷◌, ◌++◌, length, slice_get, Some, None, Result, Ok, Err}
+use Rattle.std.specs.Prelude.{◌≡◌, ℕ, ◌+◌, ◌*◌, ◌<◌, ◌≤◌, ◌^◌, zero, suc, false, List, [], ◌∷◌, ◌++◌, length, slice_get, Some, None, Result, Ok, Err}
 use Rattle.std.specs.List.{AllZip}
 use Rattle.std.specs.Arc.{arc_value}
 use Rattle.cf_row.specs.declared.row.Entry.{Entry}
 use Rattle.cf_table.specs.Values.{PassValue}
 use Rattle.cf_table.specs.Moves.{IsReading}
 use Rattle.cf_query.specs.Walks.{OnlyWalked}
-use Rattle.cf_store.specs.Asks.{AsksTail, Keeps}
+use Rattle.cf_plain.specs.Asks.{eval}
+use Rattle.cf_plain.specs.declared.ask.Ask.TheVariants as asks
+use Rattle.cf_store.specs.Asks.{AsksTail, IsMeasured, Keeps}
 use Rattle.cf_store.specs.Spans.{AllLike, IsAnswerOn, IsLast, passes_of, seen_each, seen_in}
 use Rattle.cf_store.specs.declared.held.Shared.{Shared}
 use Rattle.cf_store.specs.declared.held.Reader.{Reader}
@@ -14,6 +16,8 @@ use Rattle.cf_store.specs.declared.reader.Told.{Told}
 use Rattle.cf_store.specs.declared.shown.Head.{Head}
 use Rattle.cf_store.specs.declared.refusals.AskRefusal.{AskRefusal}
 use Rattle.cf_store.specs.declared.refusals.AskRefusal.TheVariants.{NoQuestion, Memory}
+use Rattle.cf_store.specs.declared.refusals.LaneRefusal.{LaneRefusal}
+use Rattle.cf_store.specs.declared.refusals.LaneRefusal.TheVariants as lanes
 
 -- what is seen of the first log and of so many behind it
 abbrev pub seen_upto : PassValue → List Reader → ℕ → List Entry
@@ -56,3 +60,14 @@ TellsSeen shared question m n ms ns (Err Memory) = AllWalked m n ms ns
 -- The same of a reader and those behind it. It keeps the words of the answer; refused, those that it had.
 abbrev pub AsksWith : ℕ → Reader → Reader → List Reader → List Reader → Result Head AskRefusal → Type 0
 AsksWith question m n ms ns r = Keeps (λ before after told. TellsSeen (arc_value m.of) question before after ms ns told) m n r
+
+-- What telling the groups of a lane answers, in what the readers see.
+abbrev pub TellsGroupsSeen : Shared → ℕ → PassValue → PassValue → List Reader → List Reader → Result Told LaneRefusal → Type 0
+TellsGroupsSeen shared lane m n ms ns (Ok told) = AllWalked m n ms ns × IsMeasured shared lane × (told.answer.tail ≡ length (seen_of shared m ms))
+    × (told.answer.body ≡ eval shared.log.shape (asks.Groups lane) (seen_of shared m ms)) × (told.keyed ≡ false)
+TellsGroupsSeen shared lane m n ms ns (Err lanes.NoLane) = (n ≡ m) × (ns ≡ ms) × (IsMeasured shared lane → ⊥)
+TellsGroupsSeen shared lane m n ms ns (Err lanes.Memory) = AllWalked m n ms ns
+
+-- The same of a reader and those behind it. It keeps the words of the groups; refused, those that it had.
+abbrev pub GroupsWith : ℕ → Reader → Reader → List Reader → List Reader → Result Head LaneRefusal → Type 0
+GroupsWith lane m n ms ns r = Keeps (λ before after told. TellsGroupsSeen (arc_value m.of) lane before after ms ns told) m n r

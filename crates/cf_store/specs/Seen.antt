@@ -1,5 +1,5 @@
 -- What is reported of the entries that a pass of a log has seen.
-use Rattle.std.specs.Prelude.{◌≤◌, ℕ, List, [], map}
+use Rattle.std.specs.Prelude.{ℕ, List, [], map}
 use Rattle.cf_row.specs.declared.row.Entry.{Entry}
 use Rattle.cf_shape.specs.Lanes.{ShapeValue}
 use Rattle.cf_plain.specs.History.{IsHistoryOf, spell}

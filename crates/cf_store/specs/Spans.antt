@@ -4,15 +4,17 @@ use Rattle.std.specs.List.{AllZip}
 use Rattle.std.specs.Arc.{arc_value}
 use Rattle.cf_row.specs.declared.row.Entry.{Entry}
 use Rattle.cf_row.specs.Row.{Fits, RowValue}
-use Rattle.cf_shape.specs.Lanes.{ShapeValue}
+use Rattle.cf_shape.specs.Lanes.{ShapeValue, lane_at, has_by}
+use Rattle.cf_shape.specs.Uses.{is_measured}
 use Rattle.cf_setup.specs.Setups.{SetupValue}
 use Rattle.cf_plain.specs.declared.ask.Ask.{Ask}
 use Rattle.cf_plain.specs.Asks.{eval, row_at, rows_in}
+use Rattle.cf_plain.specs.Groups.{groups}
 use Rattle.cf_table.specs.Values.{PassValue}
 use Rattle.cf_table.specs.Moves.{Begins}
 use Rattle.cf_query.specs.Asking.{HasAsked}
 use Rattle.cf_query.specs.Walks.{OnlyWalked}
-use Rattle.cf_store.specs.Asks.{IsTold, is_keyed}
+use Rattle.cf_store.specs.Asks.{IsTold, groups_words, is_keyed}
 use Rattle.cf_store.specs.declared.held.Shared.{Shared}
 use Rattle.cf_store.specs.declared.held.Reader.{Reader}
 use Rattle.cf_store.specs.declared.reader.Told.{Told}
@@ -22,6 +24,8 @@ use Rattle.cf_store.specs.declared.shown.Shown.{Shown}
 use Rattle.cf_store.specs.declared.shown.ShownValue.{ShownValue}
 use Rattle.cf_store.specs.declared.refusals.AskRefusal.{AskRefusal}
 use Rattle.cf_store.specs.declared.refusals.AskRefusal.TheVariants.{NoQuestion, Memory}
+use Rattle.cf_store.specs.declared.refusals.LaneRefusal.{LaneRefusal}
+use Rattle.cf_store.specs.declared.refusals.LaneRefusal.TheVariants as lanes
 use Rattle.cf_store.specs.declared.refusals.RowRefusal.{RowRefusal}
 use Rattle.cf_store.specs.declared.refusals.RowRefusal.TheVariants as rows
 use Rattle.cf_store.specs.declared.refusals.AddRefusal.{AddRefusal}
@@ -131,6 +135,26 @@ abbrev pub AsksSpanAt : ℕ → SpanValue → SpanValue → Result Head AskRefus
 AsksSpanAt question m n (Ok head) = (k : SpanValue) × AsksTails m k × AsksSpanSeen question k n (Ok head)
 AsksSpanAt question m n (Err NoQuestion) = (n ≡ m) × (slice_get m.setup.asks question ≡ None)
 AsksSpanAt question m n (Err Memory) = (k : SpanValue) × AsksTails m k × AsksSpanSeen question k n (Err Memory)
+
+-- the lane is there, measures something, and does not keep the rows of a bucket apart
+pub record MeasuresIn (shape : ShapeValue) (lane : ℕ) : Type 0 where
+  pub there : lane < length shape.lanes
+  pub measured : is_measured shape lane ≡ true
+  pub whole : has_by (lane_at shape lane).key ≡ false
+
+-- the head and the words of the lane's groups in these entries
+pub record AreGroupsIn (shape : ShapeValue) (lane : ℕ) (seen : List Entry) (head : Head) (words : List ℕ) : Type 0 where
+  pub measures : MeasuresIn shape lane
+  pub words_are : words ≡ groups_words (groups shape lane (rows_in seen))
+  pub tail : head.tail ≡ length seen
+  pub kind : head.kind ≡ 4
+  pub count : head.count ≡ length words
+
+-- What telling the groups of a lane answers, in what the span has seen. It keeps their words; refused, those that it had.
+abbrev pub TellsSpanGroups : ℕ → SpanValue → SpanValue → Result Head LaneRefusal → Type 0
+TellsSpanGroups lane m n (Ok head) = HaveWalked m n n.words × AreGroupsIn m.shape lane (seen_by m) head n.words
+TellsSpanGroups lane m n (Err lanes.NoLane) = (n ≡ m) × (MeasuresIn m.shape lane → ⊥)
+TellsSpanGroups lane m n (Err lanes.Memory) = HaveWalked m n m.words
 
 -- What reading the row at an offset answers, counted from the first record of the first log.
 abbrev pub ReadsSpanRow : ℕ → SpanValue → SpanValue → Result RowValue RowRefusal → Type 0

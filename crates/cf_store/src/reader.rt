@@ -186,7 +186,7 @@ fn ask_seen_of(
 }
 
 // The lane of that number, if it is there, measures something, and does not keep the rows of a bucket apart.
-fn measured(shared: &Shared, lane: u32) -> Option<u8>
+pub(crate) fn measured(shared: &Shared, lane: u32) -> Option<u8>
     ensures { MatchOption result (IsMeasured shared.now lane → ⊥) (λ found. (found ≡ lane) × IsMeasured shared.now lane) }
 {
     let shape = shared.log.shape();

@@ -2,11 +2,11 @@
 ghost use Rattle.std.specs.Prelude.{◌≡◌, ◌+◌, ◌*◌, [], true, false, length};
 ghost use Rattle.std.specs.Box.{box_value};
 ghost use Rattle.std.specs.Result.{result_map_both};
-ghost use Rattle.cf_store.specs.Spans.{AddsReader, AreLike, AsksSpanAt, AsksSpanSeen, AsksTails, DropsFirst, ReadsSpanRow, ShowsSpanRow, seen_by, span_of};
+ghost use Rattle.cf_store.specs.Spans.{AddsReader, AreLike, AsksSpanAt, AsksSpanSeen, AsksTails, DropsFirst, ReadsSpanRow, ShowsSpanRow, TellsSpanGroups, seen_by, span_of};
 
 use crate::ends::look_on;
 use crate::held::{Reader, Shared};
-use crate::refusals::{AddRefusal, AskRefusal, RowRefusal};
+use crate::refusals::{AddRefusal, AskRefusal, LaneRefusal, RowRefusal};
 use crate::shown::{Head, Shown, ShownValue};
 use crate::values::show_row;
 use cf_row::Row;
@@ -57,6 +57,15 @@ impl Span {
             first: reader,
             rest: Vec::new(alloc),
         }
+    }
+
+    /// The reader of the log of a span that has one, with the words of the last answer.
+    pub fn into_reader(self) -> Box<Reader>
+        requires { length self.passes ≡ 1 }
+        ensures { span_of result.value [] ≡ self }
+    {
+        let Span { first, rest: _rest } = self;
+        first
     }
 
     // How many records the logs and one more take.
@@ -138,6 +147,15 @@ impl Span {
         ensures { AsksSpanSeen number self.old self.new result }
     {
         self.first.ask_with(alloc, self.rest.as_mut_slice(), number)
+    }
+
+    /// Tells the groups of a lane in what is seen, and keeps their words: of each group its key, and its quad. A lane that keeps the rows
+    /// of a bucket apart is refused, as one that is not there.
+    pub fn groups(&mut self, alloc: Global, lane: u32) -> Result<Head, LaneRefusal>
+        ensures { TellsSpanGroups lane self.old self.new result }
+    {
+        self.first
+            .groups_with(alloc, self.rest.as_mut_slice(), lane)
     }
 
     /// The row at an offset that is seen.

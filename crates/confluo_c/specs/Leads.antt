@@ -9,6 +9,7 @@ use Rattle.std.specs.contracts.impls.GlobalAllocator.TheImpl.{ghosts}
 use Rattle.cf_store.specs.contracts.held.Log.{the_row as log_row}
 use Rattle.cf_store.specs.contracts.held.Writer.{the_row as writer_row}
 use Rattle.cf_store.specs.contracts.held.Reader.{the_row as reader_row}
+use Rattle.cf_store.specs.contracts.span.Span.{the_row as span_row}
 use Rattle.confluo_c.specs.declared.raw.RawHandle.{RawHandle}
 use Rattle.confluo_c.specs.contracts.raw.RawHandle.{the_row as handle_row}
 
@@ -29,3 +30,6 @@ writer_at = leads_to writer_row
 
 abbrev pub reader_at : Ptr → Option reader_row.Denot → Fml
 reader_at = leads_to reader_row
+
+abbrev pub span_at : Ptr → Option span_row.Denot → Fml
+span_at = leads_to span_row

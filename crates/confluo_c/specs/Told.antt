@@ -7,9 +7,11 @@ use Rattle.cf_store.specs.declared.refusals.LineRefusal.{LineRefusal}
 use Rattle.cf_store.specs.declared.refusals.OpenRefusal.{OpenRefusal}
 use Rattle.cf_handles.specs.Calls.{BatchBy, ByHandle, ForksTo, IsCoded, LineBy, OpensAt, TakesTo, Tells, TellsFault, count_or, line_fault, line_head, line_number, number_of, number_or}
 use Rattle.cf_handles.specs.Ends.{ClosesTo}
+use Rattle.cf_handles.specs.Spanned.{SpansTo}
 use Rattle.cf_handles.specs.Named.{NamesTo}
 use Rattle.cf_store.specs.Appends.{AppendsFrame}
 use Rattle.cf_store.specs.Asks.{ShowsRowAt}
+use Rattle.cf_store.specs.Spans.{ShowsSpanRow, SpanValue}
 use Rattle.cf_store.specs.declared.held.Log.{Log}
 use Rattle.cf_store.specs.declared.held.Reader.{Reader}
 use Rattle.cf_store.specs.declared.held.Writer.{Writer}
@@ -67,3 +69,13 @@ RowBy offset values values' number number' count count' held after answer =
 -- words of the last answer were copied; by a handle that leads to nothing, none were
 abbrev pub WordsBy : ℕ → List ℕ → List ℕ → Option Reader → ℕ → Type 0
 WordsBy from out out' held count = MatchOption held ((count ≡ 0) × (out' ≡ out)) (λ reader. Copies reader.words.items from out out' count)
+
+-- a span was made of the reader at the first handle, to the second
+abbrev pub SpansBy : Option Reader × Option SpanValue → Option Reader × Option SpanValue → ℕ → Type 0
+SpansBy held after number = (r : Result (Unit {0}) Code) × SpansTo held.1 after.1 held.0 after.0 r × (number ≡ number_of r)
+
+-- a row was shown that a span has seen: its number, its values as far as there is room, and how many they are
+abbrev pub SpanRowBy : ℕ → List ShownValue → List ShownValue → ℕ → ℕ → ℕ → ℕ → Option SpanValue → Option SpanValue → ℕ → Type 0
+SpanRowBy offset values values' number number' count count' held after answer =
+    (r : Result Shown Code) × ByHandle (λ m n. IsCoded row_code (ShowsSpanRow offset m n values values')) held after r
+    × IfErr r (λ _. values' ≡ values) × (answer ≡ number_of r) × (number' ≡ number_or r number) × (count' ≡ count_or r count)

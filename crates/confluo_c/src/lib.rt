@@ -4,3 +4,4 @@
 mod plain;
 mod pointers;
 mod raw;
+mod span_pointers;

@@ -1,7 +1,6 @@
-use Rattle.std.proofs.Common.{ℕ, arith}
-use Rattle.cf_store.specs.Merges.{AreGroups, IsToldQuad, quad_at}
+use Rattle.std.proofs.Common.{ℕ}
+use Rattle.cf_store.specs.Merges.{IsToldQuad, quad_at}
 use Rattle.cf_store.proofs.Merged.{each_more}
-use Rattle.cf_store.proofs.Options.{not_both}
 use Rattle.cf_store.proofs.merges.are_groups.Goals as goal
 
 pub loop-k-preserved : goal.loop-k-preserved

@@ -1,4 +1,4 @@
-use Rattle.std.proofs.Common.{◌≡◌, ◌∙◌, [], List, map, ap, ap₂, sym}
+use Rattle.std.proofs.Common.{◌∙◌, List, map, ap, ap₂, sym}
 use Rattle.cf_row.specs.declared.row.Entry.{Entry}
 use Rattle.cf_fold.specs.declared.trigger.Trigger.{Trigger}
 use Rattle.cf_plain.specs.Answered.{answer_on}

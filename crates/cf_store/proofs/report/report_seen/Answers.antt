@@ -1,4 +1,4 @@
-use Rattle.std.proofs.Common.{◌≡◌, ◌∙◌, List, length, ap, ap₂, sym, subst}
+use Rattle.std.proofs.Common.{◌∙◌, List, length, ap, ap₂, sym, subst}
 use Rattle.std.proofs.lemmas.Result.{IfOk-weaker}
 use Rattle.cf_row.specs.declared.row.Entry.{Entry}
 use Rattle.cf_plain.specs.Answered.{LoadedValue}

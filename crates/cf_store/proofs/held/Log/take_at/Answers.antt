@@ -1,4 +1,4 @@
-use Rattle.std.proofs.Common.{◌≡◌, ◌∙◌, All, ◌∷◌, [], Some, None, slice_get, set, ap, refl, sym, subst, arith}
+use Rattle.std.proofs.Common.{◌≡◌, ◌∙◌, All, ◌∷◌, [], Some, slice_get, set, ap, refl, sym, subst, arith}
 use Rattle.std.specs.Arc.{arc_value}
 use Rattle.std.proofs.lemmas.Option.{slice_get_within}
 use Rattle.cf_store.specs.Homes.{PlaceValue, taken_home}

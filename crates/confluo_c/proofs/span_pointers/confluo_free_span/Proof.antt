@@ -1,0 +1,70 @@
+-- `confluo_free_span` lends what is owned at the pointer to the function of that name in `cf_handles`, and hands it back.
+use Rattle.confluo_c.proofs.Steps.{◌≡◌, ◌∙◌, ℕ, List, [], ◌∷◌, ◌++◌, refl, sym, ap, subst, MutBor, proved_at, handle_tells, full_share, id⊢, ent, ftrue, flft, flent, fsep, fact, tables, named, Val, vptr, vunit, WpFn, Body, lft_new, lft_end, at_ret, Item, ⋆, some, later, pick, use1, use2, use3, await, rewrite, suffices, group, done, keep, ‵, raw, ◌⊛◌, ◌$◌, ◌∵◌, !, qed, by, move, drop, split, join, fsplit, fjoin, fpick, feq_l, feq_i, unit_lit, of_opd, addr, stop, no_more, and_then, first, blocks, exec, returns, enter, free_all, look_at, get, through, sets, sets_last, lands_as, env, alloc_all, pass_all, yes, unit, lends_ref, ref_back, mem, part_at, RattleType, owns, Ptr, RawPtr, block_ptr, in_a_block, lies_at, ptr_val, MutRef, plain, nothing, heard, only, calls_at, lasts, triple_of, framed, Stays, walk_of, stay_dropped, Goes-dropped, ends_at, Option, None}
+use Rattle.cf_store.specs.Spans.{SpanValue}
+use Rattle.std.specs.contracts.alloc.Global as Heap
+use Rattle.cf_handles.proofs.AsSeat.{al}
+use Rattle.confluo_c.proofs.Leads.{closes, opens}
+use Rattle.confluo_c.specs.Leads.{handle_owns, leads_to, span_at}
+use Rattle.cf_store.specs.contracts.span.Span as Held
+use Rattle.confluo_c.specs.contracts.raw.RawHandle as Bytes
+use Rattle.cf_handles.specs.contracts.handle.Handle as Handle
+use Rattle.confluo_c.specs.contracts.span_pointers.confluo_free_span as f
+use Rattle.confluo_c.proofs.span_pointers.confluo_free_span.Statement.{statement}
+use Rattle.confluo_c.proofs.span_pointers.confluo_free_span.Code as code
+use Rattle.cf_handles.specs.contracts.spans.confluo_free_span as g
+use Rattle.cf_handles.proofs.spans.confluo_free_span.Met.{met}
+
+abbrev stayed : Stays f.ended.signature.params f.ended.kept
+stayed = (stay_dropped _ yes, (stay_dropped _ yes, tt))
+
+abbrev R : RattleType
+R = Handle.the_row Held.the_row
+
+pub confluo_free_span_spec : {M : Type 1} → statement M
+confluo_free_span_spec 𝓤 𝓛 𝓜 𝓡 wired =
+    let c = f.clauses 𝓛 𝓜.mem 𝓡.returns in let W = walk_of 𝓛 f.ended stayed c in let 𝓣 = tables 𝓤 𝓛.H 𝓜 𝓡 𝓡.env in
+    proved_at 𝓛 f.ended stayed c 𝓜 𝓡
+    (Goes-dropped 𝓛 0 (plain (λ _. Heap.the_row)) yes (λ κs x w. refl), (Goes-dropped 𝓛 0 (plain (λ _. RawPtr)) yes (λ κs x w. refl), tt))
+    f.Key.name code.function (code.unfolded 𝓤 𝓛.H 𝓜 𝓡 wired)
+    (λ z are. let a = z.0.3.0 in let p = z.0.3.1.0 in let x = z.1 in let Post = W.post z in
+    qed 𝓛 ((‵ ftrue ⊛ ‵ (owns (Heap.the_row ∷ RawPtr ∷ []) (a, (p, tt)) z.0.4)) ∷ ‵ (span_at p x) ∷ []) ∵
+    split ! $ move ! (1 ∷ []) $ fsplit ! $ handle_tells al ! a z.0.4.0 (λ hv eh fa. move ! (1 ∷ []) $ fsplit ! $ feq_l ! (λ ep.
+    -- [true; the allocator; no tokens; what lies at p]
+    move ! (3 ∷ []) $ fpick ! (λ h. fsplit ! $ in_a_block ! p (λ r. lies_at Bytes.the_row full_share r h) (id⊢ 𝓤 _) (λ b o e. fjoin ! $
+    let Γ : List (Item 𝓤) =
+    ‵ (fsep (part_at Bytes.the_row full_share h b o) (handle_owns Held.the_row h x)) ∷ ‵ ftrue ∷ ‵ (Heap.the_row.own_val a (hv ∷ [])) ∷ ‵ ftrue ∷ [] in
+    by ! (subst (λ (us : List Val). ent 𝓤 (⋆ 𝓛 Γ) (WpFn 𝓤 𝓛.H 𝓣.C 𝓣.Λ code.function us Post))
+    (sym (λ i. eh i ++ ((ep ∙ ap (λ (r : Ptr). ptr_val r ∷ []) e) i ++ [])))
+    (qed 𝓛 Γ ∵ keep ! (0 ∷ 2 ∷ []) $
+    use1 𝓛 (some (λ (k : R.Denot). ‵ (part_at R full_share k b o) ⊛ raw (fact 𝓤 (k.seat.held ≡ x)))) (opens Held.the_row 𝓛 b o h x) $ pick !
+    (λ k. split ! $ move ! (1 ∷ []) $ heard ! _ (λ led.
+    enter ! 𝓣.C 𝓣.Λ code.function (hv ∷ vptr b o ∷ []) _ $ alloc_all ! (λ ls. pass_all ! refl (fa, ((tt, tt), tt)) $
+    lft_new ! tt (λ α. move ! (1 ∷ []) $
+    use1 𝓛 (later
+    (some (λ (δ : ℕ). ‵ ((MutRef (named 0) (α ∷ []) R).own_val (record { ref_ptr = (b, o); ghost_name = δ; now = k }) (vptr b o ∷ [])) ⊛ ‵
+    (flent (α ∷ []) (Body (mem R) b o δ)))))
+    (lends_ref 𝓛 R (named 0) (α ∷ []) k b o) $ await ! tt $ pick ! (λ δ. split ! $
+    -- [the loan; what comes back; the token of α; the allocator]
+    sets ! (of_opd ! (get ! refl)) refl fa $ first ! $ blocks ! $ sets ! (of_opd ! (get ! refl)) refl (tt, tt) $ sets_last ! (addr ! (through ! refl (stop !))) refl (tt, tt) $
+    exec ! 𝓣.C 𝓣.Λ (env code.Mir.locals ls) code.Mir.t-3 (at_ret (env code.Mir.locals ls) Post) $
+    sets ! (of_opd ! (get ! refl)) refl (tt, tt) $
+    let G = triple_of 𝓛 g.signature (g.spec 𝓛 𝓜.mem 𝓡.returns) in
+    let loan : MutBor R.Denot = record { ref_ptr = (b, o); ghost_name = δ; now = k } in
+    let y : G.Ghost = (((α ∷ [], tt), (full_share, tt), tt, (a, (loan, tt)), (hv ∷ [], (vptr b o ∷ [], tt))), tt) in
+    nothing ! $ move ! (1 ∷ 0 ∷ []) $ join ! $ move ! (3 ∷ 0 ∷ []) $ join ! $ nothing ! $ move ! (3 ∷ 0 ∷ []) $ join ! $ join ! $
+    nothing ! $ move ! (1 ∷ 0 ∷ []) $ use2 𝓛 (raw (G.pre y)) (id⊢ 𝓤 _) $
+    calls_at ! (framed 𝓤 𝓛.H 𝓜 𝓣) G (met 𝓤 𝓛 𝓜 𝓡 (code.calls-cf_handles::spans::confluo_free_span 𝓡.env wired)) y
+    (and_then ! (get ! refl) (and_then ! (get ! refl) (no_more !))) (λ v.
+    use1 𝓛 (later (some (λ (r : Unit {0}). ((‵ (flft (α ∷ []) full_share) ⊛ ‵ ftrue) ⊛ ‵ (unit.own_val r (v ∷ []))) ⊛
+    some (λ (ws : Unit {0} × (R.Denot × Unit {0})). ‵ (lasts g.ended y.0.0 y.0.3 ws) ⊛ raw (fact 𝓤 (ws.1.0.seat.held ≡ None)))))) (id⊢ 𝓤 _) $
+    await ! tt $ pick ! (λ r. split ! $ split ! $ split ! $ lft_end ! tt $ move ! (2 ∷ []) $ feq_l ! (λ is_unit. lands_as ! (ap only is_unit) refl (tt, tt) $
+    -- [the token's end; nothing; what it ensures; what comes back]
+    move ! (2 ∷ []) $ pick ! (λ ws. split ! $ move ! (1 ∷ []) $ heard ! _ (λ none. let k' = ws.1.0 in
+    fsplit ! $ drop ! $ fsplit ! $ fsplit ! $ move ! (3 ∷ 5 ∷ 0 ∷ []) $
+    use3 𝓛 (later (‵ (part_at R full_share k' b o))) (ref_back 𝓛 R (α ∷ []) δ k' b o) $ await ! tt $
+    use1 𝓛 (‵ (leads_to Held.the_row (block_ptr b o) k'.seat.held)) (closes Held.the_row 𝓛 b o k') $
+    rewrite ! 0 (λ (n : Option SpanValue). ‵ (leads_to Held.the_row (block_ptr b o) n)) none refl $
+    rewrite ! 0 (λ (r : Ptr). ‵ (leads_to Held.the_row r None)) (sym e) refl $
+    sets ! (of_opd ! (unit_lit !)) refl (tt, tt) $ returns ! (look_at ! 0 refl) $ free_all ! refl $ keep ! (0 ∷ []) $
+    suffices ! _ (ends_at 𝓛 f.ended stayed c z vunit tt (tt, (tt, tt)) (tt, (tt, tt))) $
+    feq_i ! (List Val) (vunit ∷ []) (vunit ∷ []) refl $ nothing ! $ nothing ! $ join ! $ nothing ! $ join ! $ nothing ! $ group ! 3 $ done !)))))))))))))))))

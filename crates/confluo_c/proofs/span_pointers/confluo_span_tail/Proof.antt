@@ -1,0 +1,85 @@
+-- `confluo_span_tail` lends what is owned at the pointer to the function of that name in `cf_handles`, and hands it back.
+use Rattle.confluo_c.proofs.Steps.{◌≡◌, ◌∙◌, ℕ, List, [], ◌∷◌, ◌++◌, refl, sym, ap, subst, w32, MutBor, proved_at, handle_tells, full_share, id⊢, ent, sep, ex, ftrue, flft, flent, fsep, fact, tables, named, Val, vptr, WpFn, sem, Body, lft_new, lft_end, at_ret, Item, ⋆, some, later, pick, use1, use2, use3, await, rewrite, show, suffices, group, done, ‵, raw, ◌⊛◌, ◌$◌, ◌∵◌, !, qed, by, move, drop, split, join, fsplit, fjoin, fpick, feq_l, of_opd, addr, stop, no_more, and_then, first, blocks, exec, returns, enter, free_all, look_at, get, through, sets, sets_last, lands_as, env, alloc_all, pass_all, yes, u32, Is, shows, lends_ref, ref_back, mem, part_at, uint_Lawful, RattleType, owns, Ptr, RawPtr, block_ptr, in_a_block, lies_at, ptr_val, MutRef, plain, nothing, heard, peeks, calls_at, lasts, triple_of, framed, Stays, walk_of, stay_dropped, Goes-dropped, gave_ref, Goes-gave_ref, ends_at, says, Option}
+use Rattle.cf_handles.specs.Calls.{Tells}
+use Rattle.cf_handles.specs.Spanned.{IsSpanTail}
+use Rattle.cf_store.specs.Spans.{SpanValue}
+use Rattle.std.specs.contracts.alloc.Global as Heap
+use Rattle.cf_handles.proofs.AsSeat.{al}
+use Rattle.confluo_c.proofs.Leads.{closes, opens}
+use Rattle.confluo_c.specs.Leads.{handle_owns, leads_to, span_at}
+use Rattle.cf_store.specs.contracts.span.Span as HeldSpan
+use Rattle.confluo_c.specs.contracts.raw.RawHandle as Bytes
+use Rattle.cf_handles.specs.contracts.handle.Handle as Handle
+use Rattle.confluo_c.specs.contracts.span_pointers.confluo_span_tail as f
+use Rattle.confluo_c.proofs.span_pointers.confluo_span_tail.Statement.{statement}
+use Rattle.confluo_c.proofs.span_pointers.confluo_span_tail.Code as code
+use Rattle.cf_handles.specs.contracts.spans.confluo_span_tail as g
+use Rattle.cf_handles.proofs.spans.confluo_span_tail.Met.{met}
+
+abbrev stayed : Stays f.ended.signature.params f.ended.kept
+stayed = (stay_dropped _ yes, (stay_dropped _ yes, (gave_ref (0 ∷ []) tt (plain (λ _. u32)), tt)))
+
+abbrev R : RattleType
+R = Handle.the_row HeldSpan.the_row
+
+pub confluo_span_tail_spec : {M : Type 1} → statement M
+confluo_span_tail_spec 𝓤 𝓛 𝓜 𝓡 wired =
+    let c = f.clauses 𝓛 𝓜.mem 𝓡.returns in let W = walk_of 𝓛 f.ended stayed c in let 𝓣 = tables 𝓤 𝓛.H 𝓜 𝓡 𝓡.env in
+    proved_at 𝓛 f.ended stayed c 𝓜 𝓡 (
+      Goes-dropped 𝓛 1 (plain (λ _. Heap.the_row)) yes (λ κs x w. refl),
+      (Goes-dropped 𝓛 1 (plain (λ _. RawPtr)) yes (λ κs x w. refl), (Goes-gave_ref 𝓛 1 0 tt (plain (λ _. u32)), tt)),
+    )
+    f.Key.name code.function (code.unfolded 𝓤 𝓛.H 𝓜 𝓡 wired)
+    (λ z are. let κ = z.0.0.0 in let q = z.0.1.0 in let a = z.0.3.0 in let p = z.0.3.1.0 in let tail = z.0.3.1.1.0 in let x = z.1 in let Post = W.post z in
+    qed 𝓛 (((‵ (flft κ q) ⊛ ‵ ftrue) ⊛ ‵ (owns (Heap.the_row ∷ RawPtr ∷ MutRef (named 0) κ u32 ∷ []) (a, (p, (tail, tt))) z.0.4)) ∷ ‵ (span_at p x) ∷ []) ∵
+    split ! $ move ! (1 ∷ []) $ fsplit ! $ handle_tells al ! a z.0.4.0
+    (λ hv eh fa. move ! (1 ∷ []) $ fsplit ! $ feq_l !
+    (λ ep. fsplit ! $ rewrite ! 0 (λ (us : List Val). ‵ ((MutRef (named 0) κ u32).own_val tail us)) (are.1.1.0.0) refl $
+    move ! (4 ∷ []) $ fpick ! (λ h. fsplit ! $ in_a_block ! p (λ r. lies_at Bytes.the_row full_share r h) (id⊢ 𝓤 _) (λ b o e. fjoin ! $
+    let Γ : List (Item 𝓤) = ‵ (fsep (part_at Bytes.the_row full_share h b o) (handle_owns HeldSpan.the_row h x))
+    ∷ ‵ ((MutRef (named 0) κ u32).own_val tail (vptr tail.ref_ptr.0 tail.ref_ptr.1 ∷ []))
+    ∷ ‵ ftrue
+    ∷ ‵ (Heap.the_row.own_val a (hv ∷ []))
+    ∷ (‵ (flft κ q) ⊛ ‵ ftrue) ∷ [] in
+    by ! (subst (λ (us : List Val). ent 𝓤 (⋆ 𝓛 Γ) (WpFn 𝓤 𝓛.H 𝓣.C 𝓣.Λ code.function us Post))
+    (sym (λ i. eh i ++ ((ep ∙ ap (λ (r : Ptr). ptr_val r ∷ []) e) i ++ (are.1.1.0.0 i ++ []))))
+    (qed 𝓛 Γ ∵ move ! (2 ∷ []) $ drop ! $
+    use1 𝓛 (some (λ (k : R.Denot). ‵ (part_at R full_share k b o) ⊛ raw (fact 𝓤 (k.seat.held ≡ x)))) (opens HeldSpan.the_row 𝓛 b o h x) $ pick !
+    (λ k. split ! $ move ! (1 ∷ []) $ heard ! _ (λ led.
+    enter ! 𝓣.C 𝓣.Λ code.function (hv ∷ vptr b o ∷ vptr tail.ref_ptr.0 tail.ref_ptr.1 ∷ []) _ $ alloc_all !
+    (λ ls. pass_all ! refl (fa, ((tt, tt), ((tt, tt), tt))) $
+    lft_new ! tt (λ α. move ! (1 ∷ []) $
+    use1 𝓛 (later
+    (some (λ (δ : ℕ). ‵ ((MutRef (named 0) (α ∷ []) R).own_val (record { ref_ptr = (b, o); ghost_name = δ; now = k }) (vptr b o ∷ [])) ⊛ ‵
+    (flent (α ∷ []) (Body (mem R) b o δ)))))
+    (lends_ref 𝓛 R (named 0) (α ∷ []) k b o) $ await ! tt $ pick ! (λ δ. split ! $
+    sets ! (of_opd ! (get ! refl)) refl fa $ first ! $ blocks ! $ sets ! (of_opd ! (get ! refl)) refl (tt, tt) $ sets_last ! (addr ! (through ! refl (stop !))) refl (tt, tt) $
+    exec ! 𝓣.C 𝓣.Λ (env code.Mir.locals ls) code.Mir.t-3 (at_ret (env code.Mir.locals ls) Post) $
+    sets ! (of_opd ! (get ! refl)) refl (tt, tt) $ sets ! (addr ! (through ! refl (stop !))) refl (tt, tt) $
+    let G = triple_of 𝓛 g.signature (g.spec 𝓛 𝓜.mem 𝓡.returns) in
+    let loan : MutBor R.Denot = record { ref_ptr = (b, o); ghost_name = δ; now = k } in
+    let y : G.Ghost = (
+      ((α ∷ [], (κ, tt)), (full_share, (q, tt)), tt, (a, (loan, (tail, tt))), (hv ∷ [], (vptr b o ∷ [], (vptr tail.ref_ptr.0 tail.ref_ptr.1 ∷ [], tt)))),
+      tt,
+    ) in
+    nothing ! $ move ! (4 ∷ 0 ∷ []) $ join ! $ move ! (1 ∷ 0 ∷ []) $ join ! $ move ! (3 ∷ 0 ∷ []) $ join ! $ move ! (2 ∷ 3 ∷ []) $ join ! $ join ! $
+    nothing ! $ move ! (1 ∷ 0 ∷ []) $ use2 𝓛 (raw (G.pre y)) (id⊢ 𝓤 _) $
+    calls_at ! (framed 𝓤 𝓛.H 𝓜 𝓣) G (met 𝓤 𝓛 𝓜 𝓡 (code.calls-cf_handles::spans::confluo_span_tail 𝓡.env wired)) y
+    (and_then ! (get ! refl) (and_then ! (get ! refl) (and_then ! (get ! refl) (no_more !)))) (λ v.
+    use1 𝓛 (later (some (λ (r : ℕ). ((‵ (flft (α ∷ []) full_share) ⊛ (‵ (flft κ q) ⊛ ‵ ftrue)) ⊛ ‵ (u32.own_val r (v ∷ []))) ⊛
+    some (λ (ws : Unit {0} × (R.Denot × (ℕ × Unit {0}))). ‵ (lasts g.ended y.0.0 y.0.3 ws) ⊛
+    raw (fact 𝓤 (Tells IsSpanTail k.seat.held ws.1.0.seat.held tail.now ws.1.1.0 r)))))) (id⊢ 𝓤 _) $
+    await ! tt $ pick !
+    (λ r. split ! $ split ! $ split ! $ lft_end ! tt $ move ! (3 ∷ []) $ pick ! (λ ws. split ! $ move ! (1 ∷ []) $ heard ! _ (λ did. let k' = ws.1.0 in
+    fsplit ! $ drop ! $ fsplit ! $ fsplit ! $ move ! (1 ∷ []) $ drop ! $ move ! (2 ∷ 5 ∷ 0 ∷ []) $
+    use3 𝓛 (later (‵ (part_at R full_share k' b o))) (ref_back 𝓛 R (α ∷ []) δ k' b o) $ await ! tt $
+    use1 𝓛 (‵ (leads_to HeldSpan.the_row (block_ptr b o) k'.seat.held)) (closes HeldSpan.the_row 𝓛 b o k') $
+    rewrite ! 0 (λ (r : Ptr). ‵ (leads_to HeldSpan.the_row r k'.seat.held)) (sym e) refl $ move ! (3 ∷ []) $
+    peeks ! u32 (Is u32) (shows 𝓛 u32) r (v ∷ []) (λ is. lands_as ! refl refl ((uint_Lawful 𝓛 w32).typed r _ is).0 $
+    returns ! (look_at ! 0 refl) $ free_all ! refl $ move ! (1 ∷ []) $
+    suffices ! _ (ends_at 𝓛 f.ended stayed c z v r (tt, (tt, (ws.1.1.0, tt))) (tt, (tt, (tt, tt)))) $
+    let Told = λ (n : Option SpanValue). sep 𝓤 (sem 𝓛 (span_at p n)) (fact 𝓤 (Tells IsSpanTail x n tail.now ws.1.1.0 r)) in
+    use1 𝓛 (raw (ex 𝓤 Told))
+    (qed 𝓛 (‵ (span_at p k'.seat.held) ∷ []) ∵ show ! Told k'.seat.held $
+    says ! (subst (λ (m : Option SpanValue). Tells IsSpanTail m k'.seat.held tail.now ws.1.1.0 r) led did) $ done !) $
+    move ! (2 ∷ []) $ nothing ! $ join ! $ nothing ! $ join ! $ move ! (3 ∷ 0 ∷ 2 ∷ 1 ∷ []) $ group ! 3 $ done !)))))))))))))))))
