@@ -73,12 +73,11 @@ fn take_last(segments: &mut Vec<WindowSegment>, row: &Row) -> bool
     ensures room { vec_capacity segments.new ≡ vec_capacity segments.old }
     ensures open { result ≡ true → IsOpenLast segments.new.items }
 {
-    let Some(mut last) = segments.pop() else {
+    let count = segments.len();
+    if count == 0 {
         return false;
-    };
-    let taken = last.take(row);
-    segments.push_reserved(last);
-    taken
+    }
+    segments[count - 1].take(row)
 }
 
 impl Window {
