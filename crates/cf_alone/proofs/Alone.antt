@@ -261,6 +261,7 @@ still log m n alone asked = record {
   alone = alone_still log m n alone asked;
   same = ap₂ (λ (es : List Entry) (bs : List Book). solo_at log.shape es (get_or bs 0 (no_book 0)).used)
       (seen_still log m n alone asked) asked.books;
+  few = subst (λ (es : List Entry). length es ≤ (log.shape).capacity) (seen_still log m n alone asked) asked.few;
   knows = asked.knows;
 }
 

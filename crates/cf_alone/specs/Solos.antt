@@ -13,7 +13,7 @@ use Rattle.cf_append.specs.Paths.{Remembers}
 use Rattle.cf_append.specs.declared.appends.AppendFault.{AppendFault}
 use Rattle.cf_append.specs.declared.appends.AppendFault.TheVariants.{NodesFull}
 use Rattle.cf_append.specs.declared.leaves.Leaves.{Leaves}
-use Rattle.cf_plain.specs.Asks.{eval, rows_in}
+use Rattle.cf_plain.specs.Asks.{Suits, eval, rows_in}
 use Rattle.cf_plain.specs.Segments.{finding_in}
 use Rattle.cf_plain.specs.declared.answer.Answer.{Answer}
 use Rattle.cf_plain.specs.declared.ask.Ask.{Ask}
@@ -61,9 +61,15 @@ pub record HasCome (row : RowValue) (before after : SoloValue) (answer : Result 
   pub enough : IfOk answer (λ _. AreEnough before.shape after.entries after.used)
   pub lacks : answer ≡ Err NodesFull → LacksNodes before.shape row before.used
 
+-- the question may be asked by the log's one pass
+pub record MayAsk (log : LogValue) (pass : PassValue) (question : Ask) : Type 0 where
+  pub alone : IsAlone log pass
+  pub suits : Suits log.shape question
+
 -- A question left the log's one pass as it was, but for what it knows, which is no less.
 pub record IsStill (log : LogValue) (before after : PassValue) : Type 0 where
   pub alone : IsAlone log after
+  pub few : length (before.view).seen ≤ (log.shape).capacity
   pub same : solo_of log after ≡ solo_of log before
   pub knows : (s : Spot) (node : ℕ) → Knows before.view s node → Knows after.view s node
 

@@ -3,8 +3,7 @@ ghost use Rattle.std.specs.Prelude.{◌≡◌, ◌<◌, ◌≤◌, length, IfOk}
 ghost use Rattle.cf_row.specs.Row.{Fits};
 ghost use Rattle.cf_shape.specs.Lanes.{IsShape};
 ghost use Rattle.cf_plain.specs.Asks.{Suits};
-ghost use Rattle.cf_alone.specs.Alone.{IsAlone};
-ghost use Rattle.cf_alone.specs.Solos.{HasCome, IsAnswerOn, IsFoundIn, IsSolo, IsStill, empty_solo, solo_of};
+ghost use Rattle.cf_alone.specs.Solos.{HasCome, IsAnswerOn, IsFoundIn, IsSolo, IsStill, MayAsk, empty_solo, solo_of};
 
 use cf_append::{AppendFault, Leaves, append_near, settle};
 use cf_plain::{Answer, Ask, Finding};
@@ -67,8 +66,7 @@ fn ask_counted<L: Ledger>(
     question: &Ask,
     blank: Blank,
 ) -> Result<Answer, Memory>
-    requires alone { IsAlone log.now pass.old }
-    requires suits { Suits log.now.shape question.now }
+    requires may { MayAsk log.now pass.old question.now }
     requires blank { (blank.name ≡ L.name) × (blank.parts ≡ L.parts) × (0 < L.parts) }
     ensures still { IsStill log.now pass.old pass.new }
     ensures ok { IfOk result (IsAnswerOn (solo_of log.now pass.old) question.now) }
@@ -85,11 +83,9 @@ fn find_counted<L: Ledger>(
     question: &Ask,
     blank: Blank,
 ) -> Result<(u32, Finding), Memory>
-    requires alone { IsAlone log.now pass.old }
-    requires suits { Suits log.now.shape question.now }
+    requires may { MayAsk log.now pass.old question.now }
     requires blank { (blank.name ≡ L.name) × (blank.parts ≡ L.parts) × (0 < L.parts) }
     ensures still { IsStill log.now pass.old pass.new }
-    ensures few { length pass.old.view.seen ≤ log.now.shape.capacity }
     ensures ok { IfOk result (IsFoundIn (solo_of log.now pass.old) question.now) }
 {
     let mut steps = Steps::<L>::new(blank);

@@ -1,5 +1,3 @@
-use Rattle.std.proofs.Common.{◌≤◌, List, length, subst}
-use Rattle.cf_row.specs.declared.row.Entry.{Entry}
 use Rattle.cf_alone.proofs.Alone.{asked_by, found_by, seen_still, still}
 use Rattle.cf_alone.proofs.solo.find_counted.Goals as goal
 
@@ -8,7 +6,7 @@ returns-clause-still g c =
     let log = c.args.log.now in
     let m = c.args.pass.now in
     let n = c.finding.new.pass in
-    still log m n c.requires.alone (asked_by log c.args.question.now m n c.finding.result c.finding.ensures.ok c.finding.ensures.memory)
+    still log m n c.requires.may.alone (asked_by log c.args.question.now m n c.finding.result c.finding.ensures.ok c.finding.ensures.memory)
 
 pub returns-clause-ok : goal.returns-clause-ok
 returns-clause-ok g c =
@@ -16,12 +14,4 @@ returns-clause-ok g c =
     let m = c.args.pass.now in
     let n = c.finding.new.pass in
     let asked = asked_by log c.args.question.now m n c.finding.result c.finding.ensures.ok c.finding.ensures.memory in
-    found_by log c.args.question.now m n c.finding.result c.finding.ensures.ok (seen_still log m n c.requires.alone asked)
-
-pub returns-clause-few : goal.returns-clause-few
-returns-clause-few g c =
-    let log = c.args.log.now in
-    let m = c.args.pass.now in
-    let n = c.finding.new.pass in
-    let asked = asked_by log c.args.question.now m n c.finding.result c.finding.ensures.ok c.finding.ensures.memory in
-    subst (λ (es : List Entry). length es ≤ log.shape.capacity) (seen_still log m n c.requires.alone asked) asked.few
+    found_by log c.args.question.now m n c.finding.result c.finding.ensures.ok (seen_still log m n c.requires.may.alone asked)
