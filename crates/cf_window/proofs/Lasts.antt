@@ -1,5 +1,5 @@
 -- The last segment is replaced by what a row made of it.
-use Rattle.std.proofs.Common.{◌≡◌, ◌∙◌, ℕ, ◌-◌, ◌<◌, zero, suc, List, [], ◌∷◌, ◌++◌, length, take, set, get_or, Bool, true, false, not, Some, slice_get, slice_index_or, sym, ap, ap₂, refl, subst, arith}
+use Rattle.std.proofs.Common.{◌≡◌, ◌∙◌, ℕ, ◌-◌, ◌<◌, zero, suc, List, [], ◌∷◌, ◌++◌, length, take, set, get_or, Bool, true, false, not, Some, slice_get, slice_index_or, sym, ap, ap₂, refl, arith}
 use Rattle.std.proofs.lemmas.List.{length-map, length-set}
 use Rattle.std.proofs.lemmas.Option.{slice_get-get_or}
 use Rattle.cf_row.specs.Row.{RowValue}

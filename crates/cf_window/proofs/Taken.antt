@@ -1,5 +1,5 @@
 -- What a segment takes.
-use Rattle.std.proofs.Common.{◌≡◌, ◌∙◌, ℕ, ◌<◌, ◌≤◌, inl, inr, List, [], ◌∷◌, ◌++◌, length, Bool, true, false, ◌&&◌, not, nat_lt, nat_le, Some, slice_get, Result, Ok, Err, is_ok, refl, sym, ap, ap₂, subst, arith}
+use Rattle.std.proofs.Common.{◌≡◌, ◌∙◌, ℕ, ◌≤◌, inl, inr, List, [], ◌∷◌, ◌++◌, length, Bool, true, false, ◌&&◌, not, nat_lt, nat_le, slice_get, Result, Ok, Err, is_ok, refl, sym, ap, ap₂, subst, arith}
 use Rattle.std.proofs.lemmas.Bool.{cases_Bool}
 use Rattle.std.proofs.lemmas.Bool.Decides.{nat_tests}
 use Rattle.std.proofs.lemmas.List.{length-map, map-append}
@@ -16,7 +16,7 @@ use Rattle.cf_plain.specs.Asks.{rows_in}
 use Rattle.cf_alone.specs.Needed.{IsNeeded}
 use Rattle.cf_alone.specs.Solos.{AreNeeded, HasCome, SoloValue, empty_solo}
 use Rattle.cf_alone.proofs.Pigeons.{in_either}
-use Rattle.cf_window.specs.Segments.{HasEnough, IsWindowSegment, WindowSegmentValue, segment_value, with_nodes, with_row}
+use Rattle.cf_window.specs.Segments.{HasEnough, IsWindowSegment, segment_value, with_nodes, with_row}
 use Rattle.cf_window.specs.Windows.{takes}
 
 -- a spot that is needed is needed by more rows too

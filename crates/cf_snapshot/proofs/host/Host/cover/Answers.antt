@@ -1,4 +1,4 @@
-use Rattle.std.proofs.Common.{◌≡◌, ◌∙◌, true, false, Err, IfOk, ap, subst}
+use Rattle.std.proofs.Common.{◌≡◌, ◌∙◌, true, Err, IfOk, ap, subst}
 use Rattle.cf_alone.specs.Solos.{LacksNodes}
 use Rattle.cf_snapshot.specs.declared.event.SnapEvent.TheVariants.{Cover}
 use Rattle.cf_snapshot.specs.Hosts.{HostValue, IsEvent, host_of}
