@@ -118,8 +118,8 @@ impl Solo {
     }
 
     /// Appends the row, covers it as the next record, and answers its place. `Full` comes where all places are covered, and
-    /// `NodesFull` where a path of the row wants a node and all are used; nothing is covered then. A row whose key has the same
-    /// front as the row before costs no walk from the root.
+    /// `NodesFull` where a path of the row wants a node and all are used; nothing is covered then. In a lane where its key has the
+    /// front of the last one, the row costs no walk from the root.
     pub fn append(&mut self, row: &Row) -> Result<u32, AppendFault>
         requires fits { Fits self.old.shape.schema row.now }
         ensures come { HasCome row.now self.old self.new result }
