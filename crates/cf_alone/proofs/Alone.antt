@@ -24,11 +24,16 @@ use Rattle.cf_append.specs.declared.appends.AppendFault.{AppendFault}
 use Rattle.cf_append.specs.declared.appends.AppendFault.TheVariants.{Full, NodesFull}
 use Rattle.cf_append.proofs.Appending.{rests_by, rests_all}
 use Rattle.cf_append.proofs.Answering.{rests_same, same_writer}
-use Rattle.cf_plain.specs.Asks.{eval}
-use Rattle.cf_plain.specs.declared.ask.Ask.{Ask}
+use Rattle.cf_plain.specs.Asks.{eval, rows_in}
+use Rattle.cf_plain.specs.Segments.{finding_in}
 use Rattle.cf_plain.specs.declared.answer.Answer.{Answer}
+use Rattle.cf_plain.specs.declared.ask.Ask.{Ask}
+use Rattle.cf_plain.specs.declared.finding.Finding.{Finding}
 use Rattle.cf_query.specs.Asking.{HasAsked}
 use Rattle.cf_alone.specs.Alone.{IsAlone, HasCovered, HasUsedFor}
+use Rattle.cf_alone.specs.Solos.{IsAnswerOn, IsFoundIn, IsSolo, IsStill, SoloValue, empty_solo, solo_of}
+use Rattle.cf_append.specs.declared.leaves.Leaves.{Leaves}
+use Rattle.cf_append.proofs.Pathing.{remembers_still}
 use Rattle.cf_table.proofs.Homing.{still_one}
 
 -- Entries of writer 0 alone.
@@ -247,6 +252,25 @@ alone_still log m n alone asked =
       full = λ k b at over. ap (λ (es : List Entry). length es) seen ∙ alone.full k b (held k b at) over;
     }
 
+abbrev pub solo_at : ShapeValue → List Entry → List Spot → SoloValue
+solo_at shape entries used = record { shape = shape; entries = entries; used = used }
+
+-- The question left the pass as it was, but for what it knows.
+pub still : (log : LogValue) (m n : PassValue) → IsAlone log m → HasAsked log.shape m n → IsStill log m n
+still log m n alone asked = record {
+  alone = alone_still log m n alone asked;
+  same = ap₂ (λ (es : List Entry) (bs : List Book). solo_at log.shape es (get_or bs 0 (no_book 0)).used)
+      (seen_still log m n alone asked) asked.books;
+  few = subst (λ (es : List Entry). length es ≤ (log.shape).capacity) (seen_still log m n alone asked) asked.few;
+  knows = asked.knows;
+}
+
+-- a solo log's parts after what leaves its pass so
+pub solo_still : (log : LogValue) (m n : PassValue) (leaves : Leaves) → IsSolo log m leaves → IsStill log m n → IsSolo log n leaves
+solo_still log m n leaves is then =
+    record { alone = then.alone; near = remembers_still log.shape m.view n.view leaves then.knows is.near }
+
+-- whether or not memory ran out
 abbrev pub IsReply : LogValue → Ask → PassValue → PassValue → Answer → Type 0
 IsReply log question m n answer = HasAsked log.shape m n × (answer.tail ≡ length (n.view).seen) × (answer.body ≡ eval log.shape question (n.view).seen)
 
@@ -256,9 +280,24 @@ asked_either log question m n (Ok a) ok err = ok.0
 asked_either log question m n (Err e) ok err = err
 
 pub asked_seen : (log : LogValue) (question : Ask) (m n : PassValue) (r : Result Answer AllocError) → IfOk r (IsReply log question m n)
-    → (n.view).seen ≡ (m.view).seen → IfOk r (λ a. (a.tail ≡ length (m.view).seen) × (a.body ≡ eval log.shape question (m.view).seen))
+    → (n.view).seen ≡ (m.view).seen → IfOk r (IsAnswerOn (solo_of log m) question)
 asked_seen log question m n (Ok a) ok same = (ok.1 ∙ ap (λ (es : List Entry). length es) same, ok.2 ∙ ap (λ (es : List Entry). eval log.shape question es) same)
 asked_seen log question m n (Err e) ok same = tt
+
+abbrev pub IsFound : LogValue → Ask → PassValue → PassValue → ℕ × Finding → Type 0
+IsFound log question m n found =
+    HasAsked log.shape m n × (found.0 ≡ length (n.view).seen) × (found.1 ≡ finding_in log.shape question (rows_in (n.view).seen))
+
+pub asked_by : (log : LogValue) (question : Ask) (m n : PassValue) (r : Result (ℕ × Finding) AllocError) → IfOk r (IsFound log question m n)
+    → IfErr r (λ x. HasAsked log.shape m n) → HasAsked log.shape m n
+asked_by log question m n (Ok a) ok err = ok.0
+asked_by log question m n (Err e) ok err = err
+
+pub found_by : (log : LogValue) (question : Ask) (m n : PassValue) (r : Result (ℕ × Finding) AllocError) → IfOk r (IsFound log question m n)
+    → (n.view).seen ≡ (m.view).seen → IfOk r (IsFoundIn (solo_of log m) question)
+found_by log question m n (Ok a) ok same =
+    (ok.1 ∙ ap (λ (es : List Entry). length es) same, ok.2 ∙ ap (λ (es : List Entry). finding_in log.shape question (rows_in es)) same)
+found_by log question m n (Err e) ok same = tt
 
 -- A log was opened, and its one book dealt.
 one_book : (P : Book → Type 0) (p : Pass) (b : Book) → p.books ≡ b ∷ [] → P b → (k : ℕ) (c : Book) → Holds p k c → P c
@@ -287,6 +326,12 @@ opened_used log m n h hs one is dealt at =
     let lt : 0 < w = omega (arith, one) in
     let e : no_book 0 ≡ d.book = (let f : Some (no_book 0) ≡ Some d.book = sym (table_at no_book w 0 lt) ∙ there in cc f) in
     ap (λ (p : Pass). (book_of p).used) d.view ∙ ap (λ (b : Book). b.used) (sym e)
+
+-- it has covered nothing, and used no node
+pub empty_by : (s shape : ShapeValue) (entries : List Entry) (used : List Spot) → s ≡ shape → entries ≡ [] → used ≡ []
+    → solo_at s entries used ≡ empty_solo shape
+empty_by s shape entries used is none unused =
+    ap₂ (λ (es : List Entry) (u : List Spot). solo_at s es u) none unused ∙ ap (λ (x : ShapeValue). solo_at x [] []) is
 
 pub opened : (log : LogValue) (m n h : PassValue) (hs : List PassValue) → (log.shape).writers ≡ 1 → m.view ≡ root_pass log.shape → AreDealt log m hs n
     → slice_get hs 0 ≡ Some h → IsAlone log h

@@ -1,3 +1,4 @@
 pub mod Pigeons
 pub mod Nodes
 pub mod Alone
+pub mod Lacking

@@ -1,3 +1,9 @@
-//! A log of one writer, whose pass has seen all that it has finished: definitions, in specs/, and lemmas about what an append, a
-//! settling and a question make of it, in proofs/. Hosts and windows have such logs. And which nodes the rows of a log need.
+//! A log of one writer, whose pass has seen all that it has finished. A host of a snapshot has one, and so has each segment of a window.
+//!
+//! `Solo` covers a row as soon as it is appended, and keeps the last leaf in each lane, so that a row beside the one before costs
+//! no walk from the root. The definitions in specs/ also say which nodes the rows of a log need.
 #![tactic(auto)]
+
+mod solo;
+
+pub use solo::Solo;

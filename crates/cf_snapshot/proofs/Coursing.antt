@@ -21,7 +21,8 @@ use Rattle.cf_shape.specs.Nodes.{distinct}
 use Rattle.cf_law.specs.Words.{Spot}
 use Rattle.cf_snapshot.specs.Courses.{IsCourse, answers_on}
 use Rattle.cf_alone.specs.Alone.{HasCovered, HasUsedFor}
-use Rattle.cf_snapshot.specs.Hosts.{HostValue, AreEnough, AreNeeded, HasEnough}
+use Rattle.cf_alone.specs.Solos.{AreEnough, AreNeeded}
+use Rattle.cf_snapshot.specs.Hosts.{HostValue, HasEnough}
 use Rattle.cf_snapshot.specs.Snapshots.{SnapValue, IsSnapshot, IsOf, is_lawful, changed, after}
 use Rattle.cf_snapshot.specs.declared.event.SnapEvent.{SnapEvent}
 use Rattle.cf_snapshot.proofs.Lawful.{taken, passed_over}

@@ -2,10 +2,8 @@ pub mod Lawful
 pub mod Sound
 pub mod Histories
 pub mod Cuts
-pub mod Hosting
 pub mod Standing
 pub mod Planning
-pub mod Lacking
 pub mod Coursing
 pub mod Driving
 pub mod Ending

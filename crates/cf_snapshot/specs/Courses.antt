@@ -8,7 +8,8 @@ use Rattle.cf_plain.specs.declared.ask.Ask.{Ask}
 use Rattle.cf_plain.specs.declared.answer.Answer.{Answer}
 use Rattle.cf_shape.specs.Lanes.{ShapeValue}
 use Rattle.cf_shape.specs.Nodes.{distinct}
-use Rattle.cf_snapshot.specs.Hosts.{HostValue, AreNeeded, HasEnough}
+use Rattle.cf_alone.specs.Solos.{AreNeeded}
+use Rattle.cf_snapshot.specs.Hosts.{HostValue, HasEnough}
 use Rattle.cf_snapshot.specs.Plans.{turns_round, turn_of_host, turns_of_host, freeze_host, in_cut}
 use Rattle.cf_snapshot.specs.Snapshots.{SnapValue, IsSnapshot, is_host, tail_of, is_frozen, after, state_after}
 use Rattle.cf_snapshot.specs.declared.event.SnapEvent.TheVariants.{Begin, Freeze}

@@ -1,12 +1,9 @@
 -- What contracts see of a host, what its calls do, and which event of a snapshot each of them is.
-use Rattle.std.specs.Prelude.{◌≡◌, ℕ, ◌<◌, ◌≤◌, Bool, true, false, List, [], length, Some, slice_get}
-use Rattle.cf_row.specs.Row.{RowValue}
+use Rattle.std.specs.Prelude.{◌≡◌, ℕ, Bool, true, false, List, [], length}
 use Rattle.cf_row.specs.declared.row.Entry.{Entry}
-use Rattle.cf_alone.specs.Needed.{IsNeeded}
+use Rattle.cf_alone.specs.Solos.{SoloValue, AreEnough}
 use Rattle.cf_shape.specs.Lanes.{ShapeValue}
-use Rattle.cf_shape.specs.Nodes.{distinct}
 use Rattle.cf_law.specs.Words.{Spot}
-use Rattle.cf_plain.specs.Asks.{rows_in}
 use Rattle.cf_snapshot.specs.declared.event.SnapEvent.{SnapEvent}
 use Rattle.cf_snapshot.specs.Snapshots.{SnapValue, IsSnapshot, is_host, tail_of, is_frozen, is_lawful, after}
 
@@ -18,25 +15,17 @@ pub record HostValue : Type 0 where
   pub used : List Spot
   pub is_frozen : Bool
 
+-- the host of such a log
+abbrev pub host_of : SoloValue → Bool → HostValue
+host_of solo is_frozen = record { shape = solo.shape; entries = solo.entries; used = solo.used; is_frozen = is_frozen }
+
 -- a host that has covered nothing
 abbrev pub empty_host : ShapeValue → HostValue
 empty_host shape = record { shape = shape; entries = []; used = []; is_frozen = false }
 
--- the path of some of these rows goes through each used node
-abbrev pub AreNeeded : ShapeValue → List RowValue → List Spot → Type 0
-AreNeeded shape rows used = (j : ℕ) (s : Spot) → slice_get used j ≡ Some s → IsNeeded shape rows s
-
--- where no node is used but for the rows of the entries, these need no more different nodes than there are
-abbrev pub AreEnough : ShapeValue → List Entry → List Spot → Type 0
-AreEnough shape entries used = AreNeeded shape (rows_in entries) used → distinct shape (rows_in entries) ≤ shape.nodes
-
+-- its rows need no more different nodes than there are, if no node is used but for them
 abbrev pub HasEnough : HostValue → Type 0
 HasEnough host = AreEnough host.shape host.entries host.used
-
--- Some rows that have this one, and that need the used nodes, need more different nodes than there are.
-abbrev pub LacksNodes : ShapeValue → RowValue → List Spot → Type 0
-LacksNodes shape row used = (rows : List RowValue) (place : ℕ) → slice_get rows place ≡ Some row → AreNeeded shape rows used
-    → shape.nodes < distinct shape rows
 
 -- host h of the snapshot has covered as many records, and is frozen where that one is
 pub record StandsFor (s : SnapValue) (h : ℕ) (host : HostValue) : Type 0 where

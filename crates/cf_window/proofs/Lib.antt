@@ -5,5 +5,6 @@ pub mod Finding
 pub mod Dropping
 pub mod Rows
 pub mod Pushing
+pub mod Lasts
 pub mod Courses
 pub mod Examples

@@ -1,23 +1,15 @@
--- A segment: a log with one writer that takes rows until it has no place or lacks a node.
+-- A segment: a log of one writer that takes rows until it has no place or lacks a node.
 use Rattle.std.specs.Prelude.{◌≡◌, ◌⊎◌, ℕ, ◌*◌, ◌≤◌, Bool, true, false, List, [], ◌∷◌, ◌++◌, length}
 use Rattle.cf_row.specs.Row.{RowValue}
 use Rattle.cf_shape.specs.Lanes.{ShapeValue}
-use Rattle.cf_alone.specs.Needed.{HasNodes}
 use Rattle.cf_plain.specs.Asks.{rows_in}
-use Rattle.cf_alone.specs.Alone.{IsAlone}
-use Rattle.cf_table.specs.Values.{PassValue, LogValue}
+use Rattle.cf_alone.specs.Solos.{AreNeeded, SoloValue}
 
 -- its shape, its rows, and whether it has refused one
 pub record WindowSegmentValue : Type 0 where
   pub shape : ShapeValue
   pub rows : List RowValue
   pub is_spent : Bool
-
--- The log has one writer, whose pass has seen all that it has finished. While it has refused no row, its used nodes are those that
--- its rows need.
-pub record IsWindowSegment (log : LogValue) (pass : PassValue) (is_spent : Bool) : Type 0 where
-  pub alone : IsAlone log pass
-  pub nodes : is_spent ≡ false → HasNodes log.shape (rows_in (pass.view).seen) pass.view
 
 -- the shape with so many nodes
 abbrev pub with_nodes : ShapeValue → ℕ → ShapeValue
@@ -32,9 +24,15 @@ pub record HasEnough (log : ShapeValue) (nodes : ℕ) : Type 0 where
   pub fewer : log.nodes ≤ nodes
   pub enough : (log.nodes ≡ nodes) ⊎ (log.capacity * most_nodes log ≤ log.nodes)
 
+-- The log's rows may need so many nodes, and it has enough of them. While it has refused no row, its used nodes are those that its
+-- rows need.
+pub record IsWindowSegment (solo : SoloValue) (nodes : ℕ) (is_spent : Bool) : Type 0 where
+  pub needed : is_spent ≡ false → AreNeeded solo.shape (rows_in solo.entries) solo.used
+  pub enough : HasEnough solo.shape nodes
+
 -- a segment whose rows may need so many nodes
-abbrev pub segment_value : LogValue → ℕ → PassValue → Bool → WindowSegmentValue
-segment_value log nodes pass is_spent = record { shape = with_nodes log.shape nodes; rows = rows_in (pass.view).seen; is_spent = is_spent }
+abbrev pub segment_value : SoloValue → ℕ → Bool → WindowSegmentValue
+segment_value solo nodes is_spent = record { shape = with_nodes solo.shape nodes; rows = rows_in solo.entries; is_spent = is_spent }
 
 -- rows, and one more where it was taken
 abbrev pub with_row : List RowValue → RowValue → Bool → List RowValue

@@ -65,7 +65,6 @@ impl Model for Window {
 fn take_last(segments: &mut Vec<WindowSegment>, row: &Row) -> bool
     requires shapes { (shape : ShapeValue) × All (IsOfShape shape) segments.old.items × Fits shape.schema row.now }
     requires open { IsOpenLast segments.old.items }
-    requires room { length segments.old.items ≤ vec_capacity segments.old }
     ensures taken { (shape : ShapeValue) → All (IsOfShape shape) segments.old.items → result ≡ goes_in shape (rows_each segments.old.items) row.now }
     ensures rows { rows_each segments.new.items ≡ with_taken (rows_each segments.old.items) row.now result }
     ensures shapes { (shape : ShapeValue) → All (IsOfShape shape) segments.old.items → All (IsOfShape shape) segments.new.items }
@@ -73,12 +72,11 @@ fn take_last(segments: &mut Vec<WindowSegment>, row: &Row) -> bool
     ensures room { vec_capacity segments.new ≡ vec_capacity segments.old }
     ensures open { result ≡ true → IsOpenLast segments.new.items }
 {
-    let Some(mut last) = segments.pop() else {
+    let count = segments.len();
+    if count == 0 {
         return false;
-    };
-    let taken = last.take(row);
-    segments.push_reserved(last);
-    taken
+    }
+    segments[count - 1].take(row)
 }
 
 impl Window {

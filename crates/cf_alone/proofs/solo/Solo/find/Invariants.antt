@@ -1,4 +1,4 @@
-use Rattle.cf_window.proofs.segment.WindowSegment.find.Given as goal
+use Rattle.cf_alone.proofs.solo.Solo.find.Given as goal
 
 abbrev pub ghosts-find_counted : goal.ghosts-find_counted
 ghosts-find_counted a = record { name = a.blank.name; parts = a.blank.parts }

@@ -1,4 +1,4 @@
-use Rattle.cf_snapshot.proofs.host.Host.ask.Given as goal
+use Rattle.cf_alone.proofs.solo.Solo.ask.Given as goal
 
 abbrev pub ghosts-ask_counted : goal.ghosts-ask_counted
 ghosts-ask_counted a = record { name = a.blank.name; parts = a.blank.parts }

@@ -2,9 +2,8 @@ use Rattle.std.proofs.Common.{◌≡◌, ◌∙◌, Some, slice_get, ap, sym, ar
 use Rattle.std.proofs.lemmas.Option.{slice_get-get_or}
 use Rattle.cf_shape.specs.Lanes.{ShapeValue}
 use Rattle.cf_table.specs.Values.{PassValue, book_of}
-use Rattle.cf_alone.proofs.Alone.{opened, opened_count, opened_seen, opened_used}
-use Rattle.cf_snapshot.proofs.Hosting.{empty_by}
-use Rattle.cf_snapshot.proofs.host.Host.open.Goals as goal
+use Rattle.cf_alone.proofs.Alone.{empty_by, opened, opened_count, opened_seen, opened_used}
+use Rattle.cf_alone.proofs.solo.Solo.open.Goals as goal
 
 pub swap_remove-pass-requires : goal.swap_remove-pass-requires
 swap_remove-pass-requires c =
@@ -24,7 +23,10 @@ invariant_of-result c =
     let many = opened_count c.in_ok-log.log c.in_ok-log.root c.deal.new.root items view c.in_ok-passes.ensures.dealt in
     let at : slice_get items 0 ≡ Some pass = slice_get-get_or items 0 pass (omega (arith, many, one))
     ∙ ap (λ (h : PassValue). Some h) (sym c.swap_remove-pass.ensures.value) in
-    opened c.in_ok-log.log c.in_ok-log.root c.deal.new.root pass items one view c.in_ok-passes.ensures.dealt at
+    record {
+      alone = opened c.in_ok-log.log c.in_ok-log.root c.deal.new.root pass items one view c.in_ok-passes.ensures.dealt at;
+      near = c.new.ensures (c.in_ok-log.log).shape pass.view;
+    }
 
 pub returns : goal.returns
 returns c =

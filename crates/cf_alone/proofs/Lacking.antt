@@ -1,4 +1,4 @@
--- The nodes that a host lacks, or has.
+-- The nodes that a log lacks, or has.
 use Rattle.std.proofs.Common.{◌≡◌, ◌∙◌, ℕ, zero, suc, ◌*◌, inl, inr, List, ◌++◌, length, get_or, Some, None, slice_get, Result, Ok, Err, IfOk, sym, ap, subst, arith}
 use Rattle.cf_append.specs.Appends.{Rests, HasAppendAnswer}
 use Rattle.cf_append.specs.declared.appends.AppendFault.{AppendFault}
@@ -20,7 +20,7 @@ use Rattle.cf_table.specs.Moves.{HasPaths}
 use Rattle.cf_table.specs.Values.{LogValue, PassValue, book_of}
 use Rattle.cf_law.specs.Words.{Spot}
 use Rattle.cf_alone.specs.Alone.{IsAlone}
-use Rattle.cf_snapshot.specs.Hosts.{AreEnough, LacksNodes}
+use Rattle.cf_alone.specs.Solos.{AreEnough, LacksNodes}
 
 -- the one book of a pass at rest
 one_book : (P : Book → Type 0) (p : Pass) → Rests p → P (book_of p) → (k : ℕ) (c : Book) → Holds p k c → P c
