@@ -1,5 +1,6 @@
 #!/bin/sh
 # Builds the plain twin with warnings as errors, with and without sanitizers, and runs it small: it ends with 0 if its log is whole.
+# The same of the bare chain.
 set -eu
 here=$(cd "$(dirname "$0")" && pwd)
 folder=$(mktemp -d)
@@ -13,6 +14,8 @@ for sanitizer in none address,undefined thread; do
         # Each record is found twice, since 32 keys are the 16 two times.
         grep -q "^finds 32 links 18002 " "$folder/said"
     done
+    cc -std=c11 -g -Wall -Wextra -Werror "$flags" -o "$folder/chase" "$here/chase.c"
+    "$folder/chase" 4 | grep -q "^4 words, 4246 links: "
 done
 for words in "--writers 0" "--lanes 17" "--batch" "--records -1" "--other 1"; do
     status=0
