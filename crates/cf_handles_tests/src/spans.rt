@@ -26,7 +26,8 @@ fn filled<R: Abort>(
     rt: &R,
     alloc: Global,
     capacity: u32,
-    rows: [[u64; 2]; 2],
+    first: &[u64],
+    second: &[u64],
     reader: &mut ReaderHandle,
 ) {
     let mut log = LogHandle::none(alloc);
@@ -45,12 +46,14 @@ fn filled<R: Abort>(
         0
     );
     assert_eq!(rt; confluo_take_reader(alloc, &mut log, reader), 0);
-    for row in rows {
-        assert_eq!(rt;
-            confluo_append_values(alloc, &mut writer, 5, &row, &mut offset),
-            0
-        );
-    }
+    assert_eq!(rt;
+        confluo_append_values(alloc, &mut writer, 5, first, &mut offset),
+        0
+    );
+    assert_eq!(rt;
+        confluo_append_values(alloc, &mut writer, 5, second, &mut offset),
+        0
+    );
     confluo_free_writer(alloc, &mut writer);
     confluo_free_log(alloc, &mut log);
 }
@@ -59,8 +62,8 @@ fn filled<R: Abort>(
 fn two_logs<R: Abort>(rt: &R, alloc: Global, span: &mut SpanHandle) {
     let mut reader = ReaderHandle::none(alloc);
     let mut next = ReaderHandle::none(alloc);
-    filled(rt, alloc, 2, [[1, 7], [12, 3]], &mut reader);
-    filled(rt, alloc, 2, [[13, 5], [25, 9]], &mut next);
+    filled(rt, alloc, 2, &[1, 7], &[12, 3], &mut reader);
+    filled(rt, alloc, 2, &[13, 5], &[25, 9], &mut next);
     assert_eq!(rt; confluo_span_of(alloc, &mut reader, span), 0);
     assert_eq!(rt; confluo_span_of(alloc, &mut reader, span), 4);
     assert_eq!(rt; confluo_span_add(alloc, span, &mut next), 0);
@@ -131,7 +134,7 @@ fn a_log_of_another_size_is_refused(rt: HostRuntime) {
     let mut reader = ReaderHandle::none(alloc);
     let mut tail = 9;
     two_logs(&rt, alloc, &mut span);
-    filled(&rt, alloc, 3, [[1, 7], [12, 3]], &mut reader);
+    filled(&rt, alloc, 3, &[1, 7], &[12, 3], &mut reader);
     assert_eq!(rt; confluo_span_add(alloc, &mut span, &mut reader), 16);
     assert_eq!(rt; confluo_tail(alloc, &mut reader, &mut tail), 0);
     assert_eq!(rt; tail, 2);
