@@ -16,8 +16,8 @@ use Rattle.cf_intake.specs.Rows.{ArePacketsTo, CaptureValue}
 use Rattle.cf_intake.specs.Several.{names_in}
 use Rattle.cf_intake.specs.Faults.{HasPacketFaultTo}
 use Rattle.cf_intake.specs.Parts.{IsBad}
-use Rattle.cf_intake.specs.Reads.{AreRowsGiven, HasNext, HasNextFrom, HaveRead, view_by}
-use Rattle.cf_intake.specs.Series.{AllSayPackets, AreEndToEnd, BreaksPackets, HasCome, IsAtCapture, IsInCapture, IsSeriesAt, IsUnopened, SaysPackets, SeriesComesTo, SeriesGoesOn, cuts_of_all, reading, rows_of_all}
+use Rattle.cf_intake.specs.Reads.{AreRowsGiven, HasNext, HasNextFrom, HaveRead, most_moved, view_by}
+use Rattle.cf_intake.specs.Series.{AllSayPackets, AreEndToEnd, BreaksPackets, HasCome, IsAtCapture, IsInCapture, IsSeriesAt, IsUnopened, SaysPackets, SeriesComesTo, SeriesGoesOn, cuts_of_all, most_in_series, reading, rows_of_all}
 use Rattle.cf_intake.specs.Series.SeriesEnd.{whole, refused}
 use Rattle.cf_intake.specs.Refusals.{unopened, unread}
 use Rattle.cf_intake.specs.declared.reads.Reads.{Reads}
@@ -259,6 +259,7 @@ module _ (old : Series) (reads : Reads) (told : Option (List File)) (now : Optio
           at = subst (λ (o : Option (List ℕ)). IsAtCapture old.schema told o mid (Some after) (at.own ++ more)) (sym here.1)
               (record {
                 kind = moves.kind ∙ in_it.kind;
+                size = moves.size ∙ in_it.size;
                 bytes = in_it.bytes ++ moves.piece;
                 have = moves.read in_it.bytes at.own in_it.have;
                 come = come_more told here.0 in_it.bytes now mid moves.piece in_it.come moved.taken;
@@ -284,7 +285,7 @@ module _ (old : Series) (reads : Reads) (told : Option (List File)) (now : Optio
           said = at.said;
           within = at.within;
           at = subst (λ (o : Option (List ℕ)). IsAtCapture old.schema told o mid (Some after) at.own) (sym here.1)
-              (record { kind = next.1 ∙ in_it.kind; bytes = in_it.bytes; have = found.0; come = still.0 });
+              (record { kind = next.1 ∙ in_it.kind; size = next.2 ∙ in_it.size; bytes = in_it.bytes; have = found.0; come = still.0 });
           rows_are = at.rows_are;
           cuts_are = at.cuts_are;
           count = at.count;
@@ -313,9 +314,9 @@ module _ (old : Series) (told : Option (List File)) (now : Option (List ℕ)) (r
   own_none = between (slice_get all_names old.place) at.at
 
   pub begun_so : (name : List ℕ) (reads : Reads) (mid : Option (List ℕ)) (given : List RowValue) → slice_get all_names old.place ≡ Some name
-      → HasCome told name [] mid → HaveRead reads [] [] → reads.schema ≡ old.schema → given ≡ []
+      → HasCome told name [] mid → HaveRead reads [] [] → reads.schema ≡ old.schema → most_moved reads ≡ most_in_series → given ≡ []
       → SeriesGoesOn (record old { reads = Some reads }) told mid rows given
-  begun_so name reads mid given is come have kind nothing = record {
+  begun_so name reads mid given is come have kind size nothing = record {
     more = [];
     at = record {
       whats = at.whats;
@@ -323,7 +324,7 @@ module _ (old : Series) (told : Option (List File)) (now : Option (List ℕ)) (r
       said = at.said;
       within = at.within;
       at = subst (λ (o : Option (List ℕ)). IsAtCapture old.schema told o mid (Some reads) at.own) (sym is)
-          (record { kind = kind; bytes = []; have = subst (λ (rs : List RowValue). HaveRead reads [] rs) (sym own_none.0) have; come = come });
+          (record { kind = kind; size = size; bytes = []; have = subst (λ (rs : List RowValue). HaveRead reads [] rs) (sym own_none.0) have; come = come });
       rows_are = append-nil rows ∙ at.rows_are;
       cuts_are = at.cuts_are;
       count = at.count ∙ ap (λ (rs : List RowValue). min (length rs) (2 ^ 64 - 1)) (sym (append-nil rows));

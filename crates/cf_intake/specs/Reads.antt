@@ -61,21 +61,25 @@ abbrev pub AreReadBy : PacketSchema → Option Reader → List ℕ → List ℕ 
 AreReadBy schema None held bytes rows = IsOpening held bytes rows
 AreReadBy schema (Some reader) held bytes rows = IsUnderWay schema reader bytes rows
 
+-- the most bytes that one read moves
+abbrev pub most_moved : Reads → ℕ
+most_moved reads = length reads.buf.items
+
 -- These bytes were read, and the records of these rows end in them.
 pub record HaveRead (reads : Reads) (bytes : List ℕ) (rows : List RowValue) : Type 0 where
   pub by : AreReadBy reads.schema reads.reader reads.held.items bytes rows
-  pub size : length reads.buf.items ≡ 65536
+  pub size : 0 < most_moved reads
 
 -- what a shelf tells
 abbrev pub view_by : (rest moved : Option (List ℕ)) → ShelfView
 view_by rest moved = record { rest = rest; moved = moved }
 
 -- One call of `read` moved these bytes: no more than it may, and some.
-pub record MovesPiece (before now : ShelfView) (piece : List ℕ) : Type 0 where
+pub record MovesPiece (most : ℕ) (before now : ShelfView) (piece : List ℕ) : Type 0 where
   pub taken : Consumes before.rest now.rest piece
   pub noted : Appends before.moved now.moved (length piece ∷ [])
   pub some : 0 < length piece
-  pub short : length piece ≤ 65536
+  pub short : length piece ≤ most
 
 -- One call found the end of the file,
 pub record FindsEnd (before now : ShelfView) : Type 0 where
@@ -91,14 +95,16 @@ pub record FailsToRead (before now : ShelfView) : Type 0 where
 -- A read moved a piece: wherever the reading was, it is there with the piece, and these are the rows of the records that the piece ended.
 pub record MovesOn (old new : Reads) (before now : ShelfView) (given : List RowValue) : Type 0 where
   pub piece : List ℕ
-  pub moved : length old.buf.items ≡ 65536 → MovesPiece before now piece
+  pub moved : 0 < most_moved old → MovesPiece (most_moved old) before now piece
   pub kind : new.schema ≡ old.schema
+  pub size : most_moved new ≡ most_moved old
   pub read : (bytes : List ℕ) (rows : List RowValue) → HaveRead old bytes rows → HaveRead new (bytes ++ piece) (rows ++ given)
 
 -- the next read: the end, or a piece
 abbrev pub HasNext : Reads → Reads → (before now : ShelfView) → Option (List RowValue) → Type 0
 HasNext old new before now None =
     ((bytes : List ℕ) (rows : List RowValue) → HaveRead old bytes rows → HaveRead new bytes rows × FindsEnd before now) × (new.schema ≡ old.schema)
+    × (most_moved new ≡ most_moved old)
 HasNext old new before now (Some given) = MovesOn old new before now given
 
 -- the same with rows that are numbered from this number on

@@ -7,7 +7,7 @@ use Rattle.cf_pcap.specs.declared.limit.Length.TheVariants.{Any}
 use Rattle.cf_row.specs.Row.{RowValue}
 use Rattle.cf_intake.specs.Faults.{HasPacketFaultTo}
 use Rattle.cf_intake.specs.Files.{HasFile, HasLeft}
-use Rattle.cf_intake.specs.Reads.{AreRowsGiven, HaveRead, numbered_on}
+use Rattle.cf_intake.specs.Reads.{AreRowsGiven, HaveRead, most_moved, numbered_on}
 use Rattle.cf_intake.specs.Rows.{ArePacketsTo, CaptureValue}
 use Rattle.cf_intake.specs.Several.{names_in}
 use Rattle.cf_intake.specs.declared.reads.Reads.{Reads}
@@ -72,10 +72,15 @@ cuts_of_all whats = map (λ what. what.cut) whats
 abbrev pub HasCome : Option (List File) → List ℕ → (bytes : List ℕ) → Option (List ℕ) → Type 0
 HasCome told name bytes now = (left : List ℕ) × HasFile told name (Some (bytes ++ left)) × HasLeft told now (Some left)
 
+-- the most bytes that one read of a series moves
+abbrev pub most_in_series : ℕ
+most_in_series = 262144
+
 -- Of the capture of that name, which is open, these records came.
 pub record IsInCapture (schema : PacketSchema) (told : Option (List File)) (name : List ℕ) (now : Option (List ℕ)) (reads : Reads) (rows : List RowValue)
     : Type 0 where
   pub kind : reads.schema ≡ schema
+  pub size : most_moved reads ≡ most_in_series
   pub bytes : List ℕ
   pub have : HaveRead reads bytes rows
   pub come : HasCome told name bytes now

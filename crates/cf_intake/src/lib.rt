@@ -23,7 +23,7 @@ pub use files::{first_lines, first_rows, open_packets, read_setup};
 pub use hosts::read_hosts;
 pub use laws::{captures_have_one_end, each_file_is_in_one_case};
 pub use pieces::Pieces;
-pub use reads::Reads;
+pub use reads::{PIECE, Reads};
 pub use refusal::{Halt, Refusal, Stop};
 pub use rows::{Captured, Format, Manner, format_of};
 pub use series::Series;

@@ -6,7 +6,7 @@ ghost use Rattle.cf_intake.specs.Causes.{HasStopCause};
 ghost use Rattle.cf_intake.specs.declared.refusal.Stop.TheVariants as stops;
 ghost use Rattle.cf_intake.specs.Reading.{AddsFew, Feeds, IfReaderAt, reads_blocks, reads_scope};
 ghost use Rattle.cf_intake.specs.Rows.{packet_rows};
-ghost use Rattle.cf_intake.specs.Reads.{AreNumberedFrom, AreReadBy, FailsToRead, HasBroken, HasEndedAs, HasNext, HasNextFrom, HasNotBroken, HaveRead, IsUnderWay, MovesPiece, WhileReading, view_by};
+ghost use Rattle.cf_intake.specs.Reads.{AreNumberedFrom, AreReadBy, FailsToRead, HasBroken, HasEndedAs, HasNext, HasNextFrom, HasNotBroken, HaveRead, IsUnderWay, MovesPiece, WhileReading, most_moved, view_by};
 
 use crate::pieces::{feed_rows, links_of};
 use crate::reader::Reader;
@@ -17,8 +17,8 @@ use cf_pcap::{Frame, Scope};
 use cf_row::{Memory, PacketSchema, Row};
 use std::alloc::Global;
 
-/// The most bytes that a read moves.
-const PIECE: usize = 65536;
+/// The most bytes that a read moves of a capture that is followed while it comes.
+pub const PIECE: usize = 65536;
 
 /// So many bytes tell the format of a capture.
 const FORMAT: usize = 4;
@@ -106,16 +106,18 @@ fn next_frames(
 }
 
 impl Reads {
-    /// Nothing of the opened capture was read, of which rows come by that schema.
-    pub fn begin(alloc: Global, schema: PacketSchema) -> Result<Reads, Memory>
+    /// Nothing of the opened capture was read, of which rows come by that schema. One read moves so many bytes at most.
+    pub fn begin(alloc: Global, schema: PacketSchema, most: usize) -> Result<Reads, Memory>
+        requires some { 0 < most }
         ensures begun { IfOk result (λ reads. HaveRead reads [] []) }
         ensures schema { IfOk result (λ reads. reads.schema ≡ schema) }
+        ensures size { IfOk result (λ reads. most_moved reads ≡ most) }
     {
         Ok(Reads {
             schema,
             reader: None,
             held: Vec::new(alloc),
-            buf: vec![in alloc; 0u8; PIECE]?,
+            buf: vec![in alloc; 0u8; most]?,
         })
     }
 
@@ -128,9 +130,9 @@ impl Reads {
         ensures files { F.files shelf.new ≡ F.files shelf.old }
         ensures read { IfOk result (λ given. HasNext self.old self.new (view_by (F.rest shelf.old) (F.moved shelf.old))
             (view_by (F.rest shelf.new) (F.moved shelf.new)) (option_map (λ frames. packet_rows self.old.schema frames.items) given)) }
-        ensures few { IfOk result (λ given. IfSome given (λ frames. WhileReading self.old (length frames.items ≤ 4096))) }
+        ensures few { IfOk result (λ given. IfSome given (λ frames. WhileReading self.old (16 * length frames.items ≤ most_moved self.old + 15))) }
         ensures schema { self.new.schema ≡ self.old.schema }
-        ensures stopped { result ≡ Err stops.Memory → WhileReading self.old ((piece : List ℕ) × MovesPiece (view_by (F.rest shelf.old) (F.moved shelf.old))
+        ensures stopped { result ≡ Err stops.Memory → WhileReading self.old ((piece : List ℕ) × MovesPiece (most_moved self.old) (view_by (F.rest shelf.old) (F.moved shelf.old))
             (view_by (F.rest shelf.new) (F.moved shelf.new)) piece) }
         ensures failed { result ≡ Err stops.ReadFault → FailsToRead (view_by (F.rest shelf.old) (F.moved shelf.old))
             (view_by (F.rest shelf.new) (F.moved shelf.new)) }
@@ -156,12 +158,12 @@ impl Reads {
         ensures files { F.files shelf.new ≡ F.files shelf.old }
         ensures read { IfOk result (λ given. HasNext self.old self.new (view_by (F.rest shelf.old) (F.moved shelf.old))
             (view_by (F.rest shelf.new) (F.moved shelf.new)) (option_map (λ rows. rows.items) given)) }
-        ensures few { IfOk result (λ given. IfSome given (λ rows. WhileReading self.old (length rows.items ≤ 4096))) }
+        ensures few { IfOk result (λ given. IfSome given (λ rows. WhileReading self.old (16 * length rows.items ≤ most_moved self.old + 15))) }
         ensures fit { IfOk result (λ given. IfSome given (λ rows. All (Fits (attrs_by self.old.schema)) rows.items)) }
         ensures schema { self.new.schema ≡ self.old.schema }
         ensures numbered { IfOk result (λ given. IfSome given (λ rows. (bytes : List ℕ) (before : List RowValue) → HaveRead self.old bytes before
             → AreNumberedFrom (length before) rows.items)) }
-        ensures stopped { result ≡ Err stops.Memory → WhileReading self.old ((piece : List ℕ) × MovesPiece (view_by (F.rest shelf.old) (F.moved shelf.old))
+        ensures stopped { result ≡ Err stops.Memory → WhileReading self.old ((piece : List ℕ) × MovesPiece (most_moved self.old) (view_by (F.rest shelf.old) (F.moved shelf.old))
             (view_by (F.rest shelf.new) (F.moved shelf.new)) piece) }
         ensures failed { result ≡ Err stops.ReadFault → FailsToRead (view_by (F.rest shelf.old) (F.moved shelf.old))
             (view_by (F.rest shelf.new) (F.moved shelf.new)) }
@@ -183,7 +185,7 @@ impl Reads {
         ensures files { F.files shelf.new ≡ F.files shelf.old }
         ensures read { IfOk result (λ given. HasNextFrom first self.old self.new (view_by (F.rest shelf.old) (F.moved shelf.old))
             (view_by (F.rest shelf.new) (F.moved shelf.new)) (option_map (λ rows. rows.items) given)) }
-        ensures few { IfOk result (λ given. IfSome given (λ rows. WhileReading self.old (length rows.items ≤ 4096))) }
+        ensures few { IfOk result (λ given. IfSome given (λ rows. WhileReading self.old (16 * length rows.items ≤ most_moved self.old + 15))) }
         ensures fit { IfOk result (λ given. IfSome given (λ rows. All (Fits (attrs_by self.old.schema)) rows.items)) }
         ensures schema { self.new.schema ≡ self.old.schema }
         ensures cause { HasStopCause (F.faults shelf.old) (F.faults shelf.new) result }

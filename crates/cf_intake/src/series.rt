@@ -17,6 +17,9 @@ use cf_outside::Shelf;
 use cf_row::{PacketSchema, Row};
 use std::alloc::Global;
 
+/// The most bytes that a read moves.
+const PIECE: usize = 262_144;
+
 /// Captures of packets, of any length, that are read one after another by single reads: each is opened when the one before has been read to its
 /// end. Their rows are numbered one by one over all captures, up to 2^32 - 1.
 #[derive(Drop)]
@@ -106,7 +109,7 @@ impl<'a> Series<'a> {
         ensures cause { HasHaltCause (F.faults shelf.old) (F.faults shelf.new) result }
     {
         open_capture(shelf, self.names[self.place])?;
-        self.reads = Some(Reads::begin(alloc, self.schema)?);
+        self.reads = Some(Reads::begin(alloc, self.schema, PIECE)?);
         Ok(Some(Vec::new(alloc)))
     }
 
@@ -143,7 +146,7 @@ impl<'a> Series<'a> {
         ensures files { F.files shelf.new ≡ F.files shelf.old }
         ensures read { (rows : List RowValue) → IsSeriesAt (reading self.old reads) (F.files shelf.old) (F.rest shelf.old) rows
             → SeriesComesTo self.new (F.files shelf.old) (F.rest shelf.new) rows (result_rows result) }
-        ensures few { IfOk result (λ given. IfSome given (λ rows. length rows.items ≤ 4096)) }
+        ensures few { IfOk result (λ given. IfSome given (λ rows. length rows.items ≤ 16384)) }
         ensures fit { IfOk result (λ given. IfSome given (λ rows. All (Fits (attrs_by reads.schema)) rows.items)) }
         ensures cause { HasHaltCause (F.faults shelf.old) (F.faults shelf.new) result }
     {
@@ -166,7 +169,7 @@ impl<'a> Series<'a> {
         ensures files { F.files shelf.new ≡ F.files shelf.old }
         ensures read { (rows : List RowValue) → IsSeriesAt self.old (F.files shelf.old) (F.rest shelf.old) rows
             → SeriesComesTo self.new (F.files shelf.old) (F.rest shelf.new) rows (result_rows result) }
-        ensures few { IfOk result (λ given. IfSome given (λ rows. length rows.items ≤ 4096)) }
+        ensures few { IfOk result (λ given. IfSome given (λ rows. length rows.items ≤ 16384)) }
         ensures fit { IfOk result (λ given. IfSome given (λ rows. All (Fits (attrs_by self.old.schema)) rows.items)) }
         ensures cause { HasHaltCause (F.faults shelf.old) (F.faults shelf.new) result }
     {

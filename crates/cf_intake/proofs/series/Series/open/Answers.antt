@@ -21,4 +21,4 @@ returns-clause-read g c = λ rows at.
     begun_so old (g.F.Shelf.files c.args.shelf.now) (g.F.Shelf.rest c.args.shelf.now) rows c.requires.none at
     (get_or old.names.now old.place no_name).now c.in_ok-begin.field-0 (g.F.Shelf.rest c.open_capture.new.shelf) c.new.result.items
     (name_at old.names.now old.place no_name c.requires.more) c.in_ok-open_capture.ensures.opened c.in_ok-begin.ensures.begun c.in_ok-begin.ensures.schema
-    c.new.ensures.items
+    c.in_ok-begin.ensures.size c.new.ensures.items
