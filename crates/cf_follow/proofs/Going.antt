@@ -12,7 +12,7 @@ use Rattle.cf_pcap.specs.declared.limit.Length.TheVariants.{Any}
 use Rattle.cf_intake.specs.Devices.{WritesFront}
 use Rattle.cf_intake.specs.Faults.{HasPacketFaultTo, ShowNoFault}
 use Rattle.cf_intake.specs.Parts.{IsBad}
-use Rattle.cf_intake.specs.Reads.{AreRowsGiven, FailsToRead, FindsEnd, HasNext, HaveRead, MovesOn, MovesPiece}
+use Rattle.cf_intake.specs.Reads.{AreRowsGiven, FailsToRead, FindsEnd, HasNext, HaveRead, MovesOn, MovesPiece, most_moved}
 use Rattle.cf_follow.specs.LeftStreams.{rows_left, stream_left, terms_left}
 use Rattle.cf_follow.proofs.LeftStreams.{last_says, round_stream}
 use Rattle.cf_intake.specs.Refusals.{line_of}
@@ -55,6 +55,7 @@ begins begun m left reading now held ready = (
     reads = [];
     read = read_nothing reading.schema now (rows_given reading [] [] ready.have);
     have = ready.have;
+    size = ready.size;
     kind = refl;
     keeps = ready.keeps;
     set = ready.set;
@@ -90,8 +91,11 @@ module _ (schema : PacketSchema) (begun : RoundsValue) (marks : List Bool) (m : 
   kind_now : new.schema ≡ schema
   kind_now = moves.kind ∙ on.kind
 
-  moved_piece : MovesPiece mid now moves.piece
-  moved_piece = moves.moved on.have.size
+  moved_piece : MovesPiece 65536 mid now moves.piece
+  moved_piece = subst (λ (most : ℕ). MovesPiece most mid now moves.piece) on.size (moves.moved on.have.size)
+
+  size_now : most_moved new ≡ 65536
+  size_now = moves.size ∙ on.size
 
   are_read : AreRead schema before now bytes reads
   are_read =
@@ -125,6 +129,7 @@ module _ (schema : PacketSchema) (begun : RoundsValue) (marks : List Bool) (m : 
           reads = reads;
           read = are_read;
           have = have_now;
+          size = size_now;
           kind = kind_now;
           keeps = on.keeps;
           set = on.set;
@@ -162,6 +167,7 @@ module _ (schema : PacketSchema) (begun : RoundsValue) (marks : List Bool) (m : 
           reads = reads;
           read = are_read;
           have = have_now;
+          size = size_now;
           kind = kind_now;
           keeps = on.keeps;
           set = set_then marks begun m next on.set set;
@@ -229,6 +235,7 @@ at_end schema begun marks m old new before mid now held told on sound next =
         reads = on.reads;
         read = on.read;
         have = after.0;
+        size = next.2 ∙ on.size;
         kind = next.1 ∙ on.kind;
         keeps = on.keeps;
         set = on.set;

@@ -9,7 +9,7 @@ use Rattle.cf_intake.specs.declared.refusal.Refusal.TheVariants as refusals
 use Rattle.cf_project.specs.Projected.{row_kept}
 use Rattle.cf_row.specs.declared.schema.Attr.{Attr}
 use Rattle.cf_row.specs.Schema6.{attrs_by}
-use Rattle.cf_intake.specs.Reads.{HaveRead}
+use Rattle.cf_intake.specs.Reads.{HaveRead, most_moved}
 use Rattle.cf_intake.specs.declared.reads.Reads.{Reads}
 use Rattle.cf_project.specs.Keeping.{keep}
 use Rattle.cf_rounds.specs.Held.{IsAt, IsSetAs, RoundsValue, begun_on}
@@ -18,7 +18,7 @@ use Rattle.cf_window.specs.Windows.{after_row, is_refused, window}
 use Rattle.cf_follow.specs.LeftStreams.{KeepsTerms, reads_left, rows_left, stream_left, terms_left}
 use Rattle.cf_follow.proofs.LeftStreams.{begun_same, forces_same, halts_same, round_stream, through_same}
 use Rattle.cf_follow.proofs.LeftWindows.{after_same, refused_same, window_same}
-use Rattle.cf_follow.specs.Followed.{AreTakenFrom, HasSaidBefore, IsLeftOf, IsReady, IsSetBy, IsTurnedAway, WritesPast}
+use Rattle.cf_follow.specs.Followed.{AreTakenFrom, HasSaidBefore, IsLeftOf, IsReady, IsSetBy, IsTurnedAway, WritesPast, most_read}
 use Rattle.cf_follow.specs.Heard.{AreTakenBehind, EndsAmong, EndsAtRead}
 use Rattle.cf_follow.specs.Heard.EndsAmong.{turned, turned_cut, forced_cut, lost}
 use Rattle.cf_follow.specs.declared.ending.Ending.{Ending}
@@ -34,8 +34,8 @@ as_many marks rows left is = ap (λ (rs : List RowValue). length rs) is ∙ leng
 -- Rounds begin on what is left.
 pub ready_so : (begun rounds : RoundsValue) (left : Left) (reading : Reads) → KeepsTerms left.kept.items begun.terms
     → left.schema ≡ ((begun.terms).shape).schema → rounds ≡ begun_on (terms_left left.kept.items begun.terms) begun.limit
-    → IsAt rounds [] (begun_stream rounds.terms) → HaveRead reading [] [] → IsReady begun rounds left reading
-ready_so begun rounds left reading keeps whole is at have =
+    → IsAt rounds [] (begun_stream rounds.terms) → HaveRead reading [] [] → most_moved reading ≡ most_read → IsReady begun rounds left reading
+ready_so begun rounds left reading keeps whole is at have size =
     let terms : rounds.terms ≡ terms_left left.kept.items begun.terms = ap (λ (r : RoundsValue). r.terms) is in record {
       keeps = keeps;
       whole = whole;
@@ -43,6 +43,7 @@ ready_so begun rounds left reading keeps whole is at have =
       at = subst (λ (s : Stream). IsAt rounds [] s) (ap begun_stream terms ∙ begun_same left.kept.items begun.terms keeps) at;
       unspent = ap (λ (r : RoundsValue). r.is_spent) is;
       have = have;
+      size = size;
     }
 
 -- They are on what is left of the rows of their setup.

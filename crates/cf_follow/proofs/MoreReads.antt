@@ -57,7 +57,7 @@ module _ (schema : PacketSchema) (pieces : List (List ℕ)) (piece : List ℕ) (
   }
 
 pub read_more : (schema : PacketSchema) (before mid now : ShelfView) (bytes piece : List ℕ) (reads : List (List RowValue)) (given : List RowValue)
-    → AreRead schema before mid bytes reads → ShowNoFault schema bytes → MovesPiece mid now piece → length given ≤ 4096
+    → AreRead schema before mid bytes reads → ShowNoFault schema bytes → MovesPiece 65536 mid now piece → length given ≤ 4096
     → AreRowsGiven schema (bytes ++ piece) (rows_in_all reads ++ given) → AreRead schema before now (bytes ++ piece) (reads ++ given ∷ [])
 read_more schema before mid now bytes piece reads given read sound moves few given_now = record {
   pieces = read.pieces ++ piece ∷ [];

@@ -9,7 +9,7 @@ use Rattle.cf_row.specs.Schema6.{attrs_by}
 use Rattle.cf_pcap.specs.declared.limit.Length.TheVariants.{Any}
 use Rattle.cf_intake.specs.Devices.{WritesFront}
 use Rattle.cf_intake.specs.Faults.{HasPacketFaultTo, ShowNoFault, ShowsFault}
-use Rattle.cf_intake.specs.Reads.{AreRowsGiven, FailsToRead, FindsEnd, HasNext, HaveRead, MovesPiece}
+use Rattle.cf_intake.specs.Reads.{AreRowsGiven, FailsToRead, FindsEnd, HasNext, HaveRead, MovesPiece, most_moved}
 use Rattle.cf_intake.specs.Refusals.{line_of}
 use Rattle.cf_intake.specs.Rows.{ArePacketsTo}
 use Rattle.cf_intake.specs.declared.reads.Reads.{Reads}
@@ -27,6 +27,10 @@ use Rattle.cf_follow.specs.declared.ending.Ending.{Ending}
 use Rattle.cf_follow.specs.declared.left.Left.{Left}
 use Rattle.cf_follow.specs.declared.ending.Ending.TheVariants.{Done, Refused, Stopped, Unwritten}
 
+-- the most bytes that one read moves
+abbrev pub most_read : ℕ
+most_read = 65536
+
 -- Reads have moved these bytes, in some pieces, and each ended these records. Each piece is what one call of the shelf's `read` moved. No
 -- call was made behind bytes that show a fault. No read ended more than 4,097 records, so no more come between two rounds.
 pub record AreRead (schema : PacketSchema) (before now : ShelfView) (bytes : List ℕ) (reads : List (List RowValue)) : Type 0 where
@@ -41,7 +45,7 @@ pub record AreRead (schema : PacketSchema) (before now : ShelfView) (bytes : Lis
 -- What a call of `read` more has come to, where one was made: it is made only behind bytes that show no fault.
 pub data IsAhead (schema : PacketSchema) (bytes : List ℕ) (before now : ShelfView) : Type 0 where
   uncalled : now ≡ before → IsAhead schema bytes before now
-  moved : (piece : List ℕ) → ShowNoFault schema bytes → MovesPiece before now piece → IsAhead schema bytes before now
+  moved : (piece : List ℕ) → ShowNoFault schema bytes → MovesPiece most_read before now piece → IsAhead schema bytes before now
   ended : ShowNoFault schema bytes → FindsEnd before now → IsAhead schema bytes before now
   failed : ShowNoFault schema bytes → FailsToRead before now → IsAhead schema bytes before now
 
@@ -181,6 +185,7 @@ pub record IsReady (begun rounds : RoundsValue) (left : Left) (reading : Reads) 
   pub at : IsAt rounds [] (stream_left left.kept.items (begun_stream begun.terms))
   pub unspent : rounds.is_spent ≡ false
   pub have : HaveRead reading [] []
+  pub size : most_moved reading ≡ most_read
 
 -- The following of a capture goes on: these reads were made, what is left of their records has gone in, and what rounds on the whole ones
 -- say is written.
@@ -190,6 +195,7 @@ pub record IsGoingOn (schema : PacketSchema) (begun : RoundsValue) (marks : List
   pub reads : List (List RowValue)
   pub read : AreRead schema before now bytes reads
   pub have : HaveRead reading bytes (rows_in_all reads)
+  pub size : most_moved reading ≡ most_read
   pub kind : reading.schema ≡ schema
   pub keeps : KeepsTerms marks begun.terms
   pub set : IsSetBy marks begun rounds

@@ -1,7 +1,7 @@
 // What is left of the rows of a capture.
-ghost use Rattle.std.specs.Prelude.{◌≡◌, ◌≤◌, ℕ, List, All, Err, IfOk, IfSome, length, option_map};
+ghost use Rattle.std.specs.Prelude.{◌≡◌, ◌≤◌, ◌+◌, ◌*◌, ℕ, List, All, Err, IfOk, IfSome, length, option_map};
 ghost use Rattle.cf_intake.specs.Causes.{HasStopCause};
-ghost use Rattle.cf_intake.specs.Reads.{FailsToRead, MovesPiece, WhileReading, view_by};
+ghost use Rattle.cf_intake.specs.Reads.{FailsToRead, MovesPiece, WhileReading, most_moved, view_by};
 ghost use Rattle.cf_intake.specs.declared.refusal.Stop.TheVariants as stops;
 ghost use Rattle.cf_project.specs.Keeping.{keep};
 ghost use Rattle.cf_row.specs.Row.{Fits};
@@ -42,11 +42,11 @@ impl LeftReads {
         ensures files { F.files shelf.new ≡ F.files shelf.old }
         ensures read { IfOk result (λ given. HasNextLeft self.old.left.kept.items self.old.reads self.new.reads (view_by (F.rest shelf.old) (F.moved shelf.old))
             (view_by (F.rest shelf.new) (F.moved shelf.new)) (option_map (λ rows. rows.items) given)) }
-        ensures few { IfOk result (λ given. IfSome given (λ rows. WhileReading self.old.reads (length rows.items ≤ 4096))) }
+        ensures few { IfOk result (λ given. IfSome given (λ rows. WhileReading self.old.reads (16 * length rows.items ≤ most_moved self.old.reads + 15))) }
         ensures fit { IfOk result (λ given. IfSome given (λ rows. All (Fits (keep self.old.left.kept.items self.old.left.schema)) rows.items)) }
         ensures left { self.new.left ≡ self.old.left }
         ensures schema { self.new.reads.schema ≡ self.old.reads.schema }
-        ensures stopped { result ≡ Err stops.Memory → WhileReading self.old.reads ((piece : List ℕ) × MovesPiece (view_by (F.rest shelf.old) (F.moved shelf.old))
+        ensures stopped { result ≡ Err stops.Memory → WhileReading self.old.reads ((piece : List ℕ) × MovesPiece (most_moved self.old.reads) (view_by (F.rest shelf.old) (F.moved shelf.old))
             (view_by (F.rest shelf.new) (F.moved shelf.new)) piece) }
         ensures failed { result ≡ Err stops.ReadFault → FailsToRead (view_by (F.rest shelf.old) (F.moved shelf.old))
             (view_by (F.rest shelf.new) (F.moved shelf.new)) }

@@ -19,7 +19,7 @@ use crate::end::end;
 use crate::left::{Left, LeftReads};
 use crate::said::{hear, refuse, tell};
 use cf_command::WindowSizes;
-use cf_intake::{Reads, Stop};
+use cf_intake::{PIECE, Reads, Stop};
 use cf_outside::{Shelf, Sink};
 use cf_project::{kept_setup, named_by};
 use cf_rounds::{Intervals, Rounds};
@@ -66,7 +66,7 @@ impl Watch {
         let shape = shape_of(alloc, &named, sizes.capacity, 1, sizes.nodes)?;
         Ok(Watch {
             rounds: Rounds::begin(alloc, named, shape, sizes.segments, intervals, LIMIT)?,
-            reads: Reads::begin(alloc, schema)?,
+            reads: Reads::begin(alloc, schema, PIECE)?,
             left,
             truncated,
         })

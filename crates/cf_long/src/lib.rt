@@ -5,6 +5,7 @@
 //! `series_report` does all this with captures that are read one after another.
 #![tactic(auto)]
 
+mod ahead;
 mod answers;
 mod growing;
 mod joins;

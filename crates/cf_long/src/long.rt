@@ -28,6 +28,7 @@ use std::thread::Threads;
 /// each question and each trigger once and let go, and the next one takes its place. What was found is kept, and no other row.
 #[derive(Drop)]
 pub struct Long {
+    alloc: Global,
     plan: LivePlan,
     // The shape with which the next segment is opened: with few nodes, until one needed more.
     small: Shape,
@@ -77,12 +78,18 @@ impl Long {
         let found = nothings(alloc, &asks)?;
         let segment = Growing::new(alloc, &small, shape)?;
         Ok(Long {
+            alloc,
             plan,
             small,
             segment,
             found,
             gone: 0,
         })
+    }
+
+    // From where the log is allocated.
+    pub(crate) fn alloc(&self) -> Global {
+        self.alloc
     }
 
     /// The shape of its segments.

@@ -3,7 +3,7 @@ use Rattle.std.specs.Prelude.{◌==◌}
 use Rattle.std.proofs.KnownBytes.{Keeps-refl}
 use Rattle.std.proofs.lemmas.Bool.{eqb-true}
 use Rattle.cf_row.specs.Row.{RowValue}
-use Rattle.cf_intake.specs.Reads.{view_by}
+use Rattle.cf_intake.specs.Reads.{MovesPiece, view_by}
 use Rattle.cf_window.specs.Windows.{rows_in_all}
 use Rattle.cf_follow.specs.Followed.IsAhead.{moved}
 use Rattle.cf_follow.specs.Heard.{Hears}
@@ -49,8 +49,9 @@ returns-in-Ok-clause-goes g c = λ schema begun before held on.
     let some : 0 < length given = not_empty given (ap (λ (n : ℕ). n == 0) (sym many ∙ sym c.in-Ok-Some.rows.ok.0) ∙ sym c.if-is_empty.ensures) in
     let says = rw moves.1 at (rw c.deref.ensures.value at c.in-Ok.ensures.heard) in
     let few_found = rw c.in-Ok-Some.is at c.next.ensures.few in
-    let given_few : length c.in-Ok-Some.rows.items ≤ 4096 = rw c.in-Ok-Some.field-0-is at few_found on.bytes (rows_in_all on.reads) on.have in
-    let few : length given ≤ 4096 = omega (arith, given_few, many) in
+    let given_few = rw c.in-Ok-Some.field-0-is at few_found on.bytes (rows_in_all on.reads) on.have in
+    let size = on.size in
+    let few : length given ≤ 4096 = omega (arith, given_few, many, size) in
     let sound = sound_kind schema c.args.reads.now.reads.schema on.bytes on.kind
     (c.fault.ensures.none (none_of c.fault.result c.in_default.not-Some) on.bytes (rows_in_all on.reads) on.have) in
     more_some schema begun c.args.reads.now.left.kept.items c.args.rounds.now c.args.reads.now.reads c.next.new.self.reads before
@@ -69,8 +70,9 @@ returns-in-Ok-Some-2-clause-goes g c = λ schema begun before held on truncated.
     let hears = subst (λ (rs : List RowValue). Hears c.args.rounds.now rs (g.K.Sink.held c.args.sink.now) c.hear.new.rounds (g.K.Sink.held c.hear.new.sink)
     (Err c.in-Err.ending)) (c.deref.ensures.value ∙ moves.1) c.in-Err.ensures.heard in
     let few_found = rw c.in-Ok-Some.is at c.next.ensures.few in
-    let given_few : length c.in-Ok-Some.rows.items ≤ 4096 = rw c.in-Ok-Some.field-0-is at few_found on.bytes (rows_in_all on.reads) on.have in
-    let few : length given ≤ 4096 = omega (arith, given_few, many) in
+    let given_few = rw c.in-Ok-Some.field-0-is at few_found on.bytes (rows_in_all on.reads) on.have in
+    let size = on.size in
+    let few : length given ≤ 4096 = omega (arith, given_few, many, size) in
     let sound = sound_kind schema c.args.reads.now.reads.schema on.bytes on.kind
     (c.fault.ensures.none (none_of c.fault.result c.in_default.not-Some) on.bytes (rows_in_all on.reads) on.have) in
     heard schema begun c.args.reads.now.left.kept.items c.args.rounds.now c.args.reads.now.reads c.next.new.self.reads before
@@ -81,12 +83,15 @@ returns-in-Ok-Some-2-clause-goes g c = λ schema begun before held on truncated.
 pub returns-in-Err-Memory-clause-goes : goal.returns-in-Err-Memory-clause-goes
 returns-in-Err-Memory-clause-goes g c = λ schema begun before held on truncated.
     let moves = c.next.ensures.stopped (c.in-Err-Memory.is ∙ ap Err c.in-Err-Memory.field-0-is) on.bytes (rows_in_all on.reads) on.have in
+    let view = view_by (g.F.Shelf.rest c.args.shelf.now) (g.F.Shelf.moved c.args.shelf.now) in
+    let after = view_by (g.F.Shelf.rest c.next.new.shelf) (g.F.Shelf.moved c.next.new.shelf) in
+    let piece : MovesPiece 65536 view after moves.0 = subst (λ (most : ℕ). MovesPiece most view after moves.0) on.size moves.1 in
     let sound = sound_kind schema c.args.reads.now.reads.schema on.bytes on.kind
     (c.fault.ensures.none (none_of c.fault.result c.in_default.not-Some) on.bytes (rows_in_all on.reads) on.have) in
     out_now schema begun c.args.reads.now.left.kept.items c.args.rounds.now c.args.reads.now.reads before
     (view_by (g.F.Shelf.rest c.args.shelf.now) (g.F.Shelf.moved c.args.shelf.now)) held
     (g.K.Sink.held c.args.sink.now) on truncated (view_by (g.F.Shelf.rest c.next.new.shelf) (g.F.Shelf.moved c.next.new.shelf))
-    (g.K.Sink.held c.args.sink.now) (moved moves.0 sound moves.1) (Keeps-refl (g.K.Sink.held c.args.sink.now))
+    (g.K.Sink.held c.args.sink.now) (moved moves.0 sound piece) (Keeps-refl (g.K.Sink.held c.args.sink.now))
 
 pub returns-clause-goes : goal.returns-clause-goes
 returns-clause-goes g c = λ schema begun before held on truncated.

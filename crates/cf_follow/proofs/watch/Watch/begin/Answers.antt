@@ -46,4 +46,4 @@ returns-clause-ready c =
     ready_so begun c.in_ok-begin.field-0 (record { schema = c.in_ok-copy.field-0; kept = c.in_ok-named_by.field-0 }) c.in_ok-begin-2.field-0 lean whole
     (c.in_ok-begin.ensures.begun
     ∙ ap₂ (rounds_of sizes.segments c.args.intervals.lives c.args.intervals.beat 9007199254740991) named_is shape_is)
-    c.in_ok-begin.ensures.at c.in_ok-begin-2.ensures.begun
+    c.in_ok-begin.ensures.at c.in_ok-begin-2.ensures.begun c.in_ok-begin-2.ensures.size
