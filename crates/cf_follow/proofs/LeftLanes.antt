@@ -1,11 +1,11 @@
 -- What is kept of the lanes is the same by what is left of records.
-use Rattle.std.proofs.Common.{◌≡◌, ◌∙◌, ℕ, ◌+◌, Bool, true, false, ◌&&◌, cond, List, [], ◌∷◌, length, map, Option, refl, ap, ap₂}
+use Rattle.std.proofs.Common.{◌≡◌, ◌∙◌, ℕ, ◌+◌, Bool, ◌&&◌, cond, List, [], ◌∷◌, length, map, Option, refl, ap, ap₂}
 use Rattle.std.specs.List.{list_any, range_with_len}
 use Rattle.std.specs.Option.{unwrap_or}
 use mathlib.Core.Path.{fun_ext}
 use Rattle.cf_row.specs.Row.{RowValue}
 use Rattle.cf_fold.specs.declared.trigger.Trigger.{Trigger}
-use Rattle.cf_shape.specs.Lanes.{IsShape, ShapeValue, by_of, has_by, key_of, measure_of, selected_by}
+use Rattle.cf_shape.specs.Lanes.{IsShape, ShapeValue, has_by, key_of, measure_of, selected_by}
 use Rattle.cf_shape.specs.declared.lane.Key.{Key}
 use Rattle.cf_shape.specs.declared.lane.Key.TheVariants as keys
 use Rattle.cf_shape.specs.declared.lane.Lane.{Lane}
@@ -18,7 +18,7 @@ use Rattle.cf_watch.specs.PairMarks.{apart_forgets}
 use Rattle.cf_watch.specs.Watched.{nothing_watched, watched_forgets, watched_row}
 use Rattle.cf_watch.specs.declared.watched.Watched.{Watched}
 use Rattle.cf_watch.specs.declared.watched.Watched.TheVariants.{Whole, Apart}
-use Rattle.cf_rounds.specs.Lanes.{forgets, forgets_at, keeps, keeps_from, kept_at, kept_with, none_kept}
+use Rattle.cf_rounds.specs.Lanes.{forgets, keeps, keeps_from, kept_at, kept_with, none_kept}
 use Rattle.cf_project.specs.Named.{KeepsShape}
 use Rattle.cf_project.specs.Projected.{key_kept, lane_kept, row_kept, shape_kept}
 use Rattle.cf_project.proofs.Found.{suits_same}

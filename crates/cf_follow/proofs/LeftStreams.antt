@@ -1,11 +1,10 @@
 -- A stream of what is left of records goes as that of the whole ones.
-use Rattle.std.proofs.Common.{◌≡◌, ◌∙◌, ℕ, ◌+◌, ◌-◌, Bool, true, false, ◌||◌, ◌&&◌, nat_lt, cond, List, [], ◌∷◌, ◌++◌, length, map, fold, refl, ap, ap₂}
+use Rattle.std.proofs.Common.{◌≡◌, ◌∙◌, ℕ, ◌+◌, ◌-◌, Bool, true, false, ◌||◌, ◌&&◌, nat_lt, cond, List, [], ◌∷◌, ◌++◌, length, fold, refl, ap, ap₂}
 use Rattle.std.proofs.lemmas.List.{length-map}
 use Rattle.cf_row.specs.Row.{RowValue}
 use Rattle.cf_watch.specs.declared.watched.Watched.{Watched}
-use Rattle.cf_window.specs.Rounds.{Span}
 use Rattle.cf_rounds.specs.Lines.{end_text}
-use Rattle.cf_rounds.specs.Streams.{Standing, Stream, Terms, after_record, after_reads, after_round, begun, comes, forces, halted_text, ready_for, span_of, through, view_of, was_read, watch_text, with_round}
+use Rattle.cf_rounds.specs.Streams.{Standing, Stream, Terms, after_record, after_reads, after_round, begun, comes, forces, halted_text, ready_for, through, view_of, was_read, watch_text, with_round}
 use Rattle.cf_rounds.proofs.Onward.{put}
 use Rattle.cf_project.specs.Projected.{row_kept}
 use Rattle.cf_project.proofs.Meant.{time_same}

@@ -1,9 +1,9 @@
 -- A window of what is left of records goes as that of the whole ones.
-use Rattle.std.proofs.Common.{◌≡◌, ◌∙◌, ℕ, ◌-◌, Bool, true, false, ◌&&◌, not, nat_le, nat_lt, cond, List, [], ◌∷◌, ◌++◌, length, map, fold, take, drop, get_or, refl, ap, ap₂, sym}
+use Rattle.std.proofs.Common.{◌≡◌, ◌∙◌, ℕ, ◌-◌, Bool, true, false, ◌&&◌, not, nat_le, nat_lt, cond, List, [], ◌∷◌, ◌++◌, length, fold, take, drop, get_or, refl, ap, ap₂, sym}
 use Rattle.std.proofs.lemmas.List.{drop-map, length-map, map-append, take-map}
 use Rattle.cf_row.specs.Row.{RowValue}
 use Rattle.cf_shape.specs.Lanes.{IsShape, ShapeValue}
-use Rattle.cf_shape.specs.Nodes.{Node, distinct, nodes_for}
+use Rattle.cf_shape.specs.Nodes.{Node, distinct}
 use Rattle.cf_window.specs.Windows.{after_row, drops, goes_in, is_refused, is_small, kept_for, last_of, rows_in_all, takes, window, with_last}
 use Rattle.cf_project.specs.Named.{KeepsShape}
 use Rattle.cf_project.specs.Projected.{row_kept, shape_kept}

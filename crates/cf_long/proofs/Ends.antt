@@ -1,14 +1,18 @@
 -- Records go into the log as they are read.
-use Rattle.std.proofs.Common.{◌≡◌, ◌∙◌, ℕ, ◌+◌, ◌-◌, ◌<◌, ◌≤◌, ◌^◌, Bool, true, false, List, [], ◌++◌, ◌*◌, length, take, Option, Ok, Err, refl, sym, ap, subst, arith, length-append}
-use Rattle.std.proofs.lemmas.List.{length-take}
+use Rattle.std.proofs.Common.{◌≡◌, ◌∙◌, ℕ, ◌+◌, ◌-◌, ◌<◌, ◌≤◌, ◌^◌, Bool, true, false, List, [], ◌++◌, ◌*◌, length, map, take, Option, Some, None, Result, Ok, Err, IfOk, refl, sym, ap, subst, arith, length-append}
+use Rattle.std.proofs.lemmas.List.{length-map, length-take}
 use Rattle.cf_outside.specs.Files.{File}
 use Rattle.cf_row.specs.Row.{RowValue}
+use Rattle.cf_row.specs.Schema6.{attrs_by}
+use Rattle.cf_row.specs.declared.packet6.PacketSchema.{PacketSchema}
+use Rattle.cf_project.specs.Projected.{row_kept}
 use Rattle.cf_shape.specs.Lanes.{ShapeValue}
 use Rattle.cf_intake.specs.Reads.{numbered_on}
 use Rattle.cf_intake.specs.Series.{IsSeriesAt}
 use Rattle.cf_intake.specs.declared.refusal.Halt.{Halt}
 use Rattle.cf_intake.specs.declared.refusal.Halt.TheVariants as halts
 use Rattle.cf_intake.specs.declared.refusal.Refusal.TheVariants as refusals
+use Rattle.cf_intake.specs.declared.refusal.Stop.{Stop}
 use Rattle.cf_intake.specs.declared.series.Series.{Series}
 use Rattle.cf_intake.proofs.Numbering.{numbered_append, numbered_length}
 use Rattle.cf_fill.specs.Logs.{IsUnmade, halt_of}
@@ -19,15 +23,18 @@ use Rattle.cf_report.specs.Meaning.{final_text}
 use Rattle.cf_fill.specs.declared.log.Unmade.{Unmade}
 use Rattle.cf_fill.specs.declared.log.Unmade.TheVariants as unmade
 use Rattle.cf_long.specs.ByRow.{AreNumbered}
-use Rattle.cf_long.specs.Ends.{AreRefused, AreTaken, AreToldOf, HasEnded, HaveCome, IsUntold, LackNodes, ReadComesTo, ReadsComeTo, first_rows, in_log}
+use Rattle.cf_long.specs.Ahead.{ComesNext, IsAhead}
+use Rattle.cf_long.specs.Ends.{AreRefused, AreTaken, AreToldOf, GivesAhead, HaltsWith, HasEnded, HaveCome, IsUntold, LackNodes, ReadComesTo, ReadsComeTo, first_rows, in_log}
 use Rattle.cf_long.specs.Ends.HaveCome.{midway, ended}
 use Rattle.cf_long.specs.Ends.AreRefused.{faulty, lacks, over}
-use Rattle.cf_long.specs.Kept.{IsKeptLong, IsLongFor, IsSomeKept, KeepsKept, KeptLongValue}
+use Rattle.cf_long.specs.Kept.{IsKeptLong, IsLongFor, IsSomeKept, KeepsKept, KeptLongValue, ReadsAhead, TakesLeft}
 use Rattle.cf_long.specs.Longs.{MayFollow, count_of}
+use Rattle.cf_long.specs.declared.ahead.Ahead.{Ahead}
 use Rattle.cf_long.specs.declared.reads.End.{End}
 use Rattle.cf_long.specs.declared.reads.End.TheVariants as ends
-use Rattle.cf_long.proofs.KeptRows.{counted_kept, few_kept}
-use Rattle.cf_long.proofs.Numbered.{all_first, first_both, numbered_low, take_numbered}
+use Rattle.cf_long.proofs.KeptRows.{attrs_stay, counted_kept, few_kept, follow_left}
+use Rattle.cf_long.proofs.Nodes.{lack_on}
+use Rattle.cf_long.proofs.Numbered.{all_first, first_both, first_more, numbered_low, take_numbered}
 
 -- The next records go into the log, as many as are numbered.
 module _ (long : KeptLongValue) (before more given : List RowValue) (room : ℕ) (is : IsKeptLong long (numbered_on 0 before))
@@ -98,11 +105,121 @@ module _ (long : KeptLongValue) (before more given : List RowValue) (room : ℕ)
   )
   untaken_so next front nodes unmade.Memory same keeps count_is lack = refl
 
--- what a step comes to that took no more records
-pub step_untaken : (series : Series) (told : Option (List File)) (now : Option (List ℕ)) (long : KeptLongValue) (rows : List RowValue) (halt : Halt)
-    → IsSeriesAt series told now rows → AreTaken long rows (Err halt) → ReadComesTo series told now long (Err halt)
-step_untaken series told now long rows (halts.Refused why) at taken = (rows, midway at, taken.0, taken.1)
-step_untaken series told now long rows (halts.Stopped stop) at taken = tt
+-- records that were read ahead came
+pub come_of : (series : Series) (told : Option (List File)) (now : Option (List ℕ)) (rows : List RowValue) (end : Option End)
+    → ComesNext series told now rows end → HaveCome series told now rows
+come_of series told now rows None next = midway next
+come_of series told now rows (Some ends.Whole) next = ended _ next
+come_of series told now rows (Some (ends.Refused why)) next = ended _ next
+come_of series told now rows (Some ends.Full) next = absurd next
+
+-- the captures end so, with all records in the log
+pub ended_so : (series : Series) (told : Option (List File)) (now : Option (List ℕ)) (long : KeptLongValue) (rows : List RowValue) (end : End)
+    → ComesNext series told now rows (Some end) → IsKeptLong long (numbered_on 0 rows) → HasEnded series told now long end
+ended_so series told now long rows ends.Whole next is = (rows, next, is)
+ended_so series told now long rows (ends.Refused why) next is = (rows, next, is)
+ended_so series told now long rows ends.Full next is = absurd next
+
+-- more records behind those that lack nodes
+pub lack_more : (shape : ShapeValue) (rows more : List RowValue) → NeedsMore shape shape.nodes (in_log rows)
+    → NeedsMore shape shape.nodes (in_log (rows ++ more))
+lack_more shape rows more lack =
+    let rest = first_more rows more in
+    let split : in_log (rows ++ more) ≡ in_log rows ++ numbered_on (0 + length (first_rows rows)) rest.0 =
+    ap (λ (rs : List RowValue). numbered_on 0 rs) rest.1 ∙ numbered_append 0 (first_rows rows) rest.0 in
+    subst (λ (rs : List RowValue). NeedsMore shape shape.nodes rs) (sym split)
+    (lack_on shape shape.nodes (in_log rows) (numbered_on (0 + length (first_rows rows)) rest.0) lack)
+
+-- why no more records are in the log
+pub untaken_now : (series : Series) (told : Option (List File)) (now : Option (List ℕ)) (long : KeptLongValue) (rows : List RowValue) (halt : Halt)
+    → HaveCome series told now rows → AreTaken long rows (Err halt) → HaltsWith series told now long halt
+untaken_now series told now long rows (halts.Refused why) come taken = (rows, come, taken.0, taken.1)
+untaken_now series told now long rows (halts.Stopped stop) come taken = tt
+
+-- of more records than are numbered the first are in it
+pub full_so : (long : KeptLongValue) (rows : List RowValue) (full : Bool) → AreTaken long rows (Ok full) → 2 ^ 32 ≤ length rows
+    → (2 ^ 32 ≤ length rows) × IsKeptLong long (in_log rows)
+full_so long rows true taken many = taken
+full_so long rows false taken many =
+    absurd (let size = numbered_length 0 rows in let few = few_kept long (numbered_on 0 rows) taken in omega (arith, size, few, many))
+
+-- Records that were read ahead go into the log.
+module _ (old : KeptLongValue) (rows more left : List RowValue) (is : IsKeptLong old (numbered_on 0 rows))
+    (left_is : left ≡ map (row_kept old.kept) (numbered_on (length rows) more)) where
+  left_many : length left ≡ length more
+  left_many = ap (λ (rs : List RowValue). length rs) left_is ∙ length-map (numbered_on (length rows) more) (row_kept old.kept)
+      ∙ numbered_length (length rows) more
+
+  both_numbered : numbered_on 0 rows ++ numbered_on (length rows) more ≡ numbered_on 0 (rows ++ more)
+  both_numbered =
+      let zero : length rows ≡ 0 + length rows = omega arith in
+      ap (λ (n : ℕ). numbered_on 0 rows ++ numbered_on n more) zero ∙ sym (numbered_append 0 rows more)
+
+  pub all_many : 2 ^ 32 ≤ count_of old.long + length left → 2 ^ 32 ≤ length (rows ++ more)
+  all_many high =
+      let sum = length-append rows more in
+      let many = left_many in
+      let count = counted_kept old (numbered_on 0 rows) is in
+      let size = numbered_length 0 rows in omega (arith, sum, many, count, size, high)
+
+  -- there is room for them
+  module _ (room : count_of old.long + length left + 1 ≤ 2 ^ 32) where
+    all_few : length (rows ++ more) < 2 ^ 32
+    all_few =
+        let sum = length-append rows more in
+        let many = left_many in
+        let count = counted_kept old (numbered_on 0 rows) is in
+        let size = numbered_length 0 rows in omega (arith, sum, many, count, size, room)
+
+    pub may_ahead : MayFollow old.long left
+    may_ahead =
+        let sum = length-append rows more in
+        let low = all_few in
+        let at : count_of old.long ≡ length rows = counted_kept old (numbered_on 0 rows) is ∙ numbered_length 0 rows in
+        subst (λ (rs : List RowValue). MayFollow old.long rs) (sym left_is)
+        (follow_left old.kept old.long (numbered_on (length rows) more) (record {
+          numbered = subst (λ (n : ℕ). AreNumbered n (numbered_on (length rows) more)) (sym at)
+              (numbered_low (length rows) more (omega (arith, sum, low)));
+          few = (let size = numbered_length (length rows) more in omega (arith, size, at, sum, low));
+        }))
+
+    -- then the next ones are ahead of it
+    pub stepped : (was new : Series) (told : Option (List File)) (before now : Option (List ℕ)) (next : KeptLongValue) (nodes : ℕ)
+        (taken : Result (Unit {0}) Unmade) (given : Result Ahead Stop) (result : Result Ahead Halt) → IsSeriesAt was told before (rows ++ more)
+        → TakesLeft old next left taken → KeepsKept old next → IfOk given (ReadsAhead was new told before now old) → GivesAhead nodes taken given result
+        → nodes ≡ old.shape.nodes → old.shape.schema ≡ attrs_by was.schema → new.schema ≡ was.schema → ReadComesTo new told now next result
+    stepped was new told before now next nodes taken (Err stop) result at takes keeps reads gives count_is kind same =
+        subst (λ (r : Result Ahead Halt). ReadComesTo new told now next r) (sym gives) tt
+    stepped was new told before now next nodes (Err unmade.Memory) (Ok ahead) result at takes keeps reads gives count_is kind same =
+        subst (λ (r : Result Ahead Halt). ReadComesTo new told now next r) (sym gives) tt
+    stepped was new told before now next nodes (Err unmade.Nodes) (Ok ahead) result at takes keeps reads gives count_is kind same =
+        let further = reads.behind (rows ++ more) at in
+        let lack : NeedsMore old.shape old.shape.nodes (numbered_on 0 rows ++ numbered_on (length rows) more) =
+        takes (numbered_on 0 rows) (numbered_on (length rows) more) is left_is in
+        let first : NeedsMore old.shape old.shape.nodes (in_log (rows ++ more)) =
+        subst (λ (rs : List RowValue). NeedsMore old.shape old.shape.nodes rs)
+        (both_numbered ∙ ap (λ (rs : List RowValue). numbered_on 0 rs) (sym (all_first (rows ++ more) all_few))) lack in
+        subst (λ (r : Result Ahead Halt). ReadComesTo new told now next r) (sym gives) (
+          (rows ++ more) ++ further.more,
+          come_of new told now ((rows ++ more) ++ further.more) ahead.end further.next,
+          subst (λ (h : ShapeValue). NeedsMore h h.nodes (in_log ((rows ++ more) ++ further.more))) (sym keeps.shape)
+              (lack_more old.shape (rows ++ more) further.more first),
+          ap (λ (n : ℕ). refusals.Nodes n) (count_is ∙ ap (λ (h : ShapeValue). h.nodes) (sym keeps.shape)),
+        )
+    stepped was new told before now next nodes (Ok done) (Ok ahead) result at takes keeps reads gives count_is kind same =
+        let further = reads.behind (rows ++ more) at in
+        let all : IsKeptLong next (numbered_on 0 (rows ++ more)) =
+        subst (λ (rs : List RowValue). IsKeptLong next rs) both_numbered
+        (takes (numbered_on 0 rows) (numbered_on (length rows) more) is left_is) in
+        subst (λ (r : Result Ahead Halt). ReadComesTo new told now next r) (sym gives)
+        (record {
+          rows = rows ++ more;
+          is = all;
+          behind = subst (λ (marks : List Bool). IsAhead new told now marks (rows ++ more) ahead) (sym keeps.kept) further;
+          kind = ap (λ (h : ShapeValue). h.schema) keeps.shape ∙ (kind ∙ ap (λ (s : PacketSchema). attrs_by s) (sym same));
+          fit = attrs_stay old next ahead.rows.items keeps (numbered_on 0 rows, is) (numbered_on 0 (rows ++ more), all) reads.fit;
+          few = reads.few;
+        })
 
 -- which records are in the log where the reading has ended
 abbrev pub ended_long : (series : Series) (told : Option (List File)) (now : Option (List ℕ)) (long : KeptLongValue) (end : End) → HasEnded series told now long end
@@ -135,7 +252,7 @@ module _ (series : Series) (told : Option (List File)) (now : Option (List ℕ))
       lack is.0 why (ended _ is.1) (subst (λ (rs : List RowValue). IsUnmade shape rs why) (sym (all_in long is.0 is.2)) lacking)
   lacks_at_end long (ends.Refused w) why is lacking =
       lack is.0 why (ended _ is.1) (subst (λ (rs : List RowValue). IsUnmade shape rs why) (sym (all_in long is.0 is.2)) lacking)
-  lacks_at_end long ends.Full why is lacking = lack is.0 why (midway is.1) lacking
+  lacks_at_end long ends.Full why is lacking = lack is.0 why is.1 lacking
 
 -- a log for a setup is one after rows came
 pub long_on : (setup : SetupValue) (capacity writers nodes : ℕ) (long next : KeptLongValue) (rows : List RowValue)

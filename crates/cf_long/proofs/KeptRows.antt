@@ -1,9 +1,10 @@
 -- What is kept of a log's rows means the same.
-use Rattle.std.proofs.Common.{◌≡◌, ◌∙◌, ℕ, zero, suc, ◌*◌, ◌<◌, ◌^◌, Bool, List, [], ◌∷◌, ◌++◌, length, map, take, drop, get_or, All, refl, sym, ap, ap₂, subst, arith}
+use Rattle.std.proofs.Common.{◌≡◌, ◌∙◌, ℕ, zero, suc, ◌*◌, ◌<◌, ◌^◌, Bool, List, [], ◌∷◌, ◌++◌, length, map, take, drop, get_or, All, Result, Ok, Err, IfOk, IfErr, refl, sym, ap, ap₂, subst, arith}
 use Rattle.std.specs.List.{list_all}
 use Rattle.std.proofs.lemmas.List.{drop-map, length-map, map-append, take-map}
 use Rattle.std.proofs.lemmas.List.Elements.{All-map}
 use Rattle.cf_row.proofs.Truths.{both}
+use Rattle.cf_row.specs.declared.schema.Attr.{Attr}
 use Rattle.cf_row.specs.Row.{Fits, RowValue}
 use Rattle.cf_fold.specs.declared.trigger.Trigger.{Trigger}
 use Rattle.cf_shape.specs.Lanes.{IsShape, ShapeValue}
@@ -12,6 +13,7 @@ use Rattle.cf_plain.specs.Asks.{eval_rows, marks_over, row_at}
 use Rattle.cf_plain.specs.declared.answer.Body.{Body}
 use Rattle.cf_plain.specs.declared.ask.Ask.{Ask}
 use Rattle.cf_plain.proofs.Totals.{map_agree}
+use Rattle.cf_project.specs.Keeping.{keep}
 use Rattle.cf_project.specs.Named.{KeepsAsks, KeepsShape, keeps_ask}
 use Rattle.cf_project.specs.Projected.{ask_kept, row_kept, shape_kept}
 use Rattle.cf_project.proofs.Found.{answers_same, marks_same}
@@ -24,7 +26,7 @@ use Rattle.cf_fill.specs.declared.log.Unmade.TheVariants as unmade
 use Rattle.cf_fill.proofs.Sealing.{needs_more}
 use Rattle.cf_long.specs.Answered.{AreAnswers}
 use Rattle.cf_long.specs.ByRow.{AreNumbered}
-use Rattle.cf_long.specs.Kept.{IsKeptLong, KeepsKept, KeptLongValue}
+use Rattle.cf_long.specs.Kept.{IsKeptLong, IsSomeKept, KeepsKept, KeptLongValue, TakesLeft}
 use Rattle.cf_long.specs.Longs.{HaveNodes, IsLong, MayFollow, LongValue, count_of, shape_in}
 use Rattle.cf_long.specs.declared.answers.Answers.{Answers}
 use Rattle.cf_long.proofs.Longs.{counted}
@@ -126,3 +128,37 @@ unmade_kept log before rows why is lack =
     unmade_whole log.kept log.shape is.keeps is.lawful (before ++ rows) why
     (subst (λ (rs : List RowValue). IsUnmade (shape_kept log.kept log.shape) rs why) (sym (map-append (row_kept log.kept) before rows))
     (subst (λ (h : ShapeValue). IsUnmade h (map (row_kept log.kept) before ++ map (row_kept log.kept) rows) why) is.shape_left lack))
+
+-- what becomes of rows of which this is left
+pub takes_left : (old new : KeptLongValue) (left : List RowValue) (result : Result (Unit {0}) Unmade) → KeepsKept old new
+    → shape_in new.long ≡ shape_in old.long
+    → IfOk result (λ _. (before : List RowValue) → IsLong old.long before → IsLong new.long (before ++ left))
+    → IfErr result (λ why. (before : List RowValue) → IsLong old.long before → IsUnmade (shape_in old.long) (before ++ left) why)
+    → TakesLeft old new left result
+takes_left old new left (Ok done) keeps same taken lack = λ before more is left_is.
+    taken_kept old new before more is keeps same
+    (subst (λ (rs : List RowValue). IsLong new.long (map (row_kept old.kept) before ++ rs)) left_is (taken (map (row_kept old.kept) before) is.is))
+takes_left old new left (Err why) keeps same taken lack = λ before more is left_is.
+    unmade_kept old before more why is
+    (subst (λ (rs : List RowValue). IsUnmade (shape_in old.long) (map (row_kept old.kept) before ++ rs) why) left_is
+    (lack (map (row_kept old.kept) before) is.is))
+
+-- there is a mark for each attribute
+pub marks_kept : (log : KeptLongValue) → IsSomeKept log → length log.kept ≡ length log.shape.schema
+marks_kept log some = some.1.keeps.marks
+
+-- the log's attributes are those that are kept
+pub attrs_kept : (log : KeptLongValue) → IsSomeKept log → (shape_in log.long).schema ≡ keep log.kept log.shape.schema
+attrs_kept log some = ap (λ (h : ShapeValue). h.schema) some.1.shape_left
+
+pub fit_kept_in : (log : KeptLongValue) (rows : List RowValue) → IsSomeKept log → All (Fits (keep log.kept log.shape.schema)) rows
+    → All (Fits (shape_in log.long).schema) rows
+fit_kept_in log rows some fit = subst (λ (attrs : List Attr). All (Fits attrs) rows) (sym (attrs_kept log some)) fit
+
+-- they stay
+pub attrs_stay : (old new : KeptLongValue) (rows : List RowValue) → KeepsKept old new → IsSomeKept old → IsSomeKept new
+    → All (Fits (shape_in old.long).schema) rows → All (Fits (shape_in new.long).schema) rows
+attrs_stay old new rows keeps was is fit =
+    let same : (shape_in old.long).schema ≡ (shape_in new.long).schema =
+    attrs_kept old was ∙ (ap₂ (λ (ms : List Bool) (h : ShapeValue). keep ms h.schema) (sym keeps.kept) (sym keeps.shape) ∙ sym (attrs_kept new is)) in
+    subst (λ (attrs : List Attr). All (Fits attrs) rows) same fit

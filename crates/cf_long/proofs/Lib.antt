@@ -9,4 +9,5 @@ pub mod Texts
 pub mod KeptRows
 pub mod Setups
 pub mod Numbered
+pub mod ReadMore
 pub mod Ends

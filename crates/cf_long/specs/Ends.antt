@@ -19,7 +19,7 @@ use Rattle.cf_intake.specs.declared.refusal.Stop.{Stop}
 use Rattle.cf_fill.specs.Logs.{halt_of}
 use Rattle.cf_fill.specs.declared.log.Unmade.{Unmade}
 use Rattle.cf_fill.specs.Needs.{NeedsAtMost, NeedsMore}
-use Rattle.cf_long.specs.Ahead.{HaveEnded, IsAhead}
+use Rattle.cf_long.specs.Ahead.{HaveEnded, IsAhead, most_ahead}
 use Rattle.cf_long.specs.Kept.{IsKeptLong, KeptLongValue}
 use Rattle.cf_long.specs.Longs.{shape_in}
 use Rattle.cf_long.specs.declared.ahead.Ahead.{Ahead}
@@ -43,9 +43,10 @@ pub data HaveCome (series : Series) (told : Option (List File)) (now : Option (L
 pub record IsReadInto (series : Series) (told : Option (List File)) (now : Option (List ℕ)) (long : KeptLongValue) (ahead : Ahead) : Type 0 where
   pub rows : List RowValue
   pub is : IsKeptLong long (numbered_on 0 rows)
-  pub ahead : IsAhead series told now long.kept rows ahead
+  pub behind : IsAhead series told now long.kept rows ahead
   pub kind : long.shape.schema ≡ attrs_by series.schema
   pub fit : All (Fits (shape_in long.long).schema) ahead.rows.items
+  pub few : length ahead.rows.items ≤ most_ahead
 
 -- Some block of the records in the log needs more nodes than a writer has in it.
 abbrev pub LackNodes : Series → Option (List File) → Option (List ℕ) → ShapeValue → Refusal → Type 0
@@ -68,11 +69,15 @@ AreTaken long rows (Err (halts.Refused why)) =
     NeedsMore long.shape long.shape.nodes (in_log rows) × (why ≡ refusals.Nodes long.shape.nodes)
 AreTaken long rows (Err (halts.Stopped stop)) = stop ≡ stops.Memory
 
+-- why the reading has no end: nodes are lacking, or it stopped
+abbrev pub HaltsWith : Series → Option (List File) → Option (List ℕ) → KeptLongValue → Halt → Type 0
+HaltsWith series told now long (halts.Refused why) = LackNodes series told now long.shape why
+HaltsWith series told now long (halts.Stopped stop) = Unit {0}
+
 -- what one step of the reading comes to: others were read ahead of the log
 abbrev pub ReadComesTo : Series → Option (List File) → Option (List ℕ) → KeptLongValue → Result Ahead Halt → Type 0
 ReadComesTo series told now long (Ok ahead) = IsReadInto series told now long ahead
-ReadComesTo series told now long (Err (halts.Refused why)) = LackNodes series told now long.shape why
-ReadComesTo series told now long (Err (halts.Stopped stop)) = Unit {0}
+ReadComesTo series told now long (Err halt) = HaltsWith series told now long halt
 
 -- A failure of the reading goes before want of nodes or memory in the log.
 abbrev pub GivesAhead : ℕ → Result (Unit {0}) Unmade → Result Ahead Stop → Result Ahead Halt → Type 0
@@ -83,8 +88,7 @@ GivesAhead nodes (Ok done) (Ok ahead) result = result ≡ Ok ahead
 -- what the reading comes to
 abbrev pub ReadsComeTo : Series → Option (List File) → Option (List ℕ) → KeptLongValue → Result End Halt → Type 0
 ReadsComeTo series told now long (Ok end) = HasEnded series told now long end
-ReadsComeTo series told now long (Err (halts.Refused why)) = LackNodes series told now long.shape why
-ReadsComeTo series told now long (Err (halts.Stopped stop)) = Unit {0}
+ReadsComeTo series told now long (Err halt) = HaltsWith series told now long halt
 
 -- All captures were read, and the text is the final part of the setup's report over all their records, numbered from 0. No block of these
 -- needs more nodes than all writers have in it.

@@ -1,5 +1,5 @@
 -- A log of any length for a setup, which keeps of each row the attributes that the setup names, and `ts`.
-use Rattle.std.specs.Prelude.{◌≡◌, ℕ, Bool, List, ◌++◌, All, map, Option, Result, Ok, Err}
+use Rattle.std.specs.Prelude.{◌≡◌, ◌≤◌, ℕ, Bool, List, ◌++◌, length, All, map, Option, Result, Ok, Err}
 use Rattle.cf_outside.specs.Files.{File}
 use Rattle.cf_row.specs.Row.{Fits, RowValue}
 use Rattle.cf_shape.specs.Lanes.{IsShape, ShapeValue}
@@ -11,7 +11,7 @@ use Rattle.cf_project.specs.Projected.{row_kept, shape_kept}
 use Rattle.cf_project.specs.Setups.{named_by, setup_kept}
 use Rattle.cf_fill.specs.Logs.{IsPlanOf, IsUnmade}
 use Rattle.cf_fill.specs.declared.log.Unmade.{Unmade}
-use Rattle.cf_long.specs.Ahead.{IsAhead}
+use Rattle.cf_long.specs.Ahead.{IsAhead, most_ahead}
 use Rattle.cf_long.specs.declared.ahead.Ahead.{Ahead}
 use Rattle.cf_long.specs.Longs.{IsLong, LongValue, MayFollow, shape_in}
 
@@ -47,8 +47,9 @@ TakesLeft old new left (Err why) =
 
 -- Rows were read ahead of the log: these came behind those before, and what is left of them has the log's attributes.
 pub record ReadsAhead (old new : Series) (told : Option (List File)) (before now : Option (List ℕ)) (log : KeptLongValue) (ahead : Ahead) : Type 0 where
-  pub ahead : (rows : List RowValue) → IsSeriesAt old told before rows → IsAhead new told now log.kept rows ahead
+  pub behind : (rows : List RowValue) → IsSeriesAt old told before rows → IsAhead new told now log.kept rows ahead
   pub fit : All (Fits (shape_in log.long).schema) ahead.rows.items
+  pub few : length ahead.rows.items ≤ most_ahead
 
 -- what is kept, the shapes and the plan are as they were
 pub record KeepsKept (before after : KeptLongValue) : Type 0 where

@@ -4,6 +4,7 @@ pub mod SpelledRows
 pub mod Growing
 pub mod Longs
 pub mod Kept
+pub mod Ahead
 pub mod Answered
 pub mod Texts
 pub mod Ends

@@ -1,5 +1,5 @@
 // A log of any length that keeps of each row what its setup names.
-ghost use Rattle.std.specs.Prelude.{◌≡◌, ◌+◌, ◌++◌, ◌^◌, ℕ, List, [], All, IfErr, IfOk, MatchResult, length};
+ghost use Rattle.std.specs.Prelude.{◌≡◌, ◌+◌, ◌≤◌, ◌++◌, ◌^◌, ℕ, List, [], All, IfErr, IfOk, MatchResult, length};
 ghost use Rattle.std.specs.Thread.{IsSync};
 ghost use Rattle.cf_row.specs.Row.{Fits, RowValue};
 ghost use Rattle.cf_row.specs.Schema6.{attrs_by};
@@ -8,7 +8,7 @@ ghost use Rattle.cf_setup.specs.Setups.{SetupValue, shaped};
 ghost use Rattle.cf_intake.specs.Causes.{HasStopCause};
 ghost use Rattle.cf_intake.specs.Series.{IsSeriesAt, KeepsSeries};
 ghost use Rattle.cf_fill.specs.Logs.{IsUnmade};
-ghost use Rattle.cf_long.specs.Ahead.{IsAhead, IsAtSeries};
+ghost use Rattle.cf_long.specs.Ahead.{IsAhead, IsAtSeries, most_ahead};
 ghost use Rattle.cf_long.specs.Answered.{AreAnswers};
 ghost use Rattle.cf_long.specs.Kept.{IsLongFor, IsSomeKept, KeepsKept, MayTake, ReadsAhead, TakesLeft};
 ghost use Rattle.cf_long.specs.Longs.{HaveNodes, IsLong, IsSomeLong, KeepsLong, MayFollow, count_of, shape_in};
@@ -139,6 +139,7 @@ impl KeptLong {
             ensures ahead { IfOk result (λ ahead. (rows : List RowValue) → IsSeriesAt series.entry.now (F.files shelf.entry.now) (F.rest shelf.entry.now) rows
                 → IsAhead series.exit.now (F.files shelf.entry.now) (F.rest shelf.exit.now) marks.entry.now rows ahead) }
             ensures fit { IfOk result (λ ahead. All (Fits (keep marks.entry.now schema.entry.now)) ahead.rows.items) }
+            ensures few { IfOk result (λ ahead. length ahead.rows.items ≤ most_ahead) }
             ensures cause { HasStopCause (F.faults shelf.entry.now) (F.faults shelf.exit.now) result }
         { Ahead::of(alloc, shelf, series, marks, schema) };
         join_mut(rt, &mut take, &mut read)

@@ -1,6 +1,6 @@
 //! A log of any length: its rows fill one segment at a time, and a full one is asked each question once and let go.
 //!
-//! `long_of` opens one for a setup, `KeptLong::take_rows` takes rows as they come and keeps of each what the setup names, and `long_report`
+//! `long_of` opens one for a setup, `KeptLong` keeps of each row what the setup names, and `long_report`
 //! answers about all of them at the end.
 //! `series_report` does all this with captures that are read one after another.
 #![tactic(auto)]

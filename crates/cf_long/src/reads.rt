@@ -67,7 +67,7 @@ fn take_last<R: Threads + Sync, G: Gate>(
     ahead: Ahead,
 ) -> Result<End, Halt>
     requires read { (series : Series) × (told : Option (List File)) × (now : Option (List ℕ)) × IsReadInto series told now long.old ahead }
-    requires last { ahead.end ≡ None → 2 ^ 32 ≤ count_of long.old.long + length ahead.rows.items + 1 }
+    requires last { ahead.end ≡ None → 2 ^ 32 ≤ count_of long.old.long + length ahead.rows.items }
     ensures keeps { KeepsKept long.old long.new }
     ensures come { (series : Series) (told : Option (List File)) (now : Option (List ℕ)) → IsReadInto series told now long.old ahead
         → ReadsComeTo series told now long.new result }

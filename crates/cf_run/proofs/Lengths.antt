@@ -25,15 +25,13 @@ use Rattle.cf_intake.specs.declared.refusal.Refusal.TheVariants as refusals
 use Rattle.cf_intake.specs.declared.refusal.Stop.{Stop}
 use Rattle.cf_intake.specs.declared.refusal.Stop.TheVariants as stops
 use Rattle.cf_intake.specs.declared.series.Series.{Series}
-use Rattle.cf_intake.proofs.Numbering.{numbered_append}
-use Rattle.cf_fill.specs.Needs.{NeedsAtMost, NeedsMore}
+use Rattle.cf_fill.specs.Needs.{NeedsAtMost}
 use Rattle.cf_fill.specs.Work.{shape_for}
 use Rattle.cf_fill.proofs.Whole.{whole_taken}
-use Rattle.cf_long.specs.Ends.{AreRefused, AreToldOf, first_rows, in_log}
+use Rattle.cf_long.specs.Ends.{AreRefused, AreToldOf, in_log}
 use Rattle.cf_long.specs.Ends.AreRefused.{faulty, lacks, over}
-use Rattle.cf_long.specs.Ends.HaveCome.{midway}
-use Rattle.cf_long.proofs.Nodes.{lack_on}
-use Rattle.cf_long.proofs.Numbered.{all_first, first_full, first_more}
+use Rattle.cf_long.proofs.Ends.{lack_more}
+use Rattle.cf_long.proofs.Numbered.{all_first, first_full}
 use Rattle.cf_run.specs.Due.{GivesAll, IsDue, LongFrom, StopsAt}
 use Rattle.cf_run.specs.Due.Work.{end_to_end, refused}
 use Rattle.cf_run.specs.Due.CallsBy.{halted, whole}
@@ -156,24 +154,15 @@ module _ (told : Option (List File)) (call : LongCall) (before now : Option (Lis
       (tells_all series.cuts.items is.few (subst (λ (rs : List RowValue). NeedsAtMost shape (shape.writers * shape.nodes) rs) (sym same) is.nodes) refl refl
       (out_is ∙ ap (λ (xs : List ℕ). xs ++ cut_lines several series.cuts.items) is.text_is) refl)
 
-  -- more records behind those that lack nodes
-  lack_more : (rows more : List RowValue) → NeedsMore shape shape.nodes (in_log rows) → NeedsMore shape shape.nodes (in_log (rows ++ more))
-  lack_more rows more lack =
-      let rest = first_more rows more in
-      let split : in_log (rows ++ more) ≡ in_log rows ++ numbered_on (0 + length (first_rows rows)) rest.0 =
-      ap (λ (rs : List RowValue). numbered_on 0 rs) rest.1 ∙ numbered_append 0 (first_rows rows) rest.0 in
-      subst (λ (rs : List RowValue). NeedsMore shape shape.nodes rs) (sym split)
-      (lack_on shape shape.nodes (in_log rows) (numbered_on (0 + length (first_rows rows)) rest.0) lack)
-
   pub refused_due : (place : ℕ) (why : Refusal) → length call.captures ≤ 4096 → place ≡ min series.place (2 ^ 32 - 2) → AreRefused series told now shape why
       → IsDue told (Some (long call)) before now (status_of why) (line_among several place why) []
   refused_due place why most place_is (lacks lack) =
       let first = come_first series told now lack.0 lack.1 in
       subst (λ (w : Refusal). IsDue told (Some (long call)) before now (status_of w) (line_among several place w) []) (sym lack.3)
       (gives_all (lack.0 ++ first.0) first.1 (status_of (refusals.Nodes shape.nodes)) (line_among several place (refusals.Nodes shape.nodes)) first.2
-      first.3 (nodes_lack (lack_more lack.0 first.0 lack.2) (refl, line_nodes several place shape.nodes, refl)))
-  refused_due place why most place_is (over rows at many nodes is) =
-      let first = come_first series told now rows (midway at) in
+      first.3 (nodes_lack (lack_more shape lack.0 first.0 lack.2) (refl, line_nodes several place shape.nodes, refl)))
+  refused_due place why most place_is (over rows come many nodes is) =
+      let first = come_first series told now rows come in
       let size : 2 ^ 32 ≤ length (rows ++ first.0) = (let sum = length-append rows first.0 in omega (arith, many, sum)) in
       let same : in_log (rows ++ first.0) ≡ in_log rows = ap (λ (rs : List RowValue). numbered_on 0 rs) (first_full rows first.0 many) in
       subst (λ (w : Refusal). IsDue told (Some (long call)) before now (status_of w) (line_among several place w) []) (sym is)
