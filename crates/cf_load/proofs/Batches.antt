@@ -22,7 +22,7 @@ use Rattle.cf_append.specs.Appends.{Rests, IsReady}
 use Rattle.cf_segments.specs.Needed.{IsNeeded, IsOut, HasNodes, HasRunOut}
 use Rattle.cf_load.specs.Writing.{rows_of_book, RanOut, RunsOut, HasWritten}
 use Rattle.cf_segments.specs.Loaded.{IsLogFrom, HasLoaded}
-use Rattle.cf_load.specs.Loading.{IsShort}
+use Rattle.cf_load.specs.Loading.{IsShort, StayInBatch}
 use Rattle.cf_segments.proofs.Alls.{all_drop}
 use Rattle.cf_segments.proofs.Parts.{rows_append}
 use Rattle.cf_load.proofs.Written.{WrotePart, all_written, log_more}
@@ -265,10 +265,10 @@ module _ (whole : Bool) (log : LogValue) (first : ℕ) (rows batch : List RowVal
 
 -- Passes were dealt, each wrote of its rows of the batch what it could, and all came home: where there is room for all rows, all
 -- are in the log.
-pub batch_loaded : (log : LogValue) (first : ℕ) (rows batch : List RowValue) (b : ℕ) (m r n : PassValue) (passes after : List PassValue) → IsShape log.shape
-    → HasLoaded log first rows m → length rows ≡ 4096 * b → length batch ≤ 4096 → length rows + length batch ≤ (log.shape).capacity → AreDealt log m passes r
+pub batch_loaded : (log : LogValue) (first : ℕ) (rows batch : List RowValue) (m r n : PassValue) (passes after : List PassValue) → IsShape log.shape
+    → HasLoaded log first rows m → StayInBatch log.shape (length rows) (length batch) → length rows + length batch ≤ (log.shape).capacity → AreDealt log m passes r
     → AllZip (HasWritten true log (first + length rows) batch) passes after → HasGathered log.shape r after n → HasLoaded log first (rows ++ batch) n
-batch_loaded log first rows batch b m r n passes after shape has long few room dealt wrote g =
+batch_loaded log first rows batch m r n passes after shape has few room dealt wrote g =
     let W = (log.shape).writers in
     let some : 0 < W = shape.writers.0 in
     let more : List Entry = drop (length (m.view).seen) (n.view).seen in
@@ -276,7 +276,7 @@ batch_loaded log first rows batch b m r n passes after shape has long few room d
     let own : (w : ℕ) → w < W → written_by w more ≡ rows_of W w (first + length rows) batch =
     all_written W (first + length rows) batch more some exist (part_of true log first rows batch m r n passes after has dealt wrote g room) in
     let is : IsLogFrom first (rows ++ batch) W ((m.view).seen ++ more) =
-    log_more first rows batch W b (m.view).seen more some has.is long few exist (λ w lt. own w lt ∙ ap (λ k. rows_of W w (first + k) batch) long) in
+    log_more first rows batch W (m.view).seen more some has.is has.own few exist own in
     record {
       of = home_again true log first rows batch m r n passes after has dealt wrote g;
       settled = g.settled;

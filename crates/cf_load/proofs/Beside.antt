@@ -1,5 +1,5 @@
 -- A batch is done: the writers and the reader came home.
-use Rattle.std.proofs.Common.{◌≡◌, ◌≤◌, ◌+◌, ◌*◌, ℕ, Bool, true, List, [], Option, Some, None, ◌++◌, length, append-nil, refl, ap, ◌∙◌, Result, Ok, Err, IfOk, MatchResult}
+use Rattle.std.proofs.Common.{◌≡◌, ◌≤◌, ◌+◌, ℕ, Bool, true, List, [], Option, Some, None, ◌++◌, length, append-nil, refl, ap, ◌∙◌, Result, Ok, Err, IfOk, MatchResult}
 use Rattle.std.specs.List.{AllZip}
 use Rattle.cf_row.specs.Row.{RowValue}
 use Rattle.cf_shape.specs.Lanes.{IsShape}
@@ -8,7 +8,7 @@ use Rattle.cf_table.specs.Values.{PassValue, LogValue, IsOf}
 use Rattle.cf_table.specs.Moves.{AreDealt, HasFolded, HasGathered, HoldsAllBooks}
 use Rattle.std.specs.declared.alloc.AllocError.{AllocError}
 use Rattle.cf_segments.specs.Loaded.{HasLoaded}
-use Rattle.cf_load.specs.Loading.{IsShort}
+use Rattle.cf_load.specs.Loading.{IsShort, StayInBatch}
 use Rattle.cf_load.specs.Loads.{outcome_of}
 use Rattle.cf_load.specs.declared.loads.LoadFault.{LoadFault}
 use Rattle.cf_load.specs.declared.loads.LoadFault.TheVariants.{NodesFull, Memory}
@@ -29,14 +29,14 @@ outcome_by None (Ok x) P H loaded memory nodes = loaded refl
 outcome_by None (Err e) P H loaded memory nodes = memory refl
 
 -- the root, when the reader has come home too
-pub batch_home : (log : LogValue) (first : ℕ) (rows batch : List RowValue) (b : ℕ) (m r n o : PassValue) (q : Pass) (passes after : List PassValue)
-    → IsShape log.shape → HasLoaded log first rows m → length rows ≡ 4096 * b → length batch ≤ 4096 → length rows + length batch ≤ (log.shape).capacity
+pub batch_home : (log : LogValue) (first : ℕ) (rows batch : List RowValue) (m r n o : PassValue) (q : Pass) (passes after : List PassValue)
+    → IsShape log.shape → HasLoaded log first rows m → StayInBatch log.shape (length rows) (length batch) → length rows + length batch ≤ (log.shape).capacity
     → AreDealt log m passes r → AllZip (HasWritten true log (first + length rows) batch) passes after → HasGathered log.shape r after n
     → HasFolded log.shape n q o
     → (o.view).books ≡ (n.view).books → (HoldsAllBooks log.shape n.view → (o.view).seen ≡ (n.view).seen)
     → HasLoaded log first (rows ++ batch) o
-batch_home log first rows batch b m r n o q passes after shape has long few room dealt wrote gathered folded books stays =
-    let loaded = batch_loaded log first rows batch b m r n passes after shape has long few room dealt wrote gathered in
+batch_home log first rows batch m r n o q passes after shape has few room dealt wrote gathered folded books stays =
+    let loaded = batch_loaded log first rows batch m r n passes after shape has few room dealt wrote gathered in
     let same = folded.made.same in
     let of : IsOf o log =
     record { table = ap (λ (h : PassValue). h.table) same ∙ loaded.of.table; nodes = ap (λ (h : PassValue). h.nodes) same ∙ loaded.of.nodes } in

@@ -1,16 +1,17 @@
 -- What the writers wrote of a batch, and the log with it: lemmas on lists alone.
-use Rattle.std.proofs.Common.{◌≡◌, ◌⊎◌, ℕ, zero, suc, ◌+◌, ◌*◌, ◌%◌, ◌<◌, ◌≤◌, Bool, true, List, [], ◌∷◌, ◌++◌, length, take, drop, refl, sym, ap, ap₂, subst, ◌∙◌, inl, inr, arith, length-append}
+use Rattle.std.proofs.Common.{◌≡◌, ◌⊎◌, ℕ, zero, suc, ◌+◌, ◌*◌, ◌/◌, ◌%◌, ◌<◌, ◌≤◌, Bool, true, List, [], ◌∷◌, ◌++◌, length, map, take, drop, refl, sym, ap, ap₂, subst, ◌∙◌, inl, inr, arith, length-append}
 use Rattle.std.proofs.lemmas.Bool.{eq-eqb, ne_eqb, cases_eq, cases_lt}
-use Rattle.std.proofs.lemmas.List.{append-nil, nil_from_length}
+use Rattle.std.proofs.lemmas.List.{append-nil, nil_from_length, drop-append-le, length-drop, length-take, drop-map, take-map, take_all}
 use Rattle.std.specs.List.{AllByRecursion}
 use Rattle.cf_row.proofs.Sums.{more_at, more_elsewhere, more_there, total, total_more, total_most, total_none, total_same}
 use Rattle.cf_row.specs.Row.{RowValue}
 use Rattle.cf_row.specs.declared.row.Entry.{Entry}
 use Rattle.cf_plain.specs.Order.{rows_of, written_by}
 use Rattle.cf_plain.proofs.Logs.{written_own, written_other}
+use Rattle.cf_plain.proofs.Orders.{written_append}
 use Rattle.cf_segments.specs.Loaded.{IsLogFrom}
-use Rattle.cf_segments.proofs.Alls.{all_append}
-use Rattle.cf_segments.proofs.Parts.{part_after, part_before, part_there}
+use Rattle.cf_segments.proofs.Alls.{all_append, all_drop}
+use Rattle.cf_segments.proofs.Parts.{part_after, part_before, rows_append}
 
 -- where no number is more than its fellow and the sums are as large, each is its fellow
 pub total_even : (n : ℕ) (f g : ℕ → ℕ) → ((w : ℕ) → w < n → f w ≤ g w) → total n g ≤ total n f → (w : ℕ) → w < n → f w ≡ g w
@@ -87,37 +88,107 @@ module _ (writers first : ℕ) (batch : List RowValue) (new : List Entry) (some 
       ∙ (total_same writers _ (λ w. length (rows_of writers w first batch)) (λ w lt. ap length (own w lt)) ∙ rows_counted writers first batch some)
 
 module _ (first : ℕ) (rows batch : List RowValue) (writers b m : ℕ) (log new : List Entry) (apart : (c d : ℕ) → c < d → m * c + m ≤ m * d) where
-  -- batch by batch what each writer wrote are its rows
-  pub own_more : length rows ≡ m * b → length log ≡ m * b → length batch ≤ m → length new ≡ length batch
+  -- the last part of a list that goes on, where more is no more than the part has room for
+  part_on : {X : Type 0} (j : ℕ) (xs ys : List X) → j ≤ length xs → length xs + length ys ≤ j + m → take m (drop j (xs ++ ys)) ≡ take m (drop j xs) ++ ys
+  part_on j xs ys within few =
+      let rest = length-drop j xs in
+      let all = length-append (drop j xs) ys in
+      ap (take m) (drop-append-le j xs ys within)
+      ∙ (take_all m (drop j xs ++ ys) (omega (arith, within, few, rest, all))
+      ∙ ap (λ (zs : List _). zs ++ ys) (sym (take_all m (drop j xs) (omega (arith, within, few, rest)))))
+
+  -- batch by batch what each writer wrote are its rows, where more rows came that are all of the last batch
+  pub own_more : m * b ≤ length rows → length rows + length batch ≤ m * b + m → length log ≡ length rows → length new ≡ length batch
       → ((c w : ℕ) → w < writers → written_by w (take m (drop (m * c) log)) ≡ rows_of writers w (first + m * c) (take m (drop (m * c) rows)))
-      → ((w : ℕ) → w < writers → written_by w new ≡ rows_of writers w (first + m * b) batch)
+      → ((w : ℕ) → w < writers → written_by w new ≡ rows_of writers w (first + length rows) batch)
       → (c w : ℕ) → w < writers → written_by w (take m (drop (m * c) (log ++ new))) ≡ rows_of writers w (first + m * c) (take m (drop (m * c) (rows ++ batch)))
-  own_more rows_long log_long few many own more c w lt = elim (cases_lt c b) [
+  own_more low few log_long many own more c w lt = elim (cases_lt c b) [
     | inl before ↦
         let far = apart c b before in
-        rw (part_before m (m * c) log new (omega (arith, far, log_long)), part_before m (m * c) rows batch (omega (arith, far, rows_long))) (own c w lt)
+        rw (part_before m (m * c) log new (omega (arith, far, low, log_long)), part_before m (m * c) rows batch (omega (arith, far, low))) (own c w lt)
     | inr since ↦ elim (cases_lt b c) [
       | inl past ↦
           let far = apart b c past in
           rw (
-            part_after m (m * c) (log ++ new) (omega (arith, far, log_long, many, few, length-append log new)),
-            part_after m (m * c) (rows ++ batch) (omega (arith, far, rows_long, few, length-append rows batch)),
+            part_after m (m * c) (log ++ new) (omega (arith, far, few, log_long, many, length-append log new)),
+            part_after m (m * c) (rows ++ batch) (omega (arith, far, few, length-append rows batch)),
           ) refl
       | inr until ↦
           let same : c ≡ b = omega (arith, since, until) in
-          let at : m * b ≡ m * c = ap (λ d. m * d) (sym same) in
-          rw (part_there m (m * c) log new (log_long ∙ at) (omega (arith, many, few)), part_there m (m * c) rows batch (rows_long ∙ at) few)
-          (more w lt ∙ ap (λ k. rows_of writers w (first + k) batch) at)
+          subst (λ d. written_by w (take m (drop (m * d) (log ++ new))) ≡ rows_of writers w (first + m * d) (take m (drop (m * d) (rows ++ batch))))
+          (sym same) (last w lt)
     ]
   ]
+    where
+      here : List RowValue
+      here = take m (drop (m * b) rows)
 
--- a log of some whole batches and then each writer's rows of one more are a log of all these rows
-pub log_more : (first : ℕ) (rows batch : List RowValue) (writers b : ℕ) (log new : List Entry) → 0 < writers → IsLogFrom first rows writers log
-    → length rows ≡ 4096 * b → length batch ≤ 4096 → AllByRecursion (λ e. e.writer < writers) new
-    → ((w : ℕ) → w < writers → written_by w new ≡ rows_of writers w (first + 4096 * b) batch) → IsLogFrom first (rows ++ batch) writers (log ++ new)
-log_more first rows batch writers b log new some is long few exist more =
-    let many : length new ≡ length batch = as_many writers (first + 4096 * b) batch new some exist more in record {
+      reach : first + m * b + length here ≡ first + length rows
+      reach =
+          (let rest = length-drop (m * b) rows in let cut = length-take m (drop (m * b) rows) in omega (arith, rest, cut, low, few))
+
+      last : (w : ℕ) → w < writers
+          → written_by w (take m (drop (m * b) (log ++ new))) ≡ rows_of writers w (first + m * b) (take m (drop (m * b) (rows ++ batch)))
+      last w lt =
+          rw (part_on (m * b) log new (omega (arith, low, log_long)) (omega (arith, few, log_long, many)), part_on (m * b) rows batch low few)
+          (written_append w (take m (drop (m * b) log)) new
+          ∙ (ap₂ (λ (xs ys : List RowValue). xs ++ ys) (own b w lt) (more w lt ∙ ap (λ k. rows_of writers w k batch) (sym reach))
+          ∙ sym (rows_append writers w (first + m * b) here batch)))
+
+-- all rows are one writer's
+rows_alone : (k : ℕ) (rows : List RowValue) → rows_of 1 0 k rows ≡ rows
+rows_alone k [] = refl
+rows_alone k (row ∷ rows) =
+    let own : k % 1 ≡ 0 = omega arith in
+    rw (eq-eqb (k % 1) 0 own) (ap (λ rs. row ∷ rs) (rows_alone (k + 1) rows))
+
+-- and so are all entries
+written_alone : (es : List Entry) → AllByRecursion (λ e. e.writer < 1) es → written_by 0 es ≡ map (λ e. e.row) es
+written_alone [] exist = refl
+written_alone (e ∷ es) exist =
+    let own : e.writer ≡ 0 = omega (arith, exist.0) in
+    written_own 0 e es own ∙ ap (λ rs. e.row ∷ rs) (written_alone es exist.1)
+
+-- the first of entries that are such
+all_front : (P : Entry → Type 0) (n : ℕ) (es : List Entry) → AllByRecursion P es → AllByRecursion P (take n es)
+all_front P zero es every = tt
+all_front P (suc n) [] every = tt
+all_front P (suc n) (e ∷ es) every = (every.0, all_front P n es every.1)
+
+-- one writer's log of its rows is a log of them batch by batch
+own_alone : (first : ℕ) (rows : List RowValue) (log : List Entry) → AllByRecursion (λ e. e.writer < 1) log → written_by 0 log ≡ rows_of 1 0 first rows
+    → (b w : ℕ) → w < 1 → written_by w (take 4096 (drop (4096 * b) log)) ≡ rows_of 1 w (first + 4096 * b) (take 4096 (drop (4096 * b) rows))
+own_alone first rows log exist own b w lt =
+    let zero_is : w ≡ 0 = omega (arith, lt) in
+    let all : map (λ (e : Entry). e.row) log ≡ rows = sym (written_alone log exist) ∙ (own ∙ rows_alone first rows) in
+    subst (λ v. written_by v (take 4096 (drop (4096 * b) log)) ≡ rows_of 1 v (first + 4096 * b) (take 4096 (drop (4096 * b) rows))) (sym zero_is)
+    (written_alone (take 4096 (drop (4096 * b) log))
+    (all_front (λ e. e.writer < 1) 4096 (drop (4096 * b) log) (all_drop (λ e. e.writer < 1) (4096 * b) log exist))
+    ∙ (sym (take-map (λ (e : Entry). e.row) 4096 (drop (4096 * b) log))
+    ∙ (ap (take 4096) (sym (drop-map (λ (e : Entry). e.row) (4096 * b) log))
+    ∙ (ap (λ (rs : List RowValue). take 4096 (drop (4096 * b) rs)) all ∙ sym (rows_alone (first + 4096 * b) (take 4096 (drop (4096 * b) rows)))))))
+
+-- A log of some rows and then each writer's rows of some more are a log of all these rows. Those of several writers are all of one batch.
+pub log_more : (first : ℕ) (rows batch : List RowValue) (writers : ℕ) (log new : List Entry) → 0 < writers → IsLogFrom first rows writers log
+    → ((w : ℕ) → w < writers → written_by w log ≡ rows_of writers w first rows) → (1 < writers → length rows % 4096 + length batch ≤ 4096)
+    → AllByRecursion (λ e. e.writer < writers) new
+    → ((w : ℕ) → w < writers → written_by w new ≡ rows_of writers w (first + length rows) batch) → IsLogFrom first (rows ++ batch) writers (log ++ new)
+log_more first rows batch writers log new some is all few exist more =
+    let many : length new ≡ length batch = as_many writers (first + length rows) batch new some exist more in
+    let exist_all : AllByRecursion (λ e. e.writer < writers) (log ++ new) = all_append (λ e. e.writer < writers) log new is.exist exist in record {
       size = length-append log new ∙ (ap₂ (λ i j. i + j) is.size many ∙ sym (length-append rows batch));
-      exist = all_append (λ e. e.writer < writers) log new is.exist exist;
-      own = own_more first rows batch writers b 4096 log new (λ c d lt. omega (arith, lt)) long (is.size ∙ long) few many is.own more;
+      exist = exist_all;
+      own = elim (cases_lt 1 writers) [
+        | inl several ↦
+            let short = few several in
+            own_more first rows batch writers (length rows / 4096) 4096 log new (λ c d lt. omega (arith, lt)) (omega arith) (omega (arith, short)) is.size many
+            is.own more
+        | inr alone ↦
+            let one : writers ≡ 1 = omega (arith, some, alone) in
+            subst (λ v. (b w : ℕ) → w < v
+            → written_by w (take 4096 (drop (4096 * b) (log ++ new))) ≡ rows_of v w (first + 4096 * b) (take 4096 (drop (4096 * b) (rows ++ batch)))) (sym one)
+            (own_alone first (rows ++ batch) (log ++ new) (subst (λ v. AllByRecursion (λ e. e.writer < v) (log ++ new)) one exist_all)
+            (subst (λ v. written_by 0 (log ++ new) ≡ rows_of v 0 first (rows ++ batch)) one
+            (written_append 0 log new ∙ (ap₂ (λ (xs ys : List RowValue). xs ++ ys) (all 0 some) (more 0 some) ∙ sym (rows_append writers 0 first rows batch)))))
+      ];
     }

@@ -1,5 +1,5 @@
 -- A loader: what it has loaded so far, and what each of its calls answers.
-use Rattle.std.specs.Prelude.{◌≡◌, ◌⊎◌, ◌<◌, ◌≤◌, ◌+◌, ◌*◌, ℕ, Bool, false, List, [], ◌++◌, length, map, All}
+use Rattle.std.specs.Prelude.{◌≡◌, ◌⊎◌, ◌<◌, ◌≤◌, ◌+◌, ◌*◌, ◌%◌, ℕ, Bool, false, List, [], ◌++◌, length, map, All}
 use Rattle.cf_row.specs.Row.{RowValue, Fits}
 use Rattle.cf_shape.specs.Nodes.{distinct}
 use Rattle.cf_plain.specs.Answered.{LoadedValue, answer_on}
@@ -11,7 +11,7 @@ use Rattle.cf_load.specs.declared.loads.LoadFault.{LoadFault}
 use Rattle.cf_load.specs.declared.prior.FoundBefore.{FoundBefore}
 use Rattle.cf_load.specs.declared.loads.LoadFault.TheVariants.{Full, NodesFull, Memory}
 use Rattle.cf_segments.specs.Blocks.{block}
-use Rattle.cf_load.specs.Loading.{HasAnswered}
+use Rattle.cf_load.specs.Loading.{HasAnswered, StayInBatch}
 use Rattle.cf_load.specs.Loads.{LacksNodes}
 use Rattle.cf_segments.specs.Segments.{SegmentsValue, HoldsRows, SegmentsGoOn, KeepsAll, base_of, entries_of, room_of, told_of}
 use Rattle.cf_load.specs.Planned.{IsPlan, IsSamePlan, asks_of, finding_on, marks_on, tails_of}
@@ -45,6 +45,18 @@ pub record IsLoading (s : SegmentsValue) (rows : List RowValue) (loader : Loader
   pub loaded : HoldsRows s rows
   pub answered : HasAnswered s.shape loader.plan.asks.items loader.plan.lives.items loader.plan.rounds (length rows) (entries_of s) loader.lives
   pub known : KnowsBefore s loader.plan loader.found
+
+-- So many rows more are in one segment: the current one has room for them, or it is full, and the next has.
+abbrev pub StayInSegment : SegmentsValue → ℕ → ℕ → Type 0
+StayInSegment s count more = (count + more ≤ base_of s + (s.shape).capacity) ⊎ ((count ≡ base_of s + (s.shape).capacity) × (more ≤ (s.shape).capacity))
+
+-- Behind so many rows so many more may be loaded at once. With rounds they are a batch, or the last rows. With none they may be any
+-- number that stays in a segment, and with several writers in a batch.
+pub record MayLoad (s : SegmentsValue) (plan : LivePlan) (count more : ℕ) : Type 0 where
+  pub whole : 0 < plan.rounds → count % 4096 ≡ 0
+  pub few : 0 < plan.rounds → more ≤ 4096
+  pub batch : plan.rounds ≡ 0 → StayInBatch s.shape count more
+  pub segment : plan.rounds ≡ 0 → StayInSegment s count more
 
 -- A batch is loaded after the rows before it, and the current segment has all its rows. The loader has the answers that came beside
 -- it, and a root was told of them.

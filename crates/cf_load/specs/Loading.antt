@@ -1,5 +1,5 @@
 -- What a log holds while it is loaded batch by batch, and what a reader beside the writers has answered.
-use Rattle.std.specs.Prelude.{◌≡◌, ◌⊎◌, ◌<◌, ◌≤◌, ℕ, List, ◌++◌, length, map, take, slice_index_or}
+use Rattle.std.specs.Prelude.{◌≡◌, ◌⊎◌, ◌<◌, ◌≤◌, ◌+◌, ◌%◌, ℕ, List, ◌++◌, length, map, take, slice_index_or}
 use Rattle.std.specs.List.{flat_map, range_with_len, AllByRecursion}
 use Rattle.cf_row.specs.Row.{RowValue}
 use Rattle.cf_row.specs.declared.row.Entry.{Entry}
@@ -19,6 +19,11 @@ use Rattle.cf_segments.specs.Loaded.{HasLoaded}
 use Rattle.cf_segments.specs.Needed.{HasRunOut}
 use Rattle.cf_table.specs.Values.{PassValue, LogValue, IsOf}
 use Rattle.cf_table.specs.Moves.{Begins, HoldsAllBooks}
+
+-- Behind so many rows come so many more that all are of one batch, if there are several writers: in the order of a log all of them end
+-- a batch before any begins the next one. One writer has but one order.
+abbrev pub StayInBatch : ShapeValue → ℕ → ℕ → Type 0
+StayInBatch shape count more = 1 < shape.writers → count % 4096 + more ≤ 4096
 
 -- The rows, of which the first is row number `first`, need more different nodes than a writer has, and that writer's own are used
 -- up, while the next of its rows wants one more. The root holds all books at rest, and each writer's entries are the first of its

@@ -1,11 +1,11 @@
 // A batch: the writers append its rows while the reader asks.
-ghost use Rattle.std.specs.Prelude.{◌≡◌, ◌+◌, ◌*◌, ◌%◌, ◌<◌, ◌≤◌, ◌^◌, ◌++◌, All, List, length, map, is_none, IfSome, IfOk, MatchResult};
+ghost use Rattle.std.specs.Prelude.{◌≡◌, ◌+◌, ◌%◌, ◌<◌, ◌≤◌, ◌^◌, ◌++◌, All, List, length, map, is_none, IfSome, IfOk, MatchResult};
 ghost use Rattle.std.specs.List.{AllZip};
 ghost use Rattle.std.specs.Thread.{IsSync};
 ghost use Rattle.cf_row.specs.Row.{Fits, RowValue};
 ghost use Rattle.cf_table.specs.Values.{IsOf};
 ghost use Rattle.cf_segments.specs.Loaded.{HasLoaded};
-ghost use Rattle.cf_load.specs.Loading.{HasStopped, AsksBeside};
+ghost use Rattle.cf_load.specs.Loading.{HasStopped, AsksBeside, StayInBatch};
 ghost use Rattle.cf_load.specs.Loads.{outcome_of};
 ghost use Rattle.cf_load.specs.Planned.{IsPlan, tails_of};
 ghost use Rattle.cf_load.specs.Priors.{IsFoundBefore, entries_before};
@@ -55,14 +55,14 @@ fn run_beside<R: Threads + Sync, G: Gate>(
     requires prior { IsFoundBefore log.now.shape beside.now.plan.now beside.now.prior.now }
     requires ready { All (IsReady log.now) passes.old }
     requires fits { All (Fits log.now.shape.schema) rows.now }
-    requires room { 4096 * beside.now.batch + length rows.now < 2 ^ 32 }
-    ensures wrote { AllZip (HasWritten (is_none result.0) log.now (4096 * beside.now.batch) rows.now) passes.old passes.new }
-    ensures out { IfSome result.0 (λ writer. RanOut log.now (4096 * beside.now.batch) rows.now writer passes.old passes.new) }
+    requires room { beside.now.first + length rows.now < 2 ^ 32 }
+    ensures wrote { AllZip (HasWritten (is_none result.0) log.now beside.now.first rows.now) passes.old passes.new }
+    ensures out { IfSome result.0 (λ writer. RanOut log.now beside.now.first rows.now writer passes.old passes.new) }
     ensures of { IsOf reader.new log.now }
     ensures asked { IfOk result.1 (λ more. HasAskedAll log.now.shape beside.now.plan.now beside.now.prior.now beside.now.batch reader.old reader.new more.items) }
 {
     let gate = beside.gate;
-    let first = 4096 * u64::from(beside.batch);
+    let first = u64::from(beside.first);
     if beside.plan.makes_no_round() {
         let out = run_writers(rt, log, gate, first, rows, passes);
         return (out, ask_beside(log, beside, reader));
@@ -104,15 +104,15 @@ pub(crate) fn load_batch<R: Threads + Sync, G: Gate>(
     rows: &[Row],
     beside: &Beside<G>,
 ) -> Result<Vec<Live>, LoadFault>
-    requires loaded { (before : List RowValue) × (beside.now.prior.now.base + length before ≡ 4096 * beside.now.batch) × HasLoaded log.now beside.now.prior.now.base before root.old }
+    requires loaded { (before : List RowValue) × (beside.now.prior.now.base + length before ≡ beside.now.first) × HasLoaded log.now beside.now.prior.now.base before root.old }
     requires whole { beside.now.prior.now.base % 4096 ≡ 0 }
     requires plan { IsPlan log.now.shape beside.now.plan.now }
     requires prior { IsFoundBefore log.now.shape beside.now.plan.now beside.now.prior.now }
     requires fits { All (Fits log.now.shape.schema) rows.now }
-    requires few { length rows.now ≤ 4096 }
-    requires room { 4096 * beside.now.batch + length rows.now ≤ beside.now.prior.now.base + log.now.shape.capacity }
+    requires few { StayInBatch log.now.shape beside.now.first (length rows.now) }
+    requires room { beside.now.first + length rows.now ≤ beside.now.prior.now.base + log.now.shape.capacity }
     ensures same { root.new ≡ record root.old { view = root.new.view } }
-    ensures loaded { (before : List RowValue) → beside.now.prior.now.base + length before ≡ 4096 * beside.now.batch → HasLoaded log.now beside.now.prior.now.base before root.old
+    ensures loaded { (before : List RowValue) → beside.now.prior.now.base + length before ≡ beside.now.first → HasLoaded log.now beside.now.prior.now.base before root.old
         → MatchResult result (λ _. HasLoaded log.now beside.now.prior.now.base (before ++ rows.now) root.new) (HasStopped log.now beside.now.prior.now.base before rows.now root.new) }
     ensures asked { IfOk result (λ more. AsksBeside log.now.shape beside.now.plan.now beside.now.batch
         (entries_before beside.now.prior.now ++ root.old.view.seen) (entries_before beside.now.prior.now ++ root.new.view.seen) more.items) }

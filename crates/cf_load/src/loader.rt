@@ -1,8 +1,8 @@
 // A log is loaded batch by batch, as its rows come.
-ghost use Rattle.std.specs.Prelude.{◌≡◌, ◌+◌, ◌<◌, ◌≤◌, ◌%◌, List, [], All, length, IfOk, MatchResult, OnErr, true};
+ghost use Rattle.std.specs.Prelude.{◌≡◌, ◌+◌, ◌<◌, ◌≤◌, ◌↔◌, ℕ, List, [], All, length, IfOk, IsTrue, MatchResult, OnErr, true};
 ghost use Rattle.cf_row.specs.Row.{Fits, RowValue};
 ghost use Rattle.cf_segments.specs.Segments.{SegmentsValue, HoldsRows, KeepsAll};
-ghost use Rattle.cf_load.specs.Loaders.{IsFresh, IsLoading, IsBatched, IsRefused, IsFinished, IsFoundIn};
+ghost use Rattle.cf_load.specs.Loaders.{IsFresh, IsLoading, IsBatched, IsRefused, IsFinished, IsFoundIn, MayLoad};
 ghost use Rattle.cf_load.specs.Planned.{IsPlan};
 ghost use Rattle.cf_load.specs.Priors.{KnowsBefore};
 
@@ -67,9 +67,8 @@ impl Loader {
         gate: &G,
     ) -> Result<(), LoadFault>
         requires loading { (before : List RowValue) × IsLoading segments.old before self.old }
-        requires whole { self.old.count % 4096 ≡ 0 }
         requires some { 0 < length rows.now }
-        requires few { length rows.now ≤ 4096 }
+        requires may { MayLoad segments.old self.old.plan self.old.count (length rows.now) }
         requires fits { All (Fits segments.old.shape.schema) rows.now }
         ensures batched { (before : List RowValue) → IsLoading segments.old before self.old
             → MatchResult result (λ _. IsBatched before rows.now self.old self.new segments.old segments.new) (IsRefused before rows.now segments.old segments.new) }
@@ -85,6 +84,7 @@ impl Loader {
             gate,
             plan: &self.plan,
             prior: &self.found,
+            first: self.count,
             batch: self.count / 4096,
         };
         let mut more = load_current(rt, segments, rows, &beside)?;
@@ -93,9 +93,9 @@ impl Loader {
         Ok(())
     }
 
-    /// Loads the next batch of 4,096 rows, or the last, which may have fewer, by as many writers as the shape has, each in a
-    /// thread of its own where one can be made; row k of all batches is of writer k modulo their number. Where the current
-    /// segment is full, it is closed first. Beside the batch a reader makes the plan's rounds, each asking the live questions
+    /// Loads the next batch by as many writers as the shape has, each in a thread of its own where one can be made; row k of all
+    /// batches is of writer k modulo their number. With rounds a batch has 4,096 rows, or the last fewer; with none, as many as `most`
+    /// says, or fewer. Where the current segment is full, it is closed first. Beside the batch a reader makes the plan's rounds, each asking the live questions
     /// once, of all entries so far, anywhere among the batch's appends. A writer calls the gate before each append, and the
     /// reader after each round, also if no question is live. It waits for its own workers. After a refusal the loader is
     /// stopped, and still knows what the live questions found in the closed segments.
@@ -108,9 +108,8 @@ impl Loader {
         gate: &G,
     ) -> Result<(), LoadFault>
         requires loading { (before : List RowValue) × IsLoading segments.old before self.old }
-        requires whole { self.old.count % 4096 ≡ 0 }
         requires some { 0 < length rows.now }
-        requires few { length rows.now ≤ 4096 }
+        requires may { MayLoad segments.old self.old.plan self.old.count (length rows.now) }
         requires fits { All (Fits segments.old.shape.schema) rows.now }
         ensures batched { (before : List RowValue) → IsLoading segments.old before self.old
             → MatchResult result (λ _. IsBatched before rows.now self.old self.new segments.old segments.new) (IsRefused before rows.now segments.old segments.new) }
@@ -120,6 +119,34 @@ impl Loader {
         let answer = self.append(rt, alloc, segments, rows, gate);
         self.stopped = answer.is_err();
         answer
+    }
+
+    /// Whether no round is made beside a batch.
+    pub fn makes_no_round(&self) -> bool
+        ensures { IsTrue result ↔ (self.now.plan.rounds ≡ 0) }
+    {
+        self.plan.makes_no_round()
+    }
+
+    /// The most rows of the next batch, where no round is made: up to the end of the segment that they go to, and with several
+    /// writers at most to the end of 4,096 rows from a multiple of that on.
+    pub fn most(&self, segments: &Segments) -> usize
+        requires loading { (before : List RowValue) × IsLoading segments.now before self.now }
+        requires quiet { self.now.plan.rounds ≡ 0 }
+        ensures some { 0 < result }
+        ensures may { (more : ℕ) → more ≤ result → MayLoad segments.now self.now.plan self.now.count more }
+    {
+        let shape = segments.shape();
+        let end = segments.base() + shape.capacity();
+        let left = if self.count < end {
+            end - self.count
+        } else {
+            shape.capacity()
+        };
+        if shape.writers() > 1 {
+            return left.min(4096 - self.count % 4096) as usize;
+        }
+        left as usize
     }
 
     /// Whether a batch was refused.

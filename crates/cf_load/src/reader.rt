@@ -23,6 +23,8 @@ pub(crate) struct Beside<'a, G: Gate> {
     pub(crate) plan: &'a LivePlan,
     // What the live questions found before the log's first entry.
     pub(crate) prior: &'a FoundBefore,
+    // How many rows came before the batch.
+    pub(crate) first: u32,
     // The number of the batch.
     pub(crate) batch: u32,
 }

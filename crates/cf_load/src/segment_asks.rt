@@ -1,7 +1,7 @@
 // Segments are filled, batch by batch.
-ghost use Rattle.std.specs.Prelude.{◌≡◌, ◌+◌, ◌*◌, ◌<◌, ◌≤◌, ◌++◌, All, List, length, IfOk, IfErr, MatchResult, OnErr};
+ghost use Rattle.std.specs.Prelude.{◌≡◌, ◌+◌, ◌<◌, ◌≤◌, ◌++◌, All, List, length, IfOk, IfErr, MatchResult, OnErr};
 ghost use Rattle.cf_row.specs.Row.{Fits, RowValue};
-ghost use Rattle.cf_load.specs.Loading.{AsksBeside};
+ghost use Rattle.cf_load.specs.Loading.{AsksBeside, StayInBatch};
 ghost use Rattle.cf_load.specs.Loads.{HaveStopped};
 ghost use Rattle.cf_segments.specs.Segments.{SegmentsGoOn, HoldsRows, KeepsAll, base_of, entries_of, room_of, told_of};
 ghost use Rattle.cf_load.specs.Planned.{IsPlan, findings_on, tails_of};
@@ -92,15 +92,15 @@ pub(crate) fn load_current<R: Threads + Sync, G: Gate>(
     rows: &[Row],
     beside: &Beside<G>,
 ) -> Result<Vec<Live>, LoadFault>
-    requires loaded { (before : List RowValue) × (length before ≡ 4096 * beside.now.batch) × HoldsRows segments.old before }
+    requires loaded { (before : List RowValue) × (length before ≡ beside.now.first) × HoldsRows segments.old before }
     requires plan { IsPlan segments.old.shape beside.now.plan.now }
     requires prior { KnowsBefore segments.old beside.now.plan.now beside.now.prior.now }
     requires fits { All (Fits segments.old.shape.schema) rows.now }
-    requires few { length rows.now ≤ 4096 }
-    requires room { 4096 * beside.now.batch + length rows.now ≤ base_of segments.old + segments.old.shape.capacity }
+    requires few { StayInBatch segments.old.shape beside.now.first (length rows.now) }
+    requires room { beside.now.first + length rows.now ≤ base_of segments.old + segments.old.shape.capacity }
     ensures same { SegmentsGoOn segments.old segments.new }
     ensures base { base_of segments.new ≡ base_of segments.old }
-    ensures loaded { (before : List RowValue) → length before ≡ 4096 * beside.now.batch → HoldsRows segments.old before
+    ensures loaded { (before : List RowValue) → length before ≡ beside.now.first → HoldsRows segments.old before
         → MatchResult result (λ _. HoldsRows segments.new (before ++ rows.now)) (HaveStopped before rows.now segments.new) }
     ensures asked { IfOk result (λ more. AsksBeside segments.old.shape beside.now.plan.now beside.now.batch (entries_of segments.old) (entries_of segments.new) more.items) }
     ensures told { IfOk result (λ more. told_of segments.new ≡ told_of segments.old ++ tails_of more.items) }

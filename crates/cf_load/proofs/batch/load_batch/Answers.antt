@@ -1,11 +1,11 @@
-use Rattle.std.proofs.Common.{rules, arith, ◌≡◌, ◌+◌, ◌-◌, ◌*◌, ◌/◌, ◌≤◌, map, ◌++◌, [], ℕ, List, Option, Some, None, IfSome, is_none, length, ap, sym, subst, ◌∙◌, inr, refl}
+use Rattle.std.proofs.Common.{rules, arith, ◌≡◌, ◌+◌, ◌≤◌, map, ◌++◌, [], ℕ, List, Option, Some, None, IfSome, is_none, length, ap, sym, subst, ◌∙◌, inr, refl}
 use Rattle.std.proofs.lemmas.List.{map-append}
 use Rattle.std.proofs.lemmas.Result.{IfOk-weaker}
 use Rattle.std.specs.List.{AllZip}
 use Rattle.cf_row.specs.Row.{RowValue}
 use Rattle.cf_table.specs.Moves.{AreAll, HasGathered}
 use Rattle.cf_row.specs.declared.row.Entry.{Entry}
-use Rattle.cf_load.specs.Loading.{AsksBatch, HasStopped, IsShort}
+use Rattle.cf_load.specs.Loading.{AsksBatch, HasStopped, IsShort, StayInBatch}
 use Rattle.cf_segments.specs.Loaded.{HasLoaded}
 use Rattle.cf_load.specs.Priors.{entries_before}
 use Rattle.cf_load.proofs.Findings.{begins_behind}
@@ -31,22 +31,22 @@ gather-requires-clause-all g c =
     let had = c.requires.loaded in
     let v = c.in-Ok.passes in
     let after = c.run_beside-out.new.passes in
-    let wrote : AllZip (HasWritten (is_none c.run_beside-out.result.0) log (4096 * c.args.beside.now.batch) c.args.rows.now) v.items after =
+    let wrote : AllZip (HasWritten (is_none c.run_beside-out.result.0) log c.args.beside.now.first c.args.rows.now) v.items after =
     rw (sym c.as_mut_slice.ensures.value) c.run_beside-out.ensures.wrote in
     let same : length after ≡ length v.items = sym (zip_long _ v.items after wrote) in
     let len : v.len ≡ length v.items = search rules in
     let all : AreAll log v.items = c.in-Ok.ensures.all had.2.settled in
     rw (written_back after v.items v.len same len)
-    (homeward (is_none c.run_beside-out.result.0) log (4096 * c.args.beside.now.batch) c.args.rows.now v.items after
+    (homeward (is_none c.run_beside-out.result.0) log c.args.beside.now.first c.args.rows.now v.items after
     (ready_passes log c.args.beside.now.prior.now.base had.0 c.args.root.now c.deal.new.root v.items had.2 c.in-Ok.ensures.dealt) all wrote)
 
 -- the passes that were dealt, and then wrote
-written : (g : Over) (c : goal.After-outcome g) (first : ℕ) → first ≡ 4096 * c.args.beside.now.batch
+written : (g : Over) (c : goal.After-outcome g) (first : ℕ) → first ≡ c.args.beside.now.first
     → AllZip (HasWritten (is_none c.run_beside-out.result.0) c.args.log.now first c.args.rows.now) c.in-Ok.passes.items c.run_beside-out.new.passes
 written g c first is = rw (is, sym c.as_mut_slice.ensures.value) c.run_beside-out.ensures.wrote
 
 -- one of which may have run out
-ran : (g : Over) (c : goal.After-outcome g) (first : ℕ) → first ≡ 4096 * c.args.beside.now.batch
+ran : (g : Over) (c : goal.After-outcome g) (first : ℕ) → first ≡ c.args.beside.now.first
     → IfSome c.run_beside-out.result.0 (λ v. RanOut c.args.log.now first c.args.rows.now v c.in-Ok.passes.items c.run_beside-out.new.passes)
 ran g c first is = rw (is, sym c.as_mut_slice.ensures.value) c.run_beside-out.ensures.out
 
@@ -55,21 +55,21 @@ gathered : (g : Over) (c : goal.After-outcome g) → HasGathered c.args.log.now.
 gathered g c =
     let v = c.in-Ok.passes in
     let after = c.run_beside-out.new.passes in
-    let same : length after ≡ length v.items = sym (zip_long _ v.items after (written g c (4096 * c.args.beside.now.batch) refl)) in
+    let same : length after ≡ length v.items = sym (zip_long _ v.items after (written g c c.args.beside.now.first refl)) in
     let len : v.len ≡ length v.items = search rules in
     rw (sym (written_back after v.items v.len same len), sym c.fork-reader.ensures.root) c.gather.ensures
 
 -- there is room for all rows so far
-room : (g : Over) (c : goal.After-outcome g) (before : List RowValue) → c.args.beside.now.prior.now.base + length before ≡ 4096 * c.args.beside.now.batch
+room : (g : Over) (c : goal.After-outcome g) (before : List RowValue) → c.args.beside.now.prior.now.base + length before ≡ c.args.beside.now.first
     → length before + length c.args.rows.now ≤ c.args.log.now.shape.capacity
 room g c before long = (let room = c.requires.room in omega (arith, long, room))
 
--- the log's own batches before
-own_batches : (g : Over) (c : goal.After-outcome g) (before : List RowValue) → c.args.beside.now.prior.now.base + length before ≡ 4096 * c.args.beside.now.batch
-    → length before ≡ 4096 * (c.args.beside.now.batch - c.args.beside.now.prior.now.base / 4096)
-own_batches g c before long = (let whole = c.requires.whole in omega (arith, long, whole))
+-- with the log's own rows before them the rows stay in a batch too
+short : (g : Over) (c : goal.After-outcome g) (before : List RowValue) → c.args.beside.now.prior.now.base + length before ≡ c.args.beside.now.first
+    → StayInBatch c.args.log.now.shape (length before) (length c.args.rows.now)
+short g c before long several = (let few = c.requires.few several in let whole = c.requires.whole in omega (arith, long, whole, few))
 
-home : (g : Over) (c : goal.After-outcome g) (before : List RowValue) → c.args.beside.now.prior.now.base + length before ≡ 4096 * c.args.beside.now.batch
+home : (g : Over) (c : goal.After-outcome g) (before : List RowValue) → c.args.beside.now.prior.now.base + length before ≡ c.args.beside.now.first
     → HasLoaded c.args.log.now c.args.beside.now.prior.now.base before c.args.root.now → c.run_beside-out.result.0 ≡ None
     → HasLoaded c.args.log.now c.args.beside.now.prior.now.base (before ++ c.args.rows.now) c.fold_back.new.root
 home g c before long had none =
@@ -79,12 +79,12 @@ home g c before long had none =
     (HasWritten (is_none o) c.args.log.now (base + length before) c.args.rows.now) c.in-Ok.passes.items c.run_beside-out.new.passes) none
     (written g c (base + length before) long) in
     batch_home c.args.log.now base before c.args.rows.now
-    (c.args.beside.now.batch - base / 4096) c.args.root.now c.deal.new.root c.gather.new.root c.fold_back.new.root
-    (c.run_beside-out.new.reader).view c.in-Ok.passes.items c.run_beside-out.new.passes c.shape.ensures.lawful had (own_batches g c before long)
-    c.requires.few (room g c before long) c.in-Ok.ensures.dealt wrote
+    c.args.root.now c.deal.new.root c.gather.new.root c.fold_back.new.root
+    (c.run_beside-out.new.reader).view c.in-Ok.passes.items c.run_beside-out.new.passes c.shape.ensures.lawful had (short g c before long)
+    (room g c before long) c.in-Ok.ensures.dealt wrote
     (gathered g c) c.fold_back.ensures.folded c.fold_back.ensures.books c.fold_back.ensures.stays
 
-lacking : (g : Over) (c : goal.After-outcome g) (before : List RowValue) → c.args.beside.now.prior.now.base + length before ≡ 4096 * c.args.beside.now.batch
+lacking : (g : Over) (c : goal.After-outcome g) (before : List RowValue) → c.args.beside.now.prior.now.base + length before ≡ c.args.beside.now.first
     → HasLoaded c.args.log.now c.args.beside.now.prior.now.base before c.args.root.now → (w : ℕ) → c.run_beside-out.result.0 ≡ Some w
     → IsShort c.args.log.now c.args.beside.now.prior.now.base (before ++ c.args.rows.now) w c.fold_back.new.root
 lacking g c before long had w is =
@@ -119,8 +119,8 @@ returns-clause-told g c =
     ∙ ap (λ (p : Pass). map (λ tail. base + tail) p.tails ++ tails_of more.items) c.fork-reader.ensures.view in
     ap (map (λ (tail : ℕ). base + tail))
     (batch_told (is_none c.run_beside-out.result.0) log
-    (4096 * c.args.beside.now.batch) _ c.args.root.now c.deal.new.root c.gather.new.root c.fold_back.new.root q c.in-Ok.passes.items
-    c.run_beside-out.new.passes c.in-Ok.ensures.dealt (written g c (4096 * c.args.beside.now.batch) refl) (gathered g c) c.fold_back.ensures.folded none)
+    c.args.beside.now.first _ c.args.root.now c.deal.new.root c.gather.new.root c.fold_back.new.root q c.in-Ok.passes.items
+    c.run_beside-out.new.passes c.in-Ok.ensures.dealt (written g c c.args.beside.now.first refl) (gathered g c) c.fold_back.ensures.folded none)
     ∙ (map-append (λ (tail : ℕ). base + tail) told q.tails ∙ ap (λ ts. map (λ tail. base + tail) told ++ ts) tails)) c.run_beside-out.ensures.asked))
 
 pub returns-clause-asked : goal.returns-clause-asked

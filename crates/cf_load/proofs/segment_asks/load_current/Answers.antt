@@ -1,10 +1,10 @@
-use Rattle.std.proofs.Common.{◌≡◌, ◌+◌, ◌*◌, ◌++◌, IfOk, MatchResult, ℕ, List, length, map, sym, ap, subst, ◌∙◌, arith}
+use Rattle.std.proofs.Common.{◌≡◌, ◌+◌, ◌++◌, IfOk, MatchResult, ℕ, List, length, map, sym, ap, subst, ◌∙◌, arith}
 use Rattle.std.proofs.lemmas.Result.{IfOk-weaker}
 use Rattle.std.specs.List.{flat_map}
 use Rattle.cf_row.specs.Row.{RowValue}
 use Rattle.cf_row.specs.declared.row.Entry.{Entry}
 use Rattle.cf_shape.specs.Lanes.{ShapeValue}
-use Rattle.cf_load.specs.Loading.{AsksBeside, HasStopped}
+use Rattle.cf_load.specs.Loading.{AsksBeside, HasStopped, StayInBatch}
 use Rattle.cf_segments.specs.Loaded.{HasLoaded}
 use Rattle.cf_load.specs.Planned.{tails_of}
 use Rattle.cf_load.specs.Priors.{IsFoundBefore, KnowsBefore, entries_before}
@@ -43,6 +43,10 @@ load_batch-requires-clause-whole g c κs within =
     let same = kept_base old s kept in
     omega (arith, whole, base, same)
 
+pub load_batch-requires-clause-few : goal.load_batch-requires-clause-few
+load_batch-requires-clause-few g c κs within =
+    subst (λ (t : SegmentsValue). StayInBatch t.shape c.args.beside.now.first (length c.args.rows.now)) (sym c.segments.view_is) c.requires.few
+
 -- the segments before the batch, which keep what they held before they were asked
 abbrev before_batch : (g : Over) → goal.After-load_batch g → SegmentsValue
 before_batch g c = segments_of c.segments.inside.most c.segments.inside.closed.items c.segments.inside.current
@@ -51,7 +55,7 @@ kept : (g : Over) (c : goal.After-load_batch g) → KeepsAll c.args.segments.now
 kept g c = subst (KeepsAll c.args.segments.now) (sym c.segments.view_is) (all_none c.args.segments.now)
 
 -- what the batch answered
-answered : (g : Over) (c : goal.After-load_batch g) (rows : List RowValue) → length rows ≡ 4096 * c.args.beside.now.batch
+answered : (g : Over) (c : goal.After-load_batch g) (rows : List RowValue) → length rows ≡ c.args.beside.now.first
     → (holds : HoldsRows c.args.segments.now rows)
     → MatchResult c.load_batch.result
     (λ x. HasLoaded c.segments.inside.current.log (base_of (before_batch g c))
