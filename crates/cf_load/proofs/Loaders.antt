@@ -1,5 +1,5 @@
 -- A loader goes on, batch by batch, and then answers.
-use Rattle.std.proofs.Common.{◌≡◌, ◌<◌, ◌≤◌, ◌+◌, ◌-◌, ◌*◌, ◌%◌, ℕ, suc, List, [], ◌∷◌, ◌++◌, get_or, length, length-append, append_assoc, map, take, drop, min, append-nil, Some, slice_get, sym, ap, ap₂, subst, ◌∙◌, arith, inl, inr, Result, Ok, Err, IfOk, MatchResult, mul-suc, mul-le-mul_left, one-mul}
+use Rattle.std.proofs.Common.{◌≡◌, ◌<◌, ◌≤◌, ◌+◌, ◌-◌, ◌*◌, ◌%◌, ℕ, suc, List, [], ◌∷◌, ◌++◌, get_or, length, length-append, append_assoc, map, take, drop, min, append-nil, Some, slice_get, sym, ap, ap₂, subst, ◌∙◌, arith, inl, inr, Result, Ok, Err, IfOk, MatchResult, mul-suc, mul-le-mul_left, mul-zero, one-mul}
 use Rattle.std.proofs.lemmas.Bool.{cases_lt}
 use Rattle.std.proofs.lemmas.List.{length-drop, length-take, take_all, take-append-le, drop-append-le, take-append-drop}
 use Rattle.std.proofs.lemmas.Option.{slice_get-get_or}
@@ -23,11 +23,11 @@ use Rattle.cf_load.specs.declared.loads.LoadFault.{LoadFault}
 use Rattle.cf_load.specs.declared.loads.LoadFault.TheVariants.{Full, NodesFull, Memory}
 use Rattle.cf_segments.specs.declared.segments.Segment.{Segment}
 use Rattle.cf_segments.specs.Blocks.{block}
-use Rattle.cf_load.specs.Loading.{HasAnswered, AsksBeside}
+use Rattle.cf_load.specs.Loading.{HasAnswered, AsksBeside, StayInBatch}
 use Rattle.cf_segments.specs.Needed.{HasRunOut}
 use Rattle.cf_load.specs.Loads.{LacksNodes, HasSome, HaveStopped, IsLoaded}
 use Rattle.cf_segments.specs.Segments.{SegmentsValue, all_of, base_of, entries_of, room_of, told_of, IsSegments, HoldsRows, SegmentsGoOn, KeepsAll}
-use Rattle.cf_load.specs.Loaders.{LoaderValue, IsLoading, IsBatched, IsRefused, IsFinished, IsFoundIn}
+use Rattle.cf_load.specs.Loaders.{LoaderValue, IsLoading, IsBatched, IsRefused, IsFinished, IsFoundIn, MayLoad, StayInSegment}
 use Rattle.cf_load.specs.Planned.{IsPlan, IsSamePlan, asks_of, finding_on, marks_on, tails_of}
 use Rattle.cf_load.specs.Priors.{KnowsBefore}
 use Rattle.cf_load.proofs.Batches.{distinct_more, run_out_more}
@@ -47,7 +47,8 @@ entries_long s rows holds = (rows_are_log s rows holds).0.size
 
 -- a batch is loaded, and its answers come after those before
 pub goes_on : (before rows : List RowValue) (old new : LoaderValue) (b : ℕ) (s t : SegmentsValue) (more : List Live) → IsLoading s before old
-    → HoldsRows t (before ++ rows) → SegmentsGoOn s t → base_of t ≤ length before → length before ≡ 4096 * b → 0 < length rows → length rows ≤ 4096
+    → HoldsRows t (before ++ rows) → SegmentsGoOn s t → base_of t ≤ length before → (0 < old.plan.rounds → length before ≡ 4096 * b)
+    → 0 < length rows → (0 < old.plan.rounds → length rows ≤ 4096)
     → length before + length rows ≤ room_of s → All (Fits (s.shape).schema) rows → AsksBeside s.shape old.plan b (entries_of s) (entries_of t) more
     → told_of t ≡ told_of s ++ tails_of more → new ≡ record old { count = old.count + length rows; lives = old.lives ++ more; found = new.found }
     → KnowsBefore t old.plan new.found → IsBatched before rows old new s t
@@ -248,6 +249,92 @@ batch_room s count k is begins few some room = elim (cases_lt 1 s.most) [
       let all : room_of s ≡ (s.shape).capacity = ap (λ (n : ℕ). n * (s.shape).capacity) most ∙ one-mul (s.shape).capacity in
       omega (arith, room, all)
 ]
+
+-- and in the next one, where the current one is full
+next_room : (s : SegmentsValue) (count k : ℕ) → IsSegments s → count ≡ base_of s + (s.shape).capacity → k ≤ 4096 → 0 < k → count + k ≤ room_of s
+    → k ≤ (s.shape).capacity
+next_room s count k is full few some room = elim (cases_lt 1 s.most) [
+  | inl many ↦ (let whole = is.sizes.whole many in elim (cases_lt 0 (s.shape).capacity) [
+    | inl size ↦ omega (arith, whole, few, size)
+    | inr zero ↦
+        let none : (s.shape).capacity ≡ 0 = omega (arith, zero) in
+        let all : room_of s ≡ 0 = ap (λ (n : ℕ). s.most * n) none ∙ mul-zero s.most in
+        absurd (omega (arith, all, room, some))
+  ])
+  | inr one ↦
+      let low = is.sizes.some in
+      let most : s.most ≡ 1 = omega (arith, one, low) in
+      let all : room_of s ≡ (s.shape).capacity = ap (λ (n : ℕ). n * (s.shape).capacity) most ∙ one-mul (s.shape).capacity in
+      absurd (omega (arith, room, all, full, some))
+]
+
+-- rows that stay in a segment have room in the current one, where the first of them has
+pub segment_room : (s t : SegmentsValue) (count k : ℕ) → SegmentsGoOn s t → base_of s ≤ count → base_of t ≤ count
+    → count < base_of t + (t.shape).capacity → StayInSegment s count k → count + k ≤ base_of t + (t.shape).capacity
+segment_room s t count k same full full_now some stay =
+    let n = (s.shape).capacity in
+    let i = length s.closed in
+    let j = length t.closed in
+    let size : (t.shape).capacity ≡ n = ap (λ (h : ShapeValue). h.capacity) same.shape in
+    let base : base_of t ≡ n * j = ap (λ (c : ℕ). c * j) size in
+    elim (cases_lt i j) [
+      | inl later ↦
+          let far : n * suc i ≤ n * j = mul-le-mul_left n (let e : suc i ≤ j = omega (arith, later) in e) in
+          let step = mul-suc n i in
+          elim stay [
+            | inl here ↦ omega (arith, here, far, step, base, size)
+            | inr next ↦ omega (arith, next.0, next.1, far, step, base, size)
+          ]
+      | inr sooner ↦
+          let back : n * j ≤ n * i = mul-le-mul_left n (let e : j ≤ i = omega (arith, sooner) in e) in
+          elim (cases_lt j i) [
+            | inl before ↦
+                let far : n * suc j ≤ n * i = mul-le-mul_left n (let e : suc j ≤ i = omega (arith, before) in e) in
+                let step = mul-suc n j in
+                absurd (omega (arith, far, step, base, size, full, some))
+            | inr same_place ↦
+                let e : j ≡ i = omega (arith, sooner, same_place) in
+                let at : base_of t ≡ n * i = base ∙ ap (λ (c : ℕ). n * c) e in
+                elim stay [
+                  | inl here ↦ omega (arith, here, at, size)
+                  | inr next ↦ absurd (omega (arith, next.0, at, size, some))
+                ]
+          ]
+    ]
+
+-- what may be loaded at once has room in the current segment
+pub may_room : (s t : SegmentsValue) (plan : LivePlan) (count k : ℕ) → SegmentsGoOn s t → IsSegments t → base_of s ≤ count → base_of t ≤ count
+    → count < base_of t + (t.shape).capacity → count + k ≤ room_of t → MayLoad s plan count k → count + k ≤ base_of t + (t.shape).capacity
+may_room s t plan count k same is full full_now some room may = elim (cases_lt 0 plan.rounds) [
+  | inl due ↦ batch_room t count k is (may.whole due) (may.few due) some room
+  | inr quiet ↦ segment_room s t count k same full full_now some (may.segment (omega (arith, quiet)))
+]
+
+-- and stays in a batch
+pub may_stay : (s : SegmentsValue) (plan : LivePlan) (count k : ℕ) → MayLoad s plan count k → StayInBatch s.shape count k
+may_stay s plan count k may several = elim (cases_lt 0 plan.rounds) [
+  | inl due ↦ (let whole = may.whole due in let few = may.few due in omega (arith, whole, few))
+  | inr quiet ↦ may.batch (omega (arith, quiet)) several
+]
+
+-- whole batches before, and the batch that is next or the last rows
+pub may_batch : (s : SegmentsValue) (plan : LivePlan) (rows : List RowValue) (k : ℕ) → HoldsRows s rows → length rows % 4096 ≡ 0 → k ≤ 4096
+    → length rows + k ≤ room_of s → MayLoad s plan (length rows) k
+may_batch s plan rows k holds whole few room = record {
+  whole = λ _. whole;
+  few = λ _. few;
+  batch = λ _ _. omega (arith, whole, few);
+  segment = λ _. elim (cases_lt (length rows) (base_of s + (s.shape).capacity)) [
+    | inl some ↦ inl (batch_room s (length rows) k holds.are whole few some room)
+    | inr past ↦
+        let most = holds.room in
+        let full : length rows ≡ base_of s + (s.shape).capacity = omega (arith, past, most) in
+        elim (cases_lt 0 k) [
+          | inl more ↦ inr (full, next_room s (length rows) k holds.are full few more room)
+          | inr none ↦ inl (omega (arith, full, none))
+        ]
+  ];
+}
 
 -- what a batch leaves that was refused beside its rows
 pub refused : (before rows : List RowValue) (s t : SegmentsValue) (fault : LoadFault) → length before + length rows ≤ room_of s → SegmentsGoOn s t

@@ -23,6 +23,11 @@ pub map_map : {X Y Z : Type 0} (f : Y → Z) (g : X → Y) (xs : List X) → map
 map_map f g [] = refl
 map_map f g (x ∷ xs) = ap (λ ys. f (g x) ∷ ys) (map_map f g xs)
 
+-- of nothing alone nothing is made
+pub none_mapped : {X Y : Type 0} (f : X → Y) (xs : List X) → map f xs ≡ [] → xs ≡ []
+none_mapped f [] none = refl
+none_mapped f (x ∷ xs) none = absurd (cc none)
+
 -- numbers that never fall, and then more that are no less than any of them
 pub rise_append : (low : ℕ) (ns ms : List ℕ) → NeverFall ns → NeverFall ms → AllByRecursion (λ n. n ≤ low) ns → AllByRecursion (λ m. low ≤ m) ms
     → NeverFall (ns ++ ms)
@@ -142,6 +147,31 @@ module _ (shape : ShapeValue) (asks : List Ask) (lives : List ℕ) where
       all_flat (λ (t : Turn). t.batch ≡ batch) (round_in batch lives) (range_with_len 0 rounds)
       (λ round. all_map (λ (t : Turn). t.batch ≡ batch) (turn_in batch round) lives
       (every (λ ask. (turn_in batch round ask).batch ≡ batch) lives (λ ask. refl)))
+
+  -- with no round there is no turn, whatever the number of batches
+  no_turn : (batches : List ℕ) → flat_map (batch_in 0 lives) batches ≡ []
+  no_turn [] = refl
+  no_turn (b ∷ bs) = no_turn bs
+
+  -- no live answer is of no rows, and of any
+  nothing_answered : (n : ℕ) (now : List Entry) → HasAnswered shape asks lives 0 n now []
+  nothing_answered n now = record {
+    tails = record { turns = sym (no_turn (range_with_len 0 (batches_of n))); rise = tt; within = tt };
+    bodies = tt;
+  }
+
+  -- With no round, no live answer comes, and none came before.
+  pub answered_none : (n b k : ℕ) (seen read now : List Entry) (answers more : List Live) → HasAnswered shape asks lives 0 n seen answers
+      → AsksBatch shape asks lives 0 b seen read more → HasAnswered shape asks lives 0 (n + k) now (answers ++ more)
+  answered_none n b k seen read now answers more has asked =
+      subst (HasAnswered shape asks lives 0 (n + k) now) (sym (ap₂ (λ ls ms. ls ++ ms) none_before none_now)) (nothing_answered (n + k) now)
+    where
+      none_before : answers ≡ []
+      none_before = none_mapped turn_of answers
+          (none_mapped (λ (at : Turn × ℕ). at.0) (map turn_of answers) (has.tails.turns ∙ no_turn (range_with_len 0 (batches_of n))))
+
+      none_now : more ≡ []
+      none_now = none_mapped (λ (l : Live). (turn_of l).0) more asked.turns
 
   -- The live answers beside one more batch come after those before, which stay what they are when the log grows.
   pub answered_more : (rounds n b k : ℕ) (seen read now : List Entry) (answers more : List Live) → HasAnswered shape asks lives rounds n seen answers

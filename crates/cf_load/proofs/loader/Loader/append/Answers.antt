@@ -2,20 +2,29 @@ use Rattle.std.proofs.Common.{rules, arith, ◌≡◌, ◌≤◌, ◌+◌, ◌*�
 use Rattle.cf_row.specs.declared.row.Entry.{Entry}
 use Rattle.cf_shape.specs.Lanes.{ShapeValue}
 use Rattle.cf_plain.specs.declared.loaded.Live.{Live}
-use Rattle.cf_load.specs.Loading.{AsksBeside}
+use Rattle.cf_load.specs.Loading.{AsksBeside, StayInBatch}
 use Rattle.cf_segments.specs.Segments.{SegmentsValue, HoldsRows, entries_of, room_of, told_of}
-use Rattle.cf_load.specs.Loaders.{LoaderValue, IsLoading, IsBatched}
+use Rattle.cf_load.specs.Loaders.{LoaderValue, IsLoading, IsBatched, MayLoad}
 use Rattle.cf_load.specs.Planned.{tails_of}
 use Rattle.cf_load.specs.Priors.{KnowsBefore}
 use Rattle.cf_load.specs.declared.loads.LoadFault.TheVariants.{Memory}
 use Rattle.cf_segments.proofs.Kept.{goes_then}
-use Rattle.cf_load.proofs.Loaders.{batch_room, goes_on, refused, same_room}
+use Rattle.cf_load.proofs.Loaders.{goes_on, may_room, may_stay, refused, same_room}
 use Rattle.cf_load.proofs.loader.Loader.append.Goals as goal
 
 pub make_ready-requires-clause-known : goal.make_ready-requires-clause-known
 make_ready-requires-clause-known g c =
     let s : SegmentsValue = c.args.segments.now in
     subst (λ (l : LoaderValue). KnowsBefore s l.plan l.found) (sym c.self.view_is) c.requires.loading.1.known
+
+pub load_current-requires-clause-few : goal.load_current-requires-clause-few
+load_current-requires-clause-few g c κs within =
+    let inside = c.self.inside in
+    let s : SegmentsValue = c.args.segments.now in
+    let may : MayLoad s inside.plan inside.count (length c.args.rows.now) =
+    subst (λ (l : LoaderValue). MayLoad s l.plan l.count (length c.args.rows.now)) (sym c.self.view_is) c.requires.may in
+    subst (λ (h : ShapeValue). StayInBatch h inside.count (length c.args.rows.now)) (sym c.in_ok-make_ready.ensures.same.shape)
+    (may_stay s inside.plan inside.count (length c.args.rows.now) may)
 
 pub load_current-requires-clause-room : goal.load_current-requires-clause-room
 load_current-requires-clause-room g c κs within =
@@ -24,14 +33,16 @@ load_current-requires-clause-room g c κs within =
     let u : SegmentsValue = c.make_ready.new.segments in
     let had = c.requires.loading in
     let start : inside.count ≡ length had.0 = ap (λ (l : LoaderValue). l.count) c.self.view_is ∙ had.1.count in
-    let whole : inside.count % 4096 ≡ 0 = subst (λ (l : LoaderValue). l.count % 4096 ≡ 0) (sym c.self.view_is) c.requires.whole in
+    let may : MayLoad s inside.plan inside.count (length c.args.rows.now) =
+    subst (λ (l : LoaderValue). MayLoad s l.plan l.count (length c.args.rows.now)) (sym c.self.view_is) c.requires.may in
     let holds : HoldsRows u had.0 = c.in_ok-make_ready.ensures.holds had.0 (sym start) had.1.loaded in
     let most = same_room s u c.in_ok-make_ready.ensures.same in
     let size = c.room.ensures in
     let within_all = c.if-self-rows.false in
-    let room = batch_room u inside.count (length c.args.rows.now) holds.are whole c.requires.few c.in_ok-make_ready.ensures.room
-    (omega (arith, most, size, within_all)) in
-    omega (arith, whole, room)
+    let full = had.1.loaded.full in
+    let full_now = holds.full in
+    may_room s u inside.plan inside.count (length c.args.rows.now) c.in_ok-make_ready.ensures.same holds.are (omega (arith, start, full))
+    (omega (arith, start, full_now)) c.in_ok-make_ready.ensures.room (omega (arith, most, size, within_all)) may
 
 pub returns-in_err-more-clause-batched : goal.returns-in_err-more-clause-batched
 returns-in_err-more-clause-batched g c before is =
@@ -41,8 +52,7 @@ returns-in_err-more-clause-batched g c before is =
     let t : SegmentsValue = c.load_current.new.segments in
     let rows = c.args.rows.now in
     let start : inside.count ≡ length before = ap (λ (l : LoaderValue). l.count) c.self.view_is ∙ is.count in
-    let whole : inside.count % 4096 ≡ 0 = subst (λ (l : LoaderValue). l.count % 4096 ≡ 0) (sym c.self.view_is) c.requires.whole in
-    let long : length before ≡ 4096 * (inside.count / 4096) = omega (arith, whole, start) in
+    let long : length before ≡ inside.count = sym start in
     let size = c.room.ensures in
     let within = c.if-self-rows.false in
     let room : length before + length rows ≤ room_of s = omega (arith, size, within, start) in
@@ -59,8 +69,7 @@ returns-in_err-append-clause-batched g c before is =
     let t : SegmentsValue = c.load_current.new.segments in
     let rows = c.args.rows.now in
     let start : inside.count ≡ length before = ap (λ (l : LoaderValue). l.count) c.self.view_is ∙ is.count in
-    let whole : inside.count % 4096 ≡ 0 = subst (λ (l : LoaderValue). l.count % 4096 ≡ 0) (sym c.self.view_is) c.requires.whole in
-    let long : length before ≡ 4096 * (inside.count / 4096) = omega (arith, whole, start) in
+    let long : length before ≡ inside.count = sym start in
     let size = c.room.ensures in
     let within = c.if-self-rows.false in
     let room : length before + length rows ≤ room_of s = omega (arith, size, within, start) in
@@ -87,9 +96,10 @@ returns-clause-batched g c before is =
       found = c.make_ready.new.found;
     } in
     let begun : IsLoading s before old = subst (λ (l : LoaderValue). IsLoading s before l) (sym c.self.view_is) is in
-    let whole : inside.count % 4096 ≡ 0 = subst (λ (l : LoaderValue). l.count % 4096 ≡ 0) (sym c.self.view_is) c.requires.whole in
+    let may : MayLoad s inside.plan inside.count (length rows) =
+    subst (λ (l : LoaderValue). MayLoad s l.plan l.count (length rows)) (sym c.self.view_is) c.requires.may in
     let start : inside.count ≡ length before = begun.count in
-    let long : length before ≡ 4096 * b = omega (arith, whole, start) in
+    let long : length before ≡ inside.count = sym start in
     let size = c.room.ensures in
     let within = c.if-self-rows.false in
     let room : length before + length rows ≤ room_of s = omega (arith, size, within, start) in
@@ -106,7 +116,7 @@ returns-clause-batched g c before is =
     subst (λ (l : LoaderValue). IsBatched before rows l new s t) c.self.view_is
     (goes_on before rows old new b s t more begun (made.loaded before long holds) (goes_then s u t first.same made.same)
     (let base = made.base in let full = holds.full in
-    omega (arith, base, full)) long c.requires.some c.requires.few room c.requires.fits beside told now made.known)
+    omega (arith, base, full)) (λ due. (let whole = may.whole due in omega (arith, whole, start))) c.requires.some may.few room c.requires.fits beside told now made.known)
 
 pub returns-then-self-rows-clause-known : goal.returns-then-self-rows-clause-known
 returns-then-self-rows-clause-known g c before is = is.known
