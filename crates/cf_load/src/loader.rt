@@ -2,7 +2,7 @@
 ghost use Rattle.std.specs.Prelude.{◌≡◌, ◌+◌, ◌<◌, ◌≤◌, ◌↔◌, ℕ, List, [], All, length, IfOk, IsTrue, MatchResult, OnErr, true};
 ghost use Rattle.cf_row.specs.Row.{Fits, RowValue};
 ghost use Rattle.cf_segments.specs.Segments.{SegmentsValue, HoldsRows, KeepsAll};
-ghost use Rattle.cf_load.specs.Loaders.{IsFresh, IsLoading, IsBatched, IsRefused, IsFinished, IsFoundIn, MayLoad};
+ghost use Rattle.cf_load.specs.Loaders.{IsFresh, IsLoading, IsBatched, IsRefused, IsFinished, IsFoundIn, MayLoad, StayInSegment};
 ghost use Rattle.cf_load.specs.Planned.{IsPlan};
 ghost use Rattle.cf_load.specs.Priors.{KnowsBefore};
 
@@ -37,6 +37,20 @@ impl Model for Loader {
     ghost Value = { LoaderValue };
 
     ghost view = { λ l. record { plan = l.plan; count = l.count; lives = l.lives.items; stopped = l.stopped; found = l.found } };
+}
+
+// How many rows more are in one segment behind so many: in the current one, or in the next, where it is full.
+fn left_in_segment(segments: &Segments, count: u32) -> u32
+    requires { (before : List RowValue) × (length before ≡ count) × HoldsRows segments.now before }
+    ensures some { 0 < result }
+    ensures stay { (more : ℕ) → more ≤ result → StayInSegment segments.now count more }
+{
+    let capacity = segments.shape().capacity();
+    let end = segments.base() + capacity;
+    if count < end {
+        return end - count;
+    }
+    capacity
 }
 
 impl Loader {
@@ -136,17 +150,11 @@ impl Loader {
         ensures some { 0 < result }
         ensures may { (more : ℕ) → more ≤ result → MayLoad segments.now self.now.plan self.now.count more }
     {
-        let shape = segments.shape();
-        let end = segments.base() + shape.capacity();
-        let left = if self.count < end {
-            end - self.count
-        } else {
-            shape.capacity()
-        };
-        if shape.writers() > 1 {
-            return left.min(4096 - self.count % 4096) as usize;
+        let left = left_in_segment(segments, self.count);
+        if segments.shape().writers() == 1 {
+            return left as usize;
         }
-        left as usize
+        left.min(4096 - self.count % 4096) as usize
     }
 
     /// Whether a batch was refused.

@@ -1,13 +1,35 @@
-use Rattle.std.proofs.Common.{rules, arith, ◌≡◌, ◌<◌, ◌≤◌, ◌+◌, ◌-◌, ◌*◌, ◌++◌, List, Err, length, take, drop, refl, sym, ap, subst, ◌∙◌, append-nil}
+use Rattle.std.proofs.Common.{rules, arith, ℕ, ◌≡◌, ◌<◌, ◌≤◌, ◌+◌, ◌-◌, ◌*◌, ◌++◌, List, Err, length, take, drop, refl, sym, ap, subst, ◌∙◌, append-nil}
+use Rattle.std.proofs.lemmas.List.{length-drop, length-take}
 use Rattle.cf_row.specs.Row.{RowValue}
 use Rattle.cf_plain.specs.declared.loaded.Live.{Live}
 use Rattle.cf_segments.specs.Segments.{room_of, told_of}
-use Rattle.cf_load.specs.Loaders.{LoaderValue, IsLoading, IsBatched}
+use Rattle.cf_load.specs.Loaders.{LoaderValue, IsLoading, IsBatched, MayLoad}
 use Rattle.cf_load.specs.Planned.{tails_of}
 use Rattle.cf_segments.proofs.Kept.{goes_none, goes_then}
 use Rattle.cf_load.proofs.Loading.{told_more}
-use Rattle.cf_load.proofs.Loaders.{part_is, more_of, refused_goes, same_room, some_of}
+use Rattle.cf_load.proofs.Loaders.{part_is, may_batch, more_of, refused_goes, same_room, some_of}
 use Rattle.cf_load.proofs.loads.load_batches.Goals as goal
+
+pub batch-requires-clause-may : goal.batch-requires-clause-may
+batch-requires-clause-may g c κs within =
+    let rows = c.args.rows.now in
+    let b = c.loop-number.number in
+    let s = c.loop-number.segments in
+    let v = c.loop-number.invariant in
+    let part : List RowValue = take (c.min-to.result - 4096 * b) (drop (4096 * b) rows) in
+    let lt = c.loop-number-test.true in
+    let many = c.div_ceil-batches.ensures in
+    let to = c.min-to.ensures in
+    let low : 4096 * b < length rows = omega (arith, lt, many) in
+    let front = length-take (4096 * b) rows in
+    let rest = length-drop (4096 * b) rows in
+    let cut = length-take (c.min-to.result - 4096 * b) (drop (4096 * b) rows) in
+    let most = same_room c.args.segments.now s v.same in
+    let few = c.requires.few in
+    let count = v.loading.count in
+    subst (λ (n : ℕ). MayLoad s (c.loop-number.loader).plan n (length part)) (sym count)
+    (may_batch s (c.loop-number.loader).plan (take (4096 * b) rows) (length part) v.loading.loaded (omega (arith, front, low))
+    (omega (arith, cut, to)) (omega (arith, front, rest, cut, to, low, most, few)))
 
 pub returns-in_err-batch-clause-stopped : goal.returns-in_err-batch-clause-stopped
 returns-in_err-batch-clause-stopped g c =
