@@ -1,6 +1,6 @@
 -- A log is filled row by row.
 use Rattle.std.proofs.Common.{append-nil, ◌≡◌, ◌⊎◌, inl, inr, ℕ, ◌+◌, ◌*◌, ◌<◌, ◌≤◌, ◌%◌, Bool, true, false, List, [], ◌++◌, length, map, All, refl, sym, ap, ap₂, subst, ◌∙◌, arith, length-append, mul_comm}
-use Rattle.std.proofs.lemmas.Bool.{both_ways, false_from_ne_true}
+use Rattle.std.proofs.lemmas.Bool.{both_ways, cases_lt, false_from_ne_true}
 use Rattle.std.proofs.lemmas.Bool.Decides.{leb_tells}
 use Rattle.std.proofs.lemmas.List.{drop_at}
 use Rattle.std.proofs.lemmas.List.Elements.{All-nil, All-drop}
@@ -14,9 +14,10 @@ use Rattle.cf_plain.specs.declared.loaded.Live.{Live}
 use Rattle.cf_table.specs.Moves.{SealValue}
 use Rattle.cf_plain.specs.Order.{IsLogOf, order_of}
 use Rattle.cf_load.specs.Tags.{nums_of}
-use Rattle.cf_load.specs.Loaders.{LoaderValue, IsFresh, IsLoading, IsFinished, IsFoundIn}
+use Rattle.cf_load.specs.Loaders.{LoaderValue, IsFresh, IsLoading, IsFinished, IsFoundIn, MayLoad}
 use Rattle.cf_load.specs.Loading.{HasAnswered}
 use Rattle.cf_segments.specs.Segments.{SegmentsValue, HoldsRows, KeepsSegment, all_of, entries_of, room_of, sealed, told_of}
+use Rattle.cf_load.proofs.Loaders.{may_batch}
 use Rattle.cf_load.specs.Planned.{tails_of, marks_on}
 use Rattle.cf_load.specs.declared.plan.LivePlan.{LivePlan}
 use Rattle.cf_segments.specs.declared.segments.Sealing.{Sealing}
@@ -43,7 +44,8 @@ none_filled f plan holds one told fresh begins none zero = record {
   going = λ _ _. record {
     before = [];
     rows_are = sym none;
-    whole = refl;
+    whole = λ _. refl;
+    none = λ _. none;
     few = (let size : length f.waiting ≡ 0 = ap (λ (rs : List RowValue). length rs) none in omega (arith, size));
     loaded = record {
       loading = begins holds;
@@ -87,9 +89,17 @@ module _ (f : FillingValue) (rows : List RowValue) (is : IsFilled f rows) where
       record {
         before = awaits.before;
         loaded = awaits.loaded;
-        whole = awaits.whole;
         some = some;
-        few = omega (arith, short);
+        may = elim (cases_lt 0 f.loader.plan.rounds) [
+          | inl due ↦
+              let whole = awaits.whole due in
+              subst (λ (n : ℕ). MayLoad f.segments f.loader.plan n (length f.waiting)) (sym awaits.loaded.loading.count)
+              (may_batch f.segments f.loader.plan awaits.before (length f.waiting) awaits.loaded.loading.loaded whole (omega (arith, short))
+              (omega (arith, room, size)))
+          | inr quiet ↦
+              let none : length f.waiting ≡ 0 = ap (λ (rs : List RowValue). length rs) (awaits.none (omega (arith, quiet))) in
+              absurd (omega (arith, none, some))
+        ];
         room = omega (arith, room, size);
         fit = fit_after (f.segments.shape).schema awaits.before f.waiting
             (subst (λ (rs : List RowValue). All (Fits (f.segments.shape).schema) rs) awaits.rows_are is.fit);
@@ -188,12 +198,12 @@ some_or_idle f rows = elim (is_either f.loader.stopped) [
 
 -- those that wait are what whole batches leave of all, or none
 module _ (f : FillingValue) (rows : List RowValue) (is : IsFilled f rows) where
-  left_over : f.loader.stopped ≡ false → length rows ≤ room_of f.segments → length f.waiting ≡ length rows % 4096
-  left_over going few =
+  left_over : f.loader.stopped ≡ false → length rows ≤ room_of f.segments → 0 < f.loader.plan.rounds → length f.waiting ≡ length rows % 4096
+  left_over going few due =
       let awaits = is.going going few in
       let size : length rows ≡ length awaits.before + length f.waiting = ap (λ (rs : List RowValue). length rs) awaits.rows_are
       ∙ length-append awaits.before f.waiting in
-      let whole = awaits.whole in
+      let whole = awaits.whole due in
       let short = awaits.few in
       omega (arith, size, whole, short)
 
@@ -201,7 +211,7 @@ module _ (f : FillingValue) (rows : List RowValue) (is : IsFilled f rows) where
   waits_short = elim (some_or_idle f rows) [
     | inl stopped ↦ (let none : length f.waiting ≡ 0 = ap (λ (rs : List RowValue). length rs) (is.idle (inl stopped)) in omega (arith, none))
     | inr (inl many) ↦ (let none : length f.waiting ≡ 0 = ap (λ (rs : List RowValue). length rs) (is.idle (inr many)) in omega (arith, none))
-    | inr (inr going) ↦ (let left = left_over going.0 going.1 in omega (arith, left))
+    | inr (inr going) ↦ (is.going going.0 going.1).few
   ]
 
 -- once more came, no more wait than those behind the batch that was at hand
@@ -211,14 +221,20 @@ pub waits_few : (old new : FillingValue) (first rows : List RowValue) → IsFill
 waits_few old new first rows is then keeps stops = elim (some_or_idle new (first ++ rows)) [
   | inl stopped ↦ (let none : length new.waiting ≡ 0 = ap (λ (rs : List RowValue). length rs) (then.idle (inl stopped)) in omega (arith, none))
   | inr (inl many) ↦ (let none : length new.waiting ≡ 0 = ap (λ (rs : List RowValue). length rs) (then.idle (inr many)) in omega (arith, none))
-  | inr (inr going) ↦ (
+  | inr (inr going) ↦ elim (cases_lt 0 new.loader.plan.rounds) [
+    | inl due ↦ (
       let size = length-append first rows in
+      let rounds : new.loader.plan.rounds ≡ old.loader.plan.rounds = ap (λ (p : LivePlan). p.rounds) keeps.plan in
       let few = going.1 in
       let went : old.loader.stopped ≡ false = false_from_ne_true old.loader.stopped (λ stopped. both_ways new.loader.stopped going.0 (stops stopped)) in
       let room : room_of new.segments ≡ room_of old.segments = ap₂ (λ (n : ℕ) (h : ShapeValue). n * h.capacity) keeps.most keeps.shape in
-      let had = left_over old first is went (omega (arith, size, few, room)) in
-      let has = left_over new (first ++ rows) then going.0 few in
+      let had = left_over old first is went (omega (arith, size, few, room)) (omega (arith, due, rounds)) in
+      let has = left_over new (first ++ rows) then going.0 few due in
       omega (arith, size, had, has))
+    | inr quiet ↦ (
+      let none : length new.waiting ≡ 0 = ap (λ (rs : List RowValue). length rs) ((then.going going.0 going.1).none (omega (arith, quiet))) in
+      omega (arith, none))
+  ]
 ]
 
 -- those that are read meanwhile end the next batch, and no more than a piece brings

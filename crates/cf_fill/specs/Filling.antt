@@ -2,7 +2,7 @@
 use Rattle.std.specs.Prelude.{◌≡◌, ◌⊎◌, ℕ, ◌+◌, ◌<◌, ◌≤◌, ◌%◌, min, true, false, List, [], ◌++◌, length, take, All}
 use Rattle.cf_row.specs.Row.{RowValue, Fits}
 use Rattle.cf_segments.specs.Segments.{SegmentsValue, AllowsSegments, base_of, room_of, told_of}
-use Rattle.cf_load.specs.Loaders.{LoaderValue, IsLoading}
+use Rattle.cf_load.specs.Loaders.{LoaderValue, IsLoading, MayLoad}
 use Rattle.cf_load.specs.Loads.{LacksNodes}
 use Rattle.cf_load.specs.Planned.{tails_of}
 use Rattle.cf_command.specs.Call.{AreSizes}
@@ -44,13 +44,12 @@ pub record IsLoadedFor (shape : ShapeValue) (plan : LivePlan) (rows : List RowVa
 abbrev pub AreLoaded : SegmentsValue → List RowValue → LoaderValue → Type 0
 AreLoaded s rows loader = IsLoadedSo s rows loader ⊎ ((loader.stopped ≡ true) × ((writer : ℕ) × LacksNodes s rows writer))
 
--- A batch waits for the loader, which has loaded whole batches before it. Its rows fit, and there is room for them.
+-- A batch waits for the loader, which has loaded rows before it. Its rows fit, may be loaded at once, and there is room for them.
 pub record HasBatch (s : SegmentsValue) (waiting : List RowValue) (loader : LoaderValue) : Type 0 where
   pub before : List RowValue
   pub loaded : IsLoadedSo s before loader
-  pub whole : length before % 4096 ≡ 0
   pub some : 0 < length waiting
-  pub few : length waiting ≤ 4096
+  pub may : MayLoad s loader.plan loader.count (length waiting)
   pub room : length before + length waiting ≤ room_of s
   pub fit : All (Fits (s.shape).schema) waiting
 
@@ -58,11 +57,11 @@ pub record HasBatch (s : SegmentsValue) (waiting : List RowValue) (loader : Load
 abbrev pub LoadsWaiting : List RowValue → SegmentsValue → SegmentsValue → LoaderValue → LoaderValue → Type 0
 LoadsWaiting waiting s t old new = (before : List RowValue) → IsLoadedSo s before old → AreLoaded t (before ++ waiting) new
 
--- Rows wait for the loader, which has loaded whole batches before them. They fit, and there is room for them.
+-- Rows wait for the loader, which has loaded rows before them, with rounds whole batches. They fit, and there is room for them.
 pub record HasRows (segments : SegmentsValue) (waiting : List RowValue) (loader : LoaderValue) : Type 0 where
   pub before : List RowValue
   pub loaded : IsLoadedSo segments before loader
-  pub whole : length before % 4096 ≡ 0
+  pub whole : 0 < loader.plan.rounds → length before % 4096 ≡ 0
   pub room : length before + length waiting ≤ room_of segments
   pub fit : All (Fits (segments.shape).schema) waiting
 
@@ -73,16 +72,17 @@ pub record LoadsWhole (count : ℕ) (waiting : List RowValue) (segments segments
   pub few : new.stopped ≡ false → length waiting < count + 4096
   pub loads : LoadsWaiting (take count waiting) segments segments_then old new
 
--- all rows but those that wait are loaded, in whole batches
+-- All rows but those that wait are loaded, with rounds in whole batches. With none no row waits.
 pub record AwaitsBatch (s : SegmentsValue) (rows waiting : List RowValue) (loader : LoaderValue) : Type 0 where
   pub before : List RowValue
   pub rows_are : rows ≡ before ++ waiting
-  pub whole : length before % 4096 ≡ 0
+  pub whole : 0 < loader.plan.rounds → length before % 4096 ≡ 0
   pub few : length waiting < 4096
+  pub none : loader.plan.rounds ≡ 0 → waiting ≡ []
   pub loaded : IsLoadedSo s before loader
 
--- These rows came. They are counted up to one more than all segments have room for. While they are no more than that, they are loaded batch
--- by batch, or their paths lack nodes. Where no more is loaded, none waits.
+-- These rows came. They are counted up to one more than all segments have room for. While they are no more than that, they are loaded, with
+-- rounds batch by batch, or their paths lack nodes. Where no more is loaded, none waits.
 pub record IsFilled (filling : FillingValue) (rows : List RowValue) : Type 0 where
   pub allowed : AllowsSegments filling.segments.shape filling.segments.most
   pub count_is : filling.count ≡ min (length rows) (room_of filling.segments + 1)
@@ -91,8 +91,19 @@ pub record IsFilled (filling : FillingValue) (rows : List RowValue) : Type 0 whe
   pub lacking : filling.loader.stopped ≡ true → (writer : ℕ) × LacksNodes filling.segments rows writer
   pub idle : (filling.loader.stopped ≡ true) ⊎ (room_of filling.segments < length rows) → filling.waiting ≡ []
 
--- These rows came, and there is room for them. All but those that wait are loaded, in whole batches, and the loader goes on.
+-- These rows came, behind others that are all loaded, and there is room for them. No round is made, and the loader goes on.
+pub record HasCome (filling : FillingValue) (before rows : List RowValue) : Type 0 where
+  pub allowed : AllowsSegments filling.segments.shape filling.segments.most
+  pub count_is : filling.count ≡ length before + length rows
+  pub few : length before + length rows ≤ room_of filling.segments
+  pub fit : All (Fits (filling.segments.shape).schema) (before ++ rows)
+  pub quiet : filling.loader.plan.rounds ≡ 0
+  pub none : filling.waiting ≡ []
+  pub loaded : IsLoadedSo filling.segments before filling.loader
+
+-- These rows came, and there is room for them. Rounds are made. All but those that wait are loaded, in whole batches, and the loader goes on.
 pub record IsWaiting (filling : FillingValue) (rows : List RowValue) : Type 0 where
+  pub due : 0 < filling.loader.plan.rounds
   pub allowed : AllowsSegments filling.segments.shape filling.segments.most
   pub count_is : filling.count ≡ length rows
   pub few : length rows ≤ room_of filling.segments

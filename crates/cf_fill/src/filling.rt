@@ -4,7 +4,7 @@ ghost use Rattle.cf_row.specs.Row.{Fits, RowValue};
 ghost use Rattle.cf_shape.specs.Lanes.{IsShape};
 ghost use Rattle.cf_segments.specs.Segments.{AllowsSegments, room_of};
 ghost use Rattle.cf_load.specs.Planned.{IsPlan, IsSamePlan};
-ghost use Rattle.cf_fill.specs.Filling.{AreLoaded, Fills, HasBatch, HasRows, IsFilled, IsFilling, IsLoadedFor, IsWaiting, KeepsLog, LoadsWaiting, LoadsWhole};
+ghost use Rattle.cf_fill.specs.Filling.{AreLoaded, Fills, HasBatch, HasCome, HasRows, IsFilled, IsFilling, IsLoadedFor, IsWaiting, KeepsLog, LoadsWaiting, LoadsWhole};
 ghost use Rattle.cf_fill.specs.Logs.{IsLogFound, IsLogSealed, IsUnmade};
 
 use crate::context::Context;
@@ -19,8 +19,9 @@ use std::marker::Model;
 use std::mem;
 use std::thread::Threads;
 
-/// A log that rows fill batch by batch, as they come. The rows of the next batch wait, and no other row is kept beside the log. None
-/// waits once no more is loaded, because there are more than the log may hold or a writer has no node left.
+/// A log that rows fill as they come. With rounds they fill it batch by batch: those of the next batch wait, and no other row is kept
+/// beside the log. With none they are loaded as soon as they come. None waits once no more is loaded, because there are more than the
+/// log may hold or a writer has no node left.
 #[derive(Drop)]
 pub struct Filling {
     alloc: Global,
@@ -80,7 +81,8 @@ fn load_whole<R: Threads + Sync, G: Gate>(
     loader: &mut Loader,
     rows: &[Row],
 ) -> Result<usize, Memory>
-    requires { HasRows segments.old rows.now loader.old }
+    requires rows { HasRows segments.old rows.now loader.old }
+    requires due { 0 < loader.old.plan.rounds }
     ensures shape { segments.new.shape ≡ segments.old.shape }
     ensures most { segments.new.most ≡ segments.old.most }
     ensures plan { loader.new.plan ≡ loader.old.plan }
@@ -95,6 +97,32 @@ fn load_whole<R: Threads + Sync, G: Gate>(
         count += BATCH;
     }
     Ok(count)
+}
+
+// Loads the rows in parts, each of as many as the loader takes at once, while it goes on. No round is made.
+fn load_parts<R: Threads + Sync, G: Gate>(
+    context: &Context<'_, R, G>,
+    segments: &mut Segments,
+    loader: &mut Loader,
+    rows: &[Row],
+) -> Result<(), Memory>
+    requires rows { HasRows segments.old rows.now loader.old }
+    requires quiet { loader.old.plan.rounds ≡ 0 }
+    ensures shape { segments.new.shape ≡ segments.old.shape }
+    ensures most { segments.new.most ≡ segments.old.most }
+    ensures plan { loader.new.plan ≡ loader.old.plan }
+    ensures loaded { IfOk result (λ _. LoadsWaiting rows.now segments.old segments.new loader.old loader.new) }
+{
+    let mut count = 0;
+    while count < rows.len() {
+        if loader.stopped() {
+            return Ok(());
+        }
+        let part = loader.most(segments).min(rows.len() - count);
+        load(context, segments, loader, &rows[count..count + part])?;
+        count += part;
+    }
+    Ok(())
 }
 
 impl Filling {
@@ -193,7 +221,20 @@ impl Filling {
         self.waiting.append(&mut rest)
     }
 
-    /// Takes the next rows out of the list. Each batch that they end is loaded.
+    // Loads rows that have come, and none waits.
+    fn load_now<R: Threads + Sync, G: Gate>(
+        &mut self,
+        context: &Context<'_, R, G>,
+        rows: &[Row],
+    ) -> Result<(), Memory>
+        requires come { (before : List RowValue) × HasCome self.old before rows.now }
+        ensures keeps { KeepsLog self.old self.new }
+        ensures filled { IfOk result (λ _. (before : List RowValue) → HasCome self.old before rows.now → IsFilled self.new (before ++ rows.now)) }
+    {
+        load_parts(context, &mut self.segments, &mut self.loader, rows)
+    }
+
+    /// Takes the next rows out of the list. Each batch that they end is loaded, and with no round all of them.
     pub fn take_rows<R: Threads + Sync, G: Gate>(
         &mut self,
         context: &Context<'_, R, G>,
@@ -210,6 +251,9 @@ impl Filling {
         if self.counts_alone(taken.len()) {
             self.waiting.clear();
             return Ok(());
+        }
+        if self.loader.makes_no_round() {
+            return self.load_now(context, &taken);
         }
         put_behind(&mut self.waiting, taken)?;
         self.load_batches(context)

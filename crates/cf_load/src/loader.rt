@@ -1,5 +1,5 @@
 // A log is loaded batch by batch, as its rows come.
-ghost use Rattle.std.specs.Prelude.{◌≡◌, ◌+◌, ◌<◌, ◌≤◌, ◌↔◌, ℕ, List, [], All, length, IfOk, IsTrue, MatchResult, OnErr, true};
+ghost use Rattle.std.specs.Prelude.{◌≡◌, ◌+◌, ◌<◌, ◌≤◌, ℕ, List, [], All, length, IfOk, IsTrue, MatchResult, OnErr, true, false};
 ghost use Rattle.cf_row.specs.Row.{Fits, RowValue};
 ghost use Rattle.cf_segments.specs.Segments.{SegmentsValue, HoldsRows, KeepsAll};
 ghost use Rattle.cf_load.specs.Loaders.{IsFresh, IsLoading, IsBatched, IsRefused, IsFinished, IsFoundIn, MayLoad, StayInSegment};
@@ -137,7 +137,8 @@ impl Loader {
 
     /// Whether no round is made beside a batch.
     pub fn makes_no_round(&self) -> bool
-        ensures { IsTrue result ↔ (self.now.plan.rounds ≡ 0) }
+        ensures none { IsTrue result → self.now.plan.rounds ≡ 0 }
+        ensures some { result ≡ false → 0 < self.now.plan.rounds }
     {
         self.plan.makes_no_round()
     }

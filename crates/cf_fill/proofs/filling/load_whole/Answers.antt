@@ -8,8 +8,8 @@ load-requires-after_bounds g c κs within =
     let going : c.loop-count.loader.stopped ≡ false = search rules in
     let more = c.loop-count-test.true in
     let low = v.within in
-    next_batch c.args.segments.now c.loop-count.segments c.args.rows.now c.args.loader.now c.loop-count.loader c.loop-count.count v.loads going c.requires
-    v.shape v.most v.whole (omega (arith, more, low))
+    next_batch c.args.segments.now c.loop-count.segments c.args.rows.now c.args.loader.now c.loop-count.loader c.loop-count.count v.loads going c.requires.rows
+    v.shape v.most c.requires.due v.whole (omega (arith, more, low))
 
 pub loop-count-preserved : goal.loop-count-preserved
 loop-count-preserved g c =
@@ -24,6 +24,6 @@ loop-count-preserved g c =
       shape = c.load.ensures.shape ∙ v.shape;
       most = c.load.ensures.most ∙ v.most;
       plan = c.load.ensures.plan ∙ v.plan;
-      loads = loads_next c.args.segments.now c.loop-count.segments c.args.rows.now c.args.loader.now c.loop-count.loader c.loop-count.count v.loads going
+      loads = loads_next c.args.segments.now c.loop-count.segments c.args.rows.now c.args.loader.now c.loop-count.loader c.loop-count.count 4096 v.loads going
           c.load.new.segments c.load.new.loader c.in_ok-load.ensures.loaded;
     }
