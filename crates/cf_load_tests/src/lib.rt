@@ -6,4 +6,6 @@ mod gates;
 #[cfg(test)]
 mod load_tests;
 #[cfg(test)]
+mod take_tests;
+#[cfg(test)]
 mod texts;

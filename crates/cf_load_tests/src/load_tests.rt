@@ -15,21 +15,21 @@ use std::test::Fail;
 use std::thread::Threads;
 
 // All rows, by a scan and by their key, each asked live once a round, and a trigger that no 4,096 rows fire.
-const SETUP: &[u8] =
+pub(crate) const SETUP: &[u8] =
     b"schema records ts:u64,len:u32\nwidth 10\nindex i ts\nfilter f *\naggregate a f len\n\
     trigger t a count > 4096\nask l list *\nask k find i 7 7\nlive l\nlive k\n";
 
-// So many rows of one path.
-fn rows(alloc: Global, count: u32) -> Result<Vec<Row>, Memory> {
+// Rows of one path with the numbers from one on, up to another.
+pub(crate) fn rows_of(alloc: Global, from: u32, to: u32) -> Result<Vec<Row>, Memory> {
     let mut rows = Vec::new(alloc);
-    for num in 0..count {
+    for num in from..to {
         let values = [Value::Num(7), Value::Num(1)].to_vec(alloc)?;
         rows.push(Row::new(num, values))?;
     }
     Ok(rows)
 }
 
-fn all_fit(schema: &Schema, rows: &[Row]) -> bool
+pub(crate) fn all_fit(schema: &Schema, rows: &[Row]) -> bool
     ensures { IsTrue result → All (Fits schema.now) rows.now }
 {
     rows.iter().all(|row| fits(schema, row))
@@ -37,13 +37,13 @@ fn all_fit(schema: &Schema, rows: &[Row]) -> bool
 
 // How many segments there may be, the places of each, and the writers.
 #[derive(Clone, Copy, Drop)]
-struct Sizes {
-    most: u32,
-    capacity: u32,
-    writers: u8,
+pub(crate) struct Sizes {
+    pub(crate) most: u32,
+    pub(crate) capacity: u32,
+    pub(crate) writers: u8,
 }
 
-fn sizes_of(most: u32, capacity: u32, writers: u8) -> Sizes {
+pub(crate) fn sizes_of(most: u32, capacity: u32, writers: u8) -> Sizes {
     Sizes {
         most,
         capacity,
@@ -52,7 +52,7 @@ fn sizes_of(most: u32, capacity: u32, writers: u8) -> Sizes {
 }
 
 // Whether a log of the shape may go on through so many segments.
-fn allows(shape: &Shape, most: u32) -> bool
+pub(crate) fn allows(shape: &Shape, most: u32) -> bool
     ensures { IsTrue result → AllowsSegments shape.now most }
 {
     let capacity = u64::from(shape.capacity());
@@ -69,14 +69,19 @@ fn open_segments<R: Abort>(
 ) -> Result<Segments, Memory>
     ensures { IfOk result (λ segments. HoldsRows segments []) }
 {
-    assert!(rt; 1 <= sizes.capacity && sizes.capacity <= 8192);
+    assert!(rt; 1 <= sizes.capacity && sizes.capacity <= 16384);
     assert!(rt; 1 <= sizes.writers && sizes.writers <= 15);
     let shape = shape_of(alloc, setup, sizes.capacity, sizes.writers, 64)?;
     assert!(rt; allows(&shape, sizes.most));
     Segments::open(alloc, shape, sizes.most)
 }
 
-fn plan_of(alloc: Global, setup: &Setup, rounds: u32, is_live: bool) -> Result<LivePlan, Memory> {
+pub(crate) fn plan_of(
+    alloc: Global,
+    setup: &Setup,
+    rounds: u32,
+    is_live: bool,
+) -> Result<LivePlan, Memory> {
     let lives = if is_live { setup.lives() } else { &[] };
     Ok(LivePlan {
         asks: copy_asks(alloc, setup.asks())?,
@@ -87,7 +92,7 @@ fn plan_of(alloc: Global, setup: &Setup, rounds: u32, is_live: bool) -> Result<L
 }
 
 // So many rows are loaded beside a reader, which makes so many rounds.
-fn load_rows<R: Threads + Sync + Abort, G: Gate>(
+pub(crate) fn load_rows<R: Threads + Sync + Abort, G: Gate>(
     rt: &R,
     alloc: Global,
     sizes: Sizes,
@@ -96,7 +101,7 @@ fn load_rows<R: Threads + Sync + Abort, G: Gate>(
     gate: &G,
 ) -> Result<(Closing, Loaded), Memory> {
     let setup = parse_setup(alloc, SETUP).ok().expect(rt, "a setup");
-    let rows = rows(alloc, count)?;
+    let rows = rows_of(alloc, 0, count)?;
     let plan = plan_of(alloc, &setup, rounds.0, rounds.1)?;
     let mut segments = open_segments(rt, alloc, &setup, sizes)?;
     assert!(rt; all_fit(segments.shape().schema(), &rows));
