@@ -49,7 +49,7 @@ behind_few shared first others i behind =
 pub seen_same : (m n : Reader) → Walks m n → (n.pass.view).seen ≡ (m.pass.view).seen
 seen_same m n walked = ap (λ (h : PassValue). (h.view).seen) walked.walked.same
 
-walked_twice : (l m n : Reader) → Walks l m → Walks m n → Walks l n
+pub walked_twice : (l m n : Reader) → Walks l m → Walks m n → Walks l n
 walked_twice l m n one two = record { of = two.of ∙ one.of; walked = walked_then l.pass m.pass n.pass one.walked two.walked }
 
 pub walks : (m n : Reader) → HasWalked m n → Walks m n

@@ -16,3 +16,4 @@ pub mod Spanned
 pub mod Ended
 pub mod Behind
 pub mod Spans
+pub mod Reported

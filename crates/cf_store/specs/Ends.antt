@@ -1,7 +1,9 @@
 -- How far readers of logs that stand one behind the other look, and what they find up to there.
-use Rattle.std.specs.Prelude.{◌≡◌, ℕ, ◌+◌, ◌*◌, ◌<◌, ◌≤◌, ◌^◌, zero, suc, false, List, [], ◌∷◌, ◌++◌, length, slice_get, Some, None, Result, Ok, Err}
+use Rattle.std.specs.Prelude.{◌≡◌, ℕ, ◌+◌, ◌*◌, ◌<◌, ◌≤◌, ◌^◌, zero, suc, false, List, [], ◌∷◌, ◌++◌, length, slice_get, Some, None, Result, Ok, Err, Vec}
 use Rattle.std.specs.List.{AllZip}
 use Rattle.std.specs.Arc.{arc_value}
+use Rattle.std.specs.Global.{Global}
+use Rattle.std.specs.declared.alloc.AllocError.{AllocError}
 use Rattle.cf_row.specs.declared.row.Entry.{Entry}
 use Rattle.cf_table.specs.Values.{PassValue}
 use Rattle.cf_table.specs.Moves.{IsReading}
@@ -9,6 +11,8 @@ use Rattle.cf_query.specs.Walks.{OnlyWalked}
 use Rattle.cf_plain.specs.Asks.{eval}
 use Rattle.cf_plain.specs.declared.ask.Ask.TheVariants as asks
 use Rattle.cf_store.specs.Asks.{AsksTail, IsMeasured, Keeps}
+use Rattle.cf_store.specs.Reports.{HasWalked}
+use Rattle.cf_store.specs.Seen.{seen_text}
 use Rattle.cf_store.specs.Spans.{AllLike, IsAnswerOn, IsLast, passes_of, seen_each, seen_in}
 use Rattle.cf_store.specs.declared.held.Shared.{Shared}
 use Rattle.cf_store.specs.declared.held.Reader.{Reader}
@@ -44,6 +48,11 @@ pub record Walks (before after : Reader) : Type 0 where
 abbrev pub AllWalked : PassValue → PassValue → List Reader → List Reader → Type 0
 AllWalked before after others others_after = OnlyWalked before after × AllZip Walks others others_after
 
+-- a reader and those behind it walked their logs, and it keeps its words
+pub record HaveWalkedOn (m n : Reader) (ms ns : List Reader) : Type 0 where
+  pub first : HasWalked m n
+  pub others : AllZip Walks ms ns
+
 -- So many of the other logs were asked for their tails, up to the last that is looked at then.
 pub record AsksOthers (capacity : ℕ) (first : PassValue) (before after : List Reader) (last : ℕ) : Type 0 where
   pub is_last : IsLast capacity (seen_each (first ∷ passes_of after)) last
@@ -71,3 +80,9 @@ TellsGroupsSeen shared lane m n ms ns (Err lanes.Memory) = AllWalked m n ms ns
 -- The same of a reader and those behind it. It keeps the words of the groups; refused, those that it had.
 abbrev pub GroupsWith : ℕ → Reader → Reader → List Reader → List Reader → Result Head LaneRefusal → Type 0
 GroupsWith lane m n ms ns r = Keeps (λ before after told. TellsGroupsSeen (arc_value m.of) lane before after ms ns told) m n r
+
+-- The text of the report of what the readers see; or there was no memory. They keep their words.
+abbrev pub ReportsWith : Reader → Reader → List Reader → List Reader → Result (Vec ℕ Global) AllocError → Type 0
+ReportsWith m n ms ns (Ok text) = HaveWalkedOn m n ms ns
+    × (text.items ≡ seen_text (arc_value m.of).log.shape (arc_value m.of).setup (seen_of (arc_value m.of) m.pass ms))
+ReportsWith m n ms ns (Err e) = HaveWalkedOn m n ms ns

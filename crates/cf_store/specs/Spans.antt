@@ -1,7 +1,9 @@
 -- Readers of logs of one setup that stand one behind the other answer as one reader of one log with the records of all.
-use Rattle.std.specs.Prelude.{◌≡◌, ℕ, ◌+◌, ◌*◌, ◌<◌, ◌≤◌, ◌^◌, ◌==◌, Bool, true, false, List, [], ◌∷◌, ◌++◌, length, map, All, drop, get_or, slice_get, Some, None, Result, Ok, Err, if◌then◌else◌}
+use Rattle.std.specs.Prelude.{◌≡◌, ℕ, ◌+◌, ◌*◌, ◌<◌, ◌≤◌, ◌^◌, ◌==◌, Bool, true, false, List, [], ◌∷◌, ◌++◌, length, map, All, drop, get_or, slice_get, Some, None, Result, Ok, Err, Vec, if◌then◌else◌}
 use Rattle.std.specs.List.{AllZip}
 use Rattle.std.specs.Arc.{arc_value}
+use Rattle.std.specs.Global.{Global}
+use Rattle.std.specs.declared.alloc.AllocError.{AllocError}
 use Rattle.cf_row.specs.declared.row.Entry.{Entry}
 use Rattle.cf_row.specs.Row.{Fits, RowValue}
 use Rattle.cf_shape.specs.Lanes.{ShapeValue, lane_at, has_by}
@@ -15,6 +17,7 @@ use Rattle.cf_table.specs.Moves.{Begins}
 use Rattle.cf_query.specs.Asking.{HasAsked}
 use Rattle.cf_query.specs.Walks.{OnlyWalked}
 use Rattle.cf_store.specs.Asks.{IsTold, groups_words, is_keyed}
+use Rattle.cf_store.specs.Seen.{seen_text}
 use Rattle.cf_store.specs.declared.held.Shared.{Shared}
 use Rattle.cf_store.specs.declared.held.Reader.{Reader}
 use Rattle.cf_store.specs.declared.reader.Told.{Told}
@@ -155,6 +158,12 @@ abbrev pub TellsSpanGroups : ℕ → SpanValue → SpanValue → Result Head Lan
 TellsSpanGroups lane m n (Ok head) = HaveWalked m n n.words × AreGroupsIn m.shape lane (seen_by m) head n.words
 TellsSpanGroups lane m n (Err lanes.NoLane) = (n ≡ m) × (MeasuresIn m.shape lane → ⊥)
 TellsSpanGroups lane m n (Err lanes.Memory) = HaveWalked m n m.words
+
+-- The text is that of the report of what the span has seen, end to end; or there was no memory. The tails are not asked, and the span keeps
+-- its words.
+abbrev pub ReportsSpan : SpanValue → SpanValue → Result (Vec ℕ Global) AllocError → Type 0
+ReportsSpan m n (Ok text) = HaveWalked m n m.words × (text.items ≡ seen_text m.shape m.setup (seen_by m))
+ReportsSpan m n (Err e) = HaveWalked m n m.words
 
 -- What reading the row at an offset answers, counted from the first record of the first log.
 abbrev pub ReadsSpanRow : ℕ → SpanValue → SpanValue → Result RowValue RowRefusal → Type 0

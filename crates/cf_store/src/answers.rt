@@ -1,50 +1,51 @@
-// The answers on what a pass has seen.
-ghost use Rattle.std.specs.Prelude.{◌≡◌, ◌≤◌, All, length, map, IfOk};
+// The answers on what is seen of a log and of those behind it.
+ghost use Rattle.std.specs.Prelude.{◌≡◌, All, map, IfOk};
 ghost use Rattle.cf_plain.specs.Asks.{Suits, SuitsTrigger, marks_over, rows_in};
 ghost use Rattle.cf_plain.specs.Answered.{answer_on};
-ghost use Rattle.cf_table.specs.Values.{IsOf};
-ghost use Rattle.cf_table.specs.Moves.{AreFit, IsReading};
-ghost use Rattle.cf_query.specs.Walks.{OnlyWalked};
+ghost use Rattle.cf_store.specs.Ends.{AllWalked, AreBehind, seen_of};
 
+use crate::held::{Reader, Shared};
+use crate::told::answer_in;
 use cf_fold::Trigger;
-use cf_log::ask_seen;
 use cf_plain::{Answer, Ask, Body, Marks};
 use cf_row::Memory;
-use cf_table::{MultiLog, ReaderPass};
+use cf_table::ReaderPass;
 use std::alloc::Global;
 
 /// The answers to these questions, in their order.
 pub(crate) fn answers_seen(
-    log: &MultiLog,
+    shared: &Shared,
     alloc: Global,
     pass: &mut ReaderPass,
+    rest: &mut [Reader],
     asks: &[Ask],
 ) -> Result<Vec<Answer>, Memory>
-    requires reading { IsReading log.now pass.old }
-    requires suit { All (Suits log.now.shape) asks.now }
-    ensures answers { IfOk result (λ answers. answers.items ≡ map (answer_on log.now.shape pass.old.view.seen) asks.now) }
-    ensures walked { OnlyWalked pass.old pass.new }
+    requires behind { AreBehind shared.now pass.old rest.old }
+    requires suit { All (Suits shared.now.log.shape) asks.now }
+    ensures answers { IfOk result (λ answers. answers.items ≡ map (answer_on shared.now.log.shape (seen_of shared.now pass.old rest.old)) asks.now) }
+    ensures walked { AllWalked pass.old pass.new rest.old rest.new }
 {
     let mut answers = Vec::with_capacity(alloc, asks.len())?;
     for q in 0..asks.len() {
-        answers.push(ask_seen(log, alloc, pass, &asks[q])?)?;
+        answers.push(answer_in(shared, alloc, pass, rest, &asks[q])?)?;
     }
     Ok(answers)
 }
 
 // The marks of one trigger.
 fn marks_seen(
-    log: &MultiLog,
+    shared: &Shared,
     alloc: Global,
     pass: &mut ReaderPass,
-    trigger: Trigger,
+    rest: &mut [Reader],
+    trigger: &Trigger,
 ) -> Result<Marks, Memory>
-    requires reading { IsReading log.now pass.old }
-    requires suits { SuitsTrigger log.now.shape trigger }
-    ensures marks { IfOk result (λ marks. marks ≡ marks_over log.now.shape trigger (rows_in pass.old.view.seen)) }
-    ensures walked { OnlyWalked pass.old pass.new }
+    requires behind { AreBehind shared.now pass.old rest.old }
+    requires suits { SuitsTrigger shared.now.log.shape trigger.now }
+    ensures marks { IfOk result (λ marks. marks ≡ marks_over shared.now.log.shape trigger.now (rows_in (seen_of shared.now pass.old rest.old))) }
+    ensures walked { AllWalked pass.old pass.new rest.old rest.new }
 {
-    match ask_seen(log, alloc, pass, &Ask::Fired(trigger))?.body {
+    match answer_in(shared, alloc, pass, rest, &Ask::Fired(*trigger))?.body {
         Body::Marks(marks) => Ok(marks),
         Body::Places(_) => unreachable!(),
         Body::Total(_) => unreachable!(),
@@ -55,19 +56,20 @@ fn marks_seen(
 
 /// The marks of these triggers, in their order.
 pub(crate) fn alerts_seen(
-    log: &MultiLog,
+    shared: &Shared,
     alloc: Global,
     pass: &mut ReaderPass,
+    rest: &mut [Reader],
     triggers: &[Trigger],
 ) -> Result<Vec<Marks>, Memory>
-    requires reading { IsReading log.now pass.old }
-    requires suit { All (SuitsTrigger log.now.shape) triggers.now }
-    ensures alerts { IfOk result (λ alerts. alerts.items ≡ map (λ trigger. marks_over log.now.shape trigger (rows_in pass.old.view.seen)) triggers.now) }
-    ensures walked { OnlyWalked pass.old pass.new }
+    requires behind { AreBehind shared.now pass.old rest.old }
+    requires suit { All (SuitsTrigger shared.now.log.shape) triggers.now }
+    ensures alerts { IfOk result (λ alerts. alerts.items ≡ map (λ trigger. marks_over shared.now.log.shape trigger (rows_in (seen_of shared.now pass.old rest.old))) triggers.now) }
+    ensures walked { AllWalked pass.old pass.new rest.old rest.new }
 {
     let mut alerts = Vec::with_capacity(alloc, triggers.len())?;
-    for k in 0..triggers.len() {
-        alerts.push(marks_seen(log, alloc, pass, triggers[k])?)?;
+    for trigger in triggers {
+        alerts.push(marks_seen(shared, alloc, pass, rest, trigger)?)?;
     }
     Ok(alerts)
 }

@@ -19,6 +19,7 @@ mod refusals;
 mod report;
 mod shown;
 mod span;
+mod span_report;
 mod tags;
 mod told;
 mod values;

@@ -13,7 +13,6 @@ ghost use Rattle.cf_store.specs.Reports.{HasWalked, Reports};
 
 use crate::held::{Reader, Shared};
 use crate::refusals::{AskRefusal, LaneRefusal, RowRefusal};
-use crate::report::report_seen;
 use crate::shown::{Head, Shown, ShownValue};
 use crate::values::show_row;
 use cf_fold::Quad;
@@ -321,7 +320,9 @@ impl Reader {
     pub fn report(&mut self, alloc: Global) -> Result<Vec<u8>, NoMemory>
         ensures { Reports self.old self.new result }
     {
-        report_seen(&self.of.log, &self.of.setup, alloc, &mut self.pass)
+        // A log takes at most 65,536 records, as its shape tells.
+        let _shape = self.of.log.shape();
+        self.report_with(alloc, &mut [])
     }
 
     /// How many records are covered.

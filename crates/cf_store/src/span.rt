@@ -20,8 +20,8 @@ use std::marker::Model;
 #[derive(Drop)]
 pub struct Span {
     // the reader of the first log, which has the words of the last answer
-    first: Box<Reader>,
-    rest: Vec<Reader>,
+    pub(crate) first: Box<Reader>,
+    pub(crate) rest: Vec<Reader>,
 }
 
 impl Model for Span {

@@ -43,7 +43,7 @@ pub(crate) fn find_in(
 }
 
 // What the question means on what the readers see.
-fn answer_in(
+pub(crate) fn answer_in(
     shared: &Shared,
     alloc: Global,
     pass: &mut ReaderPass,

@@ -1,0 +1,4 @@
+use Rattle.cf_store.proofs.tags.push_seen.Given as goal
+
+abbrev pub ghosts-push_by : goal.ghosts-push_by
+ghosts-push_by a = record { name = a.blank.name; parts = a.blank.parts }
