@@ -112,7 +112,7 @@
 ** calls and codes, and mends what was not as this text says. If anything else changes, also below 1.0, the soname's number is raised. abi.txt,
 ** next to this file in the sources, lists what C sees, and a test compares. A later text may ask for changes in the source of a program;
 ** CHANGELOG.md names them. The library is for Linux on x86-64. */
-#define CONFLUO_VERSION 23000
+#define CONFLUO_VERSION 24000
 
 /* A log, a writer and a reader, and a span of readers. */
 typedef struct confluo_log confluo_log;
@@ -527,6 +527,12 @@ confluo_report(confluo_reader *reader, char *text, size_t text_len, size_t *coun
 /* The same report in memory from malloc, which is yours to free, with a byte 0 after it; `count` may be NULL. Codes as for confluo_report. */
 static inline CONFLUO_CHECKED CONFLUO_NEEDS(2) uint32_t confluo_make_report(confluo_reader *reader, char **text, size_t *count);
 
+/* The same reports of the records that the span has seen: each is that of one log with the records of all its logs, one after another. The
+** words of the span's last answer stay. The thread that has `span`; codes as for confluo_report. */
+static inline CONFLUO_CHECKED CONFLUO_NEEDS(4) uint32_t
+confluo_span_report(confluo_span *span, char *text, size_t text_len, size_t *count) CONFLUO_CALL(span_report);
+static inline CONFLUO_CHECKED CONFLUO_NEEDS(2) uint32_t confluo_span_make_report(confluo_span *span, char **text, size_t *count);
+
 /* Says how many records are below the tail now. The thread that has `reader`.
 **
 **   CONFLUO_NOTHING    `reader` leads to nothing */
@@ -654,6 +660,7 @@ uint32_t confluo_raw_span_row(confluo_raw_span *span, uint32_t offset, uint32_t 
                               size_t *count) __asm__("confluo_span_row");
 size_t confluo_raw_span_words(confluo_raw_span *span, size_t from, uint64_t *out, size_t out_len) __asm__("confluo_span_words");
 uint32_t confluo_raw_report(confluo_raw_reader *reader, uint8_t *text, size_t text_len, size_t *count) __asm__("confluo_report");
+uint32_t confluo_raw_span_report(confluo_raw_span *span, uint8_t *text, size_t text_len, size_t *count) __asm__("confluo_span_report");
 uint32_t confluo_raw_tail(confluo_raw_reader *reader, uint32_t *tail) __asm__("confluo_tail");
 uint32_t confluo_raw_name(confluo_raw_log *log, uint32_t sort, uint32_t number, uint8_t *name, size_t name_len,
                           size_t *count) __asm__("confluo_name");
@@ -1037,22 +1044,36 @@ static inline uint32_t confluo_report(confluo_reader *reader, char *text, size_t
                confluo_ended_private(
                    confluo_raw_report(&reader->raw_private, text_len != 0 ? (uint8_t *)text : &no_text, text_len, count), text, text_len, count));
 }
-static inline uint32_t confluo_make_report(confluo_reader *reader, char **text, size_t *count) {
-    size_t room = 65536, length = 0;
-    uint32_t code = reader != NULL ? CONFLUO_OK : CONFLUO_NOTHING;
-    while (code == CONFLUO_OK) {
-        char *made = (char *)malloc(room);
-        code = made != NULL ? confluo_report(reader, made, room, &length) : (uint32_t)CONFLUO_MEMORY;
-        if (code == CONFLUO_OK && length < room) {
-            *text = made;
-            if (count != NULL) *count = length;
-            return code;
-        }
-        free(made);
-        room = length + 1; /* what the reader has seen stays, so the second text is the first one */
-    }
-    return code;
+static inline uint32_t confluo_span_report(confluo_span *span, char *text, size_t text_len, size_t *count) {
+    uint8_t no_text;
+    CONFLUO_BY(span, uint32_t, CONFLUO_NOTHING,
+               confluo_ended_private(confluo_raw_span_report(&span->raw_private, text_len != 0 ? (uint8_t *)text : &no_text, text_len, count),
+                                     text, text_len, count));
 }
+
+/* Makes the text that a call copies by this handle, in new memory. What the handle has seen stays, so the second text is the first one. */
+#define CONFLUO_MADE(handle, call, text, count)                                                  \
+    size_t room = 65536, length = 0;                                                             \
+    uint32_t code = handle != NULL ? CONFLUO_OK : CONFLUO_NOTHING;                               \
+    while (code == CONFLUO_OK) {                                                                 \
+        char *made = (char *)malloc(room);                                                       \
+        code = made != NULL ? call(handle, made, room, &length) : (uint32_t)CONFLUO_MEMORY;      \
+        if (code == CONFLUO_OK && length < room) {                                               \
+            *text = made;                                                                        \
+            if (count != NULL) *count = length;                                                  \
+            return code;                                                                         \
+        }                                                                                        \
+        free(made);                                                                              \
+        room = length + 1;                                                                       \
+    }                                                                                            \
+    return code
+static inline uint32_t confluo_make_report(confluo_reader *reader, char **text, size_t *count) {
+    CONFLUO_MADE(reader, confluo_report, text, count);
+}
+static inline uint32_t confluo_span_make_report(confluo_span *span, char **text, size_t *count) {
+    CONFLUO_MADE(span, confluo_span_report, text, count);
+}
+#undef CONFLUO_MADE
 static inline uint32_t confluo_tail(confluo_reader *reader, uint32_t *tail) {
     CONFLUO_BY(reader, uint32_t, CONFLUO_NOTHING, confluo_raw_tail(&reader->raw_private, tail));
 }

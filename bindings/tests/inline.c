@@ -63,6 +63,9 @@ static void a_span_has_its_readers(void) {
     is(confluo_span_words(span, 0, NULL, 0), 0, "no words");
     is(confluo_span_row(span, 1, NULL, NULL, 0, &count), CONFLUO_OK, "row");
     is(count, 1, "row");
+    is(confluo_span_report(span, NULL, 0, &count), CONFLUO_OK, "report");
+    is(count > 0, 1, "report");
+    is(confluo_span_report(NULL, NULL, 0, &count), CONFLUO_NOTHING, "report of nothing");
     is(confluo_span_drop_first(span), CONFLUO_OK, "drop the first");
     is(confluo_span_logs(span, &count), CONFLUO_OK, "logs");
     is(count, 1, "one log");

@@ -18,6 +18,8 @@ static void *handles(void *given) {
     confluo_head head;
     confluo_fault fault = {7, 7};
     uint32_t number = 7, offset = 7;
+    uint8_t text[40];
+    size_t count = 7;
     is(confluo_raw_take_writer(&log, &writer, &number), CONFLUO_NOTHING, "a writer of nothing");
     is(confluo_raw_close(&log, &reader), CONFLUO_NOTHING, "close nothing");
     is(open_raw(&log, "schema packet\n"), CONFLUO_OK, "open");
@@ -49,7 +51,10 @@ static void *handles(void *given) {
     is(confluo_raw_span_add(&span, &reader), CONFLUO_NOTHING, "add nothing");
     is(confluo_raw_span_ask(&span, 0, &head), CONFLUO_OK, "ask by the span that it keeps");
     is(head.tail, 1, "its tail");
+    is(confluo_raw_span_report(&span, text, sizeof text, &count), CONFLUO_OK, "its report");
+    is(count > 9 && memcmp(text, "records 1", 9) == 0, 1, "what it says");
     confluo_raw_free_span(&span), confluo_raw_free_span(&span);
+    is(confluo_raw_span_report(&span, text, sizeof text, &count), CONFLUO_NOTHING, "the report of nothing");
     confluo_raw_free_reader(&reader), confluo_raw_free_reader(&reader);
     confluo_raw_free_log(&log), confluo_raw_free_log(&log);
     return given;

@@ -29,11 +29,11 @@ typedef struct parts {
     size_t done; /* of a batch */
     confluo_head head, all, groups;
     confluo_value row[20];
-    char text[200];
-    size_t long_is;
+    char text[200], spans_text[200];
+    size_t long_is, spans_long;
 } parts;
 
-enum { STEPS = 25 };
+enum { STEPS = 26 };
 
 /* Frames 2 and 3 of the log, but for what is appended of them. */
 static uint32_t append_batch(parts *at) {
@@ -87,6 +87,7 @@ static uint32_t call(parts *at, int step) {
     case 21: return confluo_span_ask(at->span, 1, &at->all);
     case 22: return confluo_span_groups(at->span, 1, &at->groups);
     case 23: return confluo_span_row(at->span, 2, &at->spanned, at->row, 20, &count);
+    case 24: return confluo_span_report(at->span, at->spans_text, sizeof at->spans_text, &at->spans_long);
     default: return confluo_span_ask_seen(at->span, 1, &at->all);
     }
 }
@@ -117,6 +118,7 @@ int main(void) {
         const size_t count = confluo_words(at.reader, 0, words, 5);
         int wrong = step != STEPS || at.head.tail != 4 || count != 4 || at.number != 5 || at.named != 1 || words[3] != 3;
         wrong |= at.long_is < 9 || memcmp(at.text, "records 4", 9) != 0;
+        wrong |= at.spans_long != at.long_is || strcmp(at.spans_text, at.text) != 0;
         wrong |= at.all.tail != 4 || at.all.count != 4 || at.groups.count == 0 || at.spanned != 5 || at.last != NULL || at.other != NULL;
         for (uint32_t k = 0; k < 4; k++) wrong |= at.offsets[k] != k || words[k] != k;
         if (wrong) {

@@ -189,11 +189,82 @@ static void *refusals(void *given) {
     return given;
 }
 
+/* Some records by two writers in turn, from that one on. */
+static void append_from(confluo_writer *writers[2], int from, int to) {
+    for (int k = from; k < to; k++) {
+        const uint64_t values[] = {1000 * (uint64_t)k, (uint64_t)k % 3, 10 * (uint64_t)k};
+        is(confluo_append_values(writers[k % 3 == 0], (uint32_t)k, values, 3, NULL), CONFLUO_OK, "append");
+    }
+}
+
+/* A log that has these, and its reader, which has seen them. */
+static confluo_reader *filled(const char *text, uint32_t capacity, int from, int to) {
+    confluo_log *log = NULL;
+    confluo_writer *writers[2] = {NULL};
+    confluo_reader *reader = NULL;
+    uint32_t tail = 0;
+    is(opened(&log, text, capacity, 2, 64), CONFLUO_OK, "open");
+    for (int w = 0; w < 2; w++) is(confluo_take_writer(log, &writers[w], NULL), CONFLUO_OK, "writer");
+    is(confluo_take_reader(log, &reader), CONFLUO_OK, "reader");
+    append_from(writers, from, to);
+    is(confluo_tail(reader, &tail), CONFLUO_OK, "tail");
+    is(tail, (uint64_t)(to - from), "all are seen");
+    for (int w = 0; w < 2; w++) confluo_free_writer(writers[w]);
+    confluo_free_log(log);
+    return reader;
+}
+
+static void report_is(confluo_span *span, const char *wanted, const char *what) {
+    char text[9] = "........", *made = NULL;
+    size_t whole = 7, count = 7;
+    is(confluo_span_report(span, NULL, 0, &whole), CONFLUO_OK, "report without room");
+    is(whole, strlen(wanted), "how long it is");
+    is(confluo_span_report(span, text, 7, &count), CONFLUO_OK, "report with some room");
+    is(count == whole && memcmp(text, "records.", 8) == 0, 1, "its front");
+    is(confluo_span_make_report(span, &made, &count), CONFLUO_OK, "report in new memory");
+    is(made != NULL && count == whole && strcmp(made, wanted) == 0, 1, what);
+    free(made);
+}
+
+/* The report of three logs is that of one large log with the same records, and that of one log is its reader's. */
+static void *reports(void *given) {
+    static const char text[] =
+        "schema records ts:u64,host:u32,len:u32\nbucket ts 4000\nindex hosts host\ntally keys host len *\n"
+        "aggregate sums len *\ntrigger heavy sums sum > 150\ntrigger light sums least < 30\n"
+        "ask all total len *\nask third find hosts 2 2\nask each groups keys\nask fired fired heavy\nask some list len > 45\n";
+    confluo_reader *large = filled(text, 40, 0, 10), *parts[3];
+    confluo_span *span = NULL;
+    char *wanted = NULL, *made = NULL;
+    uint64_t word = 7, kept = 8;
+    confluo_head head;
+    size_t count = 7;
+    is(confluo_make_report(large, &wanted, NULL), CONFLUO_OK, "the report of one large log");
+    for (int k = 0; k < 3; k++) parts[k] = filled(text, 4, 4 * k, k < 2 ? 4 * k + 4 : 10);
+    is(confluo_span_report(span, NULL, 0, &count), CONFLUO_NOTHING, "the report of nothing");
+    is(confluo_span_make_report(span, &made, &count), CONFLUO_NOTHING, "the report of nothing");
+    is(made == NULL && count == 7, 1, "which leaves all");
+    is(confluo_make_report(parts[0], &made, NULL), CONFLUO_OK, "a reader's report");
+    is(confluo_span_of(&parts[0], &span), CONFLUO_OK, "span");
+    report_is(span, made, "a span of one log reports as its reader");
+    free(made);
+    for (int k = 1; k < 3; k++) is(confluo_span_add(span, &parts[k]), CONFLUO_OK, "add");
+    is(confluo_span_ask_seen(span, 1, &head), CONFLUO_OK, "find");
+    is(confluo_span_words(span, head.count - 1, &word, 1), 1, "the last place");
+    report_is(span, wanted, "three logs report as one");
+    is(confluo_span_words(span, head.count - 1, &kept, 1), 1, "the words stay");
+    is(kept, word, "the last place");
+    is(confluo_span_tail(span, &head.tail), CONFLUO_OK, "tail");
+    is(head.tail, 10, "what is seen stays");
+    free(wanted);
+    confluo_free_reader(large), confluo_free_span(span);
+    return given;
+}
+
 int main(void) {
     pthread_t threads[WRITERS + ASKERS];
     for (int w = 0; w < WRITERS; w++) pthread_create(&threads[w], NULL, append, (void *)(uintptr_t)w);
     for (int r = 0; r < ASKERS; r++) pthread_create(&threads[WRITERS + r], NULL, ask, NULL);
     for (int t = 0; t < WRITERS + ASKERS; t++) pthread_join(threads[t], NULL);
     if (!failed) ask_all();
-    return failed | in_a_small_stack(refusals);
+    return failed | in_a_small_stack(refusals) | in_a_small_stack(reports);
 }

@@ -395,13 +395,20 @@ uint32_t confluo_raw_span_row(confluo_raw_span *span, uint32_t offset, uint32_t 
 size_t confluo_raw_span_words(confluo_raw_span *span, size_t from, uint64_t *out, size_t out_len) {
     return words_of(span->full_private ? ((spanned *)span->at_private)->parts[0] : NULL, from, out, out_len);
 }
-uint32_t confluo_raw_report(confluo_raw_reader *reader, uint8_t *text, size_t text_len, size_t *count) {
+static uint32_t report_of(uint32_t seen, uint8_t *text, size_t text_len, size_t *count) {
     char said[40];
-    if (!reader->full_private) return CONFLUO_NOTHING;
-    snprintf(said, sizeof said, "records %u\n", ((part *)reader->at_private)->seen);
+    snprintf(said, sizeof said, "records %u\n", seen);
     *count = strlen(said);
     copied(said, 0, text, text_len);
     return CONFLUO_OK;
+}
+uint32_t confluo_raw_report(confluo_raw_reader *reader, uint8_t *text, size_t text_len, size_t *count) {
+    if (!reader->full_private) return CONFLUO_NOTHING;
+    return report_of(((part *)reader->at_private)->seen, text, text_len, count);
+}
+uint32_t confluo_raw_span_report(confluo_raw_span *span, uint8_t *text, size_t text_len, size_t *count) {
+    if (!span->full_private) return CONFLUO_NOTHING;
+    return report_of(seen_by(span->at_private), text, text_len, count);
 }
 
 static thing *named(shared *log, uint32_t sort, uint32_t number) {

@@ -201,7 +201,7 @@ class StandIn(unittest.TestCase):
         cases = [
             (21999, "version 0.21.999 of the library"),
             (1000000, "version 1.0.0 of the library"),
-            (23000, ""),
+            (24000, ""),
             (29007, ""),
         ]
         for version, said in cases:

@@ -9,7 +9,7 @@ import pathlib
 from typing import Any, Iterable, Sequence, SupportsIndex, Union
 
 SHARED = "libconfluo.so.0"
-VERSION = 23000  # CONFLUO_VERSION of the header that this package is written for
+VERSION = 24000  # CONFLUO_VERSION of the header that this package is written for
 
 WORD, LONG, SIZE, TEXT = ctypes.c_uint32, ctypes.c_uint64, ctypes.c_size_t, ctypes.c_char_p
 TO = ctypes.POINTER
@@ -94,6 +94,7 @@ CALLS = {
     "span_groups": (WORD, [TO(Handle), WORD, TO(Head)]),
     "span_row": (WORD, [TO(Handle), WORD, TO(WORD), TO(ValueOf), SIZE, TO(SIZE)]),
     "span_words": (SIZE, [TO(Handle), SIZE, TO(LONG), SIZE]),
+    "span_report": (WORD, [TO(Handle), TEXT, SIZE, TO(SIZE)]),
     "report": (WORD, [TO(Handle), TEXT, SIZE, TO(SIZE)]),
     "tail": (WORD, [TO(Handle), TO(WORD)]),
     "name": (WORD, [TO(Handle), WORD, WORD, TEXT, SIZE, TO(SIZE)]),

@@ -313,6 +313,19 @@ class Asks(Part):
             yield row
             offset += 1
 
+    def report(self) -> str:
+        """The report of the records that it has seen, as `confluo run` prints it: how many they are, what each question and trigger
+        of the setup means on them, and the order in which the writers appended them."""
+        self._check()
+        count = SIZE()
+        with self._lock:
+            text = ctypes.create_string_buffer(1 << 16)  # the library makes the text at each call
+            wanted(call(self._calls + "report")(self._handle, text, len(text), count))
+            if count.value > len(text):
+                text = ctypes.create_string_buffer(count.value)
+                wanted(call(self._calls + "report")(self._handle, text, len(text), count))
+        return text.raw[: count.value].decode("ascii")
+
     def to_frame(self, offsets: Optional[Iterable[int]] = None) -> pandas.DataFrame:
         """The records of `rows` as a DataFrame: a column `number`, and one for each attribute. ImportError if pandas is missing."""
         held, rows = pandas_module(), list(self.rows(offsets))
@@ -358,19 +371,6 @@ class Reader(Asks):
         """
         text = text_of(line)
         return self._answer("ask_text", text, len(text), fault=calls.Fault())
-
-    def report(self) -> str:
-        """The report of the records that the reader has seen, as `confluo run` prints it: how many they are, what each question and trigger
-        of the setup means on them, and the order in which the writers appended them."""
-        self._check()
-        count = SIZE()
-        with self._lock:
-            text = ctypes.create_string_buffer(1 << 16)  # the library makes the text at each call
-            wanted(call("report")(self._handle, text, len(text), count))
-            if count.value > len(text):
-                text = ctypes.create_string_buffer(count.value)
-                wanted(call("report")(self._handle, text, len(text), count))
-        return text.raw[: count.value].decode("ascii")
 
     def wait(self, after: int, seconds: Optional[float] = None) -> int:
         """Waits until more than `after` records are below the tail, the log is closed by `finish`, or so many seconds have gone by, and

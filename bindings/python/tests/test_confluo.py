@@ -30,7 +30,7 @@ FRAME = bytes([0] * 12 + [8, 0, 0x45, 0, 0, 20] + [0] * 8 + [10, 0, 0, 1] + [0] 
 
 class Calls(unittest.TestCase):
     def test_version(self):
-        self.assertEqual(confluo.version(), 23000)
+        self.assertEqual(confluo.version(), 24000)
 
     def test_the_example_of_the_documents(self):
         page = (HERE.parents[2] / "docs" / "LIBRARY.md").read_text()

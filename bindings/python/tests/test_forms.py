@@ -71,6 +71,12 @@ class Forms(unittest.TestCase):
             self.assertEqual(span.ask("all").rows, [confluo.Quad(6, 375, 60, 65)])
             self.assertEqual(span.row(3), confluo.Row(3, {"ts": 3000, "len": 63}))
             self.assertEqual([it.number for it in span.rows()], list(range(6)))
+            large = confluo.Log(SETUP, capacity=6)
+            with large.writer() as writer:
+                for k in range(6):
+                    writer.append_values(k, [1000 * k, 60 + k])
+            reader = large.reader()
+            self.assertEqual((reader.tail(), span.report()), (6, reader.report()))
             span.drop_first(), span.drop_first()
             self.assertEqual((len(span), span.ask("some").words), (1, [0, 1]))
             other = confluo.Log(SETUP, capacity=3).reader()

@@ -505,7 +505,7 @@ mod tests {
             assert_eq!(fits(version), wanted, "{version}");
         }
         let said = OpenError::Version(3_002).to_string();
-        assert!(said.starts_with("libconfluo has version 0.3.2, and this crate needs 0.23.0"));
+        assert!(said.starts_with("libconfluo has version 0.3.2, and this crate needs 0.24.0"));
     }
 
     #[test]

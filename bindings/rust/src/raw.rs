@@ -249,6 +249,7 @@ extern "C" {
         count: *mut usize,
     ) -> u32;
     pub fn confluo_span_words(span: *mut Span, from: usize, out: *mut u64, out_len: usize) -> usize;
+    pub fn confluo_span_report(span: *mut Span, text: *mut u8, text_len: usize, count: *mut usize) -> u32;
     pub fn confluo_report(reader: *mut Reader, text: *mut u8, text_len: usize, count: *mut usize) -> u32;
     pub fn confluo_tail(reader: *mut Reader, tail: *mut u32) -> u32;
     pub fn confluo_name(

@@ -208,19 +208,11 @@ impl Reader {
     ///
     /// [`ReportError::Memory`].
     pub fn report(&mut self) -> Result<String, ReportError> {
-        let mut text = vec![0; 1 << 16]; // the library makes the text at each call
-        loop {
-            let mut count = 0;
-            // SAFETY: the memory is ours, and as long as said.
-            let code = self
-                .held
-                .call(|reader| unsafe { raw::confluo_report(reader, text.as_mut_ptr(), text.len(), &mut count) });
-            ReportError::check(code)?;
-            if count <= text.len() {
-                return Ok(String::from_utf8_lossy(&text[..count]).into_owned());
-            }
-            text.resize(count, 0);
-        }
+        // SAFETY: the memory is as long as said.
+        report_by(|text, length, count| {
+            self.held
+                .call(|reader| unsafe { raw::confluo_report(reader, text, length, count) })
+        })
     }
 
     /// How many records are below the tail now.
@@ -282,6 +274,19 @@ pub(crate) fn words_by(head: &raw::Head, call: impl FnOnce(*mut u64, usize) -> u
     let copied = call(words.as_mut_ptr(), length);
     words.truncate(copied);
     words
+}
+
+/// The text of a report, which a call copies.
+pub(crate) fn report_by(mut call: impl FnMut(*mut u8, usize, &mut usize) -> u32) -> Result<String, ReportError> {
+    let mut text = vec![0; 1 << 16]; // the library makes the text at each call
+    loop {
+        let mut count = 0;
+        ReportError::check(call(text.as_mut_ptr(), text.len(), &mut count))?;
+        if count <= text.len() {
+            return Ok(String::from_utf8_lossy(&text[..count]).into_owned());
+        }
+        text.resize(count, 0);
+    }
 }
 
 /// The records that a reader has seen, from [`Reader::rows`]. It ends after the last one, or after an error.

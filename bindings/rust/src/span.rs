@@ -1,10 +1,10 @@
 //! Spans: readers of logs that follow one another.
 use crate::answer::{Answer, Body, Groups};
-use crate::error::{AddError, AskError, GroupsError, RowError, SpanError};
+use crate::error::{AddError, AskError, GroupsError, ReportError, RowError, SpanError};
 use crate::handle::Held;
 use crate::names::Setup;
 use crate::raw;
-use crate::reader::{row_by, words_by, Reader};
+use crate::reader::{report_by, row_by, words_by, Reader};
 use crate::row::Row;
 use crate::shared::Shared;
 use std::sync::Arc;
@@ -188,6 +188,19 @@ impl Span {
             let row = self.row(next?);
             next = next.filter(|_| row.is_ok()).and_then(|it| it.checked_add(1));
             Some(row).filter(|it| *it != Err(RowError::NoRow))
+        })
+    }
+
+    /// The report of the records that the span has seen, as [`Reader::report`] gives it of one log that has the records of all.
+    ///
+    /// # Errors
+    ///
+    /// [`ReportError::Memory`].
+    pub fn report(&mut self) -> Result<String, ReportError> {
+        // SAFETY: the memory is as long as said.
+        report_by(|text, length, count| {
+            self.held
+                .call(|span| unsafe { raw::confluo_span_report(span, text, length, count) })
         })
     }
 

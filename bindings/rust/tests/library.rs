@@ -132,6 +132,14 @@ fn spans_ask_logs_as_one() -> Result<(), Box<dyn Error>> {
     assert_eq!(span.row(6), Err(RowError::NoRow));
     let numbers: Result<Vec<u32>, _> = span.rows().map(|row| row.map(|it| it.number)).collect();
     assert_eq!(numbers?, [10, 10, 20, 20, 30, 30]);
+    let mut large = Log::open(RECORDS, sizes(6, 1, 64))?;
+    let mut writer = large.writer()?;
+    for (number, len) in [(10, 10), (10, 11), (20, 20), (20, 21), (30, 30), (30, 31)] {
+        assert!(writer.append_values(number, &[1, 1, len]).is_ok());
+    }
+    let mut reader = large.reader()?;
+    assert_eq!(reader.tail(), 6);
+    assert_eq!(span.report()?, reader.report()?);
     let mut other = Log::open(RECORDS, sizes(3, 1, 64))?;
     let (mut back, refused) = span.add(other.reader()?).unwrap_err();
     assert_eq!((refused, back.ask(0)?.tail), (AddError::Unlike, 0));

@@ -3,9 +3,10 @@ use Rattle.std.specs.Prelude.{◌≡◌, ℕ, List, [], length, MatchOption, Opt
 use Rattle.cf_handles.specs.Calls.{ByHandle, number_of}
 use Rattle.cf_handles.specs.Codes.{add_code}
 use Rattle.cf_handles.specs.Copied.{Copies}
+use Rattle.cf_handles.specs.Ends.{ReportsBy}
 use Rattle.cf_handles.specs.declared.code.Code.{Code}
 use Rattle.cf_handles.specs.declared.code.Code.TheVariants as codes
-use Rattle.cf_store.specs.Spans.{AddsReader, AsksTails, DropsFirst, SpanValue, seen_by, span_of}
+use Rattle.cf_store.specs.Spans.{AddsReader, AsksTails, DropsFirst, ReportsSpan, SpanValue, seen_by, span_of}
 use Rattle.cf_store.specs.declared.refusals.AddRefusal.{AddRefusal}
 use Rattle.cf_store.specs.declared.held.Reader.{Reader}
 
@@ -51,3 +52,7 @@ IsSpanTail m n (Err code) = ⊥
 -- words of the last answer were copied; by a handle that leads to nothing, none were
 abbrev pub SpanWordsBy : ℕ → List ℕ → List ℕ → Option SpanValue → ℕ → Type 0
 SpanWordsBy from out out' held count = MatchOption held ((count ≡ 0) × (out' ≡ out)) (λ span. Copies span.words from out out' count)
+
+-- a report of what the span has seen was made, and its text copied as far as there is room
+abbrev pub ReportsSpanTo : List ℕ → List ℕ → SpanValue → SpanValue → Result ℕ Code → Type 0
+ReportsSpanTo = ReportsBy ReportsSpan

@@ -10,6 +10,7 @@ mod parts;
 pub mod readers;
 mod seat;
 mod setup_names;
+pub mod span_report;
 pub mod spans;
 pub mod writers;
 

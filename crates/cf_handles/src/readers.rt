@@ -15,7 +15,7 @@ ghost use Rattle.cf_handles.specs.Calls.{ByHandle, IsCoded, IsTail, LineBy, Merg
 ghost use Rattle.cf_handles.specs.Ends.{ReportsTo};
 
 use crate::code::Code;
-use crate::copies::{copy_part, put_all};
+use crate::copies::{copy_part, put_all, show_text};
 use crate::handle::ReaderHandle;
 use cf_store::{AskRefusal, Fault, Head, LineRefusal, ShownValue, merge};
 use std::alloc::Global;
@@ -176,14 +176,7 @@ pub fn confluo_report(
     let Some(reader) = reader.get_mut() else {
         return Code::Nothing.number();
     };
-    match reader.report(alloc) {
-        Ok(found) => {
-            copy_part(found.as_slice(), 0, text);
-            *count = found.len();
-            0
-        }
-        Err(_) => Code::Memory.number(),
-    }
+    show_text(reader.report(alloc), text, count)
 }
 
 /// Frees the reader. The handle leads to nothing then.

@@ -1,9 +1,7 @@
 -- A log is closed, and a reader reports.
-use Rattle.std.proofs.Common.{◌≡◌, ◌∙◌, ◌<◌, ◌≤◌, ℕ, List, Option, [], ◌∷◌, Some, Result, Ok, Err, Vec, IfOk, All, zero, suc, length, slice_get, get_or, ap, refl, sym, subst, arith}
-use Rattle.std.specs.Global.{Global}
+use Rattle.std.proofs.Common.{◌≡◌, ◌∙◌, ◌<◌, ◌≤◌, ℕ, List, Option, [], ◌∷◌, Some, All, zero, suc, length, slice_get, get_or, ap, refl, sym, subst, arith}
 use Rattle.std.specs.Arc.{arc_value}
 use Rattle.std.specs.List.{AllZip}
-use Rattle.std.specs.declared.alloc.AllocError.{AllocError}
 use Rattle.std.proofs.lemmas.List.{length-map}
 use Rattle.std.proofs.lemmas.Option.{slice_get-get_or}
 use Rattle.cf_row.specs.declared.row.Entry.{Entry}
@@ -15,25 +13,15 @@ use Rattle.cf_append.proofs.Appending.{rests_all}
 use Rattle.cf_log.specs.Writers.{AreWriters, HasJoined}
 use Rattle.cf_log.proofs.Writers.{joined}
 use Rattle.cf_store.specs.Homes.{AreAtHome, Comes, HaveLooked, IsHome, Keeps, PlaceValue, home_at, some_pass}
-use Rattle.cf_store.specs.Seen.{seen_text}
 use Rattle.cf_store.specs.Closes.{IsClosed, IsEnd}
 use Rattle.cf_store.specs.Opens.{IsLogWith}
 use Rattle.cf_append.specs.Appends.{IsReady}
 use Rattle.cf_store.specs.Parts.{AreNumbered, IsPlaceOf}
-use Rattle.cf_store.specs.Reports.{HasWalked, Reports}
 use Rattle.cf_store.specs.declared.held.Log.{Log}
 use Rattle.cf_store.specs.declared.held.Reader.{Reader}
 use Rattle.cf_store.specs.declared.held.Shared.{Shared}
 use Rattle.cf_store.proofs.Homeward.{placed_at}
 use Rattle.cf_store.proofs.Taken.{keeps_all, looked_comes}
-
-pub reading : (log : LogValue) (pass : PassValue) → IsReading log pass → IsReading log pass
-reading log pass aware = record { of = aware.of; few = aware.few; fit = aware.fit }
-
-pub reported : (m n : Reader) (r : Result (Vec ℕ Global) AllocError) → HasWalked m n
-    → IfOk r (λ text. text.items ≡ seen_text (arc_value m.of).log.shape (arc_value m.of).setup (m.pass.view).seen) → Reports m n r
-reported m n (Ok text) walked is = (walked, is)
-reported m n (Err e) walked is = walked
 
 tail_is : {X : Type 0} {x y : X} {xs ys : List X} → x ∷ xs ≡ y ∷ ys → xs ≡ ys
 tail_is e = cc e

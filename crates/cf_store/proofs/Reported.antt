@@ -1,6 +1,9 @@
 -- Readers that walk their logs one question after the other see the same, and a report is made of what they see.
-use Rattle.std.proofs.Common.{◌≡◌, ◌∙◌, ◌<◌, ◌≤◌, ◌+◌, ◌*◌, ◌^◌, ℕ, suc, List, [], ◌∷◌, ◌++◌, length, map, take, get_or, refl, sym, ap, ap₂, subst, arith}
+use Rattle.std.proofs.Common.{◌≡◌, ◌∙◌, ◌<◌, ◌≤◌, ◌+◌, ◌*◌, ◌^◌, ℕ, suc, List, [], ◌∷◌, ◌++◌, length, map, take, get_or, Result, Ok, Err, Vec, IfOk, refl, sym, ap, ap₂, subst, arith}
+use Rattle.std.specs.Arc.{arc_value}
+use Rattle.std.specs.Global.{Global}
 use Rattle.std.specs.List.{AllZip}
+use Rattle.std.specs.declared.alloc.AllocError.{AllocError}
 use Rattle.std.proofs.lemmas.List.{map-append, map_more}
 use Rattle.std.proofs.lemmas.List.Elements.{AllZip-get_or, length_all_zip}
 use Rattle.cf_row.specs.declared.row.Entry.{Entry}
@@ -14,14 +17,16 @@ use Rattle.cf_plain.specs.declared.ask.Ask.{Ask}
 use Rattle.cf_table.specs.Values.{PassValue}
 use Rattle.cf_query.specs.Tags.{nums_of}
 use Rattle.cf_query.proofs.Walked.{walked_none, walked_then}
-use Rattle.cf_store.specs.Ends.{AllWalked, AreBehind, Walks, seen_of, seen_upto}
-use Rattle.cf_store.specs.Spans.{passes_of, seen_each, seen_in}
+use Rattle.cf_store.specs.Reports.{Reports}
+use Rattle.cf_store.specs.Seen.{seen_text}
+use Rattle.cf_store.specs.Ends.{AllWalked, AreBehind, HaveWalkedOn, ReportsWith, Walks, seen_of, seen_upto}
+use Rattle.cf_store.specs.Spans.{HaveWalked, IsSpan, ReportsSpan, passes_of, span_of, seen_each, seen_in}
 use Rattle.cf_store.specs.declared.held.Reader.{Reader}
 use Rattle.cf_store.specs.declared.held.Shared.{Shared}
 use Rattle.cf_store.proofs.Behind.{all_stay, seen_same, walked_twice}
 use Rattle.cf_store.proofs.Meant.{still_reading}
-use Rattle.cf_store.proofs.Spanned.{upto_more}
-use Rattle.cf_store.proofs.Spans.{like_still}
+use Rattle.cf_store.proofs.Spanned.{seen_alone, upto_more}
+use Rattle.cf_store.proofs.Spans.{like_still, span_still, span_walked}
 
 zip_twice : (ls ms ns : List Reader) → AllZip Walks ls ms → AllZip Walks ms ns → AllZip Walks ls ns
 zip_twice [] [] [] one two = tt
@@ -90,3 +95,36 @@ answer_is shape seen ask answer tail body = ap₂ (λ (n : ℕ) (b : Body). answ
   where
     answer_of : ℕ → Body → Answer
     answer_of n b = record { tail = n; body = b }
+
+-- the text of a reader and those behind it
+module _ (m n : Reader) (ms ns : List Reader) where
+  pub reports_with : (r : Result (Vec ℕ Global) AllocError) → HaveWalkedOn m n ms ns
+      → IfOk r (λ text. text.items ≡ seen_text (arc_value m.of).log.shape (arc_value m.of).setup (seen_of (arc_value m.of) m.pass ms)) → ReportsWith m n ms ns r
+  reports_with (Ok text) walked is = (walked, is)
+  reports_with (Err e) walked is = walked
+
+  have_walked : (r : Result (Vec ℕ Global) AllocError) → ReportsWith m n ms ns r → HaveWalkedOn m n ms ns
+  have_walked (Ok text) told = told.0
+  have_walked (Err e) told = told
+
+  of_span : HaveWalkedOn m n ms ns → HaveWalked (span_of m ms) (span_of n ns) m.words.items
+  of_span walked =
+      subst (HaveWalked (span_of m ms) (span_of n ns)) (ap (λ (words : Vec ℕ Global). words.items) walked.first.words)
+      (span_walked m n ms ns walked.first.of walked.first.walked walked.others)
+
+  -- is that of their span
+  pub span_reports : (r : Result (Vec ℕ Global) AllocError) → ReportsWith m n ms ns r → ReportsSpan (span_of m ms) (span_of n ns) r
+  span_reports (Ok text) told = (of_span told.0, told.1)
+  span_reports (Err e) told = of_span told
+
+  pub span_remains : (r : Result (Vec ℕ Global) AllocError) → IsSpan m ms → ReportsWith m n ms ns r → IsSpan n ns
+  span_remains r is told = span_still m n ms ns is (have_walked r told).first.of (have_walked r told).others
+
+-- and with none behind it that of the reader
+pub reports_alone : (m n : Reader) (ns : List Reader) (r : Result (Vec ℕ Global) AllocError) → ReportsWith m n [] ns r → Reports m n r
+reports_alone m n ns (Ok text) told = (
+  told.0.first,
+  told.1 ∙ ap (λ (es : List Entry). seen_text (arc_value m.of).log.shape (arc_value m.of).setup es)
+      (seen_alone (arc_value m.of).log.shape.capacity (m.pass.view).seen),
+)
+reports_alone m n ns (Err e) told = told.first

@@ -17,9 +17,9 @@ use std::alloc::Global;
 /// The version, which is that of the release: 1,000,000 for the major number, 1,000 for the minor one, 1 for the patch.
 #[unsafe(no_mangle)]
 pub extern "C" fn confluo_version() -> u32
-    ensures { result ≡ 23000 }
+    ensures { result ≡ 24000 }
 {
-    23_000
+    24_000
 }
 
 /// Copies the text of the code of that number, from that byte on, as far as there is room. Answers how many bytes.

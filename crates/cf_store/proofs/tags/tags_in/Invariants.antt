@@ -1,4 +1,4 @@
-use Rattle.std.proofs.Common.{◌≡◌, length}
+use Rattle.std.proofs.Common.{◌≡◌}
 use Rattle.cf_plain.specs.Order.{order_of}
 use Rattle.cf_query.specs.Tags.{nums_of}
 use Rattle.cf_store.specs.Ends.{AllWalked, seen_upto}
