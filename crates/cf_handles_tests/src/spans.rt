@@ -1,5 +1,6 @@
 use cf_handles::logs::{confluo_free_log, confluo_open, confluo_take_reader, confluo_take_writer};
 use cf_handles::readers::{confluo_free_reader, confluo_tail};
+use cf_handles::span_report::confluo_span_report;
 use cf_handles::spans::{
     confluo_free_span, confluo_span_add, confluo_span_ask, confluo_span_ask_seen,
     confluo_span_drop_first, confluo_span_groups, confluo_span_logs, confluo_span_of,
@@ -13,7 +14,11 @@ use std::process::Abort;
 use std::test::*;
 
 const ROWS: &[u8] =
-    b"schema records ts:u64,len:u32\nwidth 10\nfilter f *\naggregate a f len\nask all total len *\n";
+    b"schema records ts:u64,len:u32\nwidth 10\nfilter f *\naggregate a f len\ntrigger t a sum > 7\nask all total len *\n";
+
+// Three of the bucket 1 are in the first log, five in the second.
+const REPORT: &[u8] =
+    b"records 4\nask all total count 4 sum 24 least 3 greatest 9\nalert t 1 8\nalert t 2 9\norder 0*4\n";
 
 const NO_HEAD: Head = Head {
     tail: 9,
@@ -94,6 +99,32 @@ fn two_logs_answer_as_one(rt: HostRuntime) {
     );
     confluo_free_span(alloc, &mut span);
     assert_eq!(rt; confluo_span_tail(alloc, &mut span, &mut tail), 4);
+}
+
+#[test]
+fn two_logs_report_as_one(rt: HostRuntime) {
+    let alloc = rt.alloc();
+    let mut span = SpanHandle::none(alloc);
+    let (mut tail, mut count) = (9, 9);
+    let mut text = [0u8; 92];
+    assert_eq!(rt;
+        confluo_span_report(alloc, &mut span, &mut text, &mut count),
+        4
+    );
+    assert_eq!(rt; (count, text[0]), (9, 0));
+    two_logs(&rt, alloc, &mut span);
+    assert_eq!(rt; confluo_span_tail(alloc, &mut span, &mut tail), 0);
+    assert_eq!(rt;
+        confluo_span_report(alloc, &mut span, &mut text[..3], &mut count),
+        0
+    );
+    assert_eq!(rt; (count, text[2], text[3]), (92, b'c', 0));
+    assert_eq!(rt;
+        confluo_span_report(alloc, &mut span, &mut text, &mut count),
+        0
+    );
+    assert_eq!(rt; &text[..], REPORT);
+    confluo_free_span(alloc, &mut span);
 }
 
 #[test]

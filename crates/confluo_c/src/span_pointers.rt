@@ -4,14 +4,14 @@ ghost use base.Fml.{fsep};
 ghost use types.Logic.{sem};
 ghost use Rattle.cf_handles.specs.Codes.{ask_code, lane_code};
 ghost use Rattle.cf_handles.specs.Calls.{IsCoded, Tells};
-ghost use Rattle.cf_handles.specs.Spanned.{AddsBy, CountsLogs, DropsBy, IsSpanTail, SpanWordsBy};
+ghost use Rattle.cf_handles.specs.Spanned.{AddsBy, CountsLogs, DropsBy, IsSpanTail, ReportsSpanTo, SpanWordsBy};
 ghost use Rattle.cf_store.specs.Spans.{AsksSpanAt, AsksSpanSeen, SpanValue, TellsSpanGroups};
 ghost use Rattle.cf_store.specs.declared.held.Reader.{Reader};
 ghost use Rattle.confluo_c.specs.Leads.{reader_at, span_at};
 ghost use Rattle.confluo_c.specs.Told.{SpanRowBy, SpansBy};
 
 use crate::raw::RawHandle;
-use cf_handles::spans;
+use cf_handles::{span_report, spans};
 use cf_store::{Head, ShownValue};
 use std::alloc::Global;
 
@@ -172,6 +172,21 @@ pub unsafe extern "C" fn confluo_span_words(
     ensures* { ∃ₛ (λ (after : Option SpanValue). sem 𝓛 (span_at span after) ∗ ⌜ (after ≡ held) × SpanWordsBy from out.old out.new held result ⌝) }
 {
     spans::confluo_span_words(alloc, unsafe { &mut *span.cast() }, from, out)
+}
+
+/// Copies the text of the report of what the span has seen as far as there is room, and says how long it is.
+#[unsafe(no_mangle)]
+pub unsafe extern "C" fn confluo_span_report(
+    alloc: Global,
+    span: *mut RawHandle,
+    text: &mut [u8],
+    count: &mut usize,
+) -> u32
+    ghost held: { Option SpanValue }
+    requires* { sem 𝓛 (span_at span held) }
+    ensures* { ∃ₛ (λ (after : Option SpanValue). sem 𝓛 (span_at span after) ∗ ⌜ Tells (ReportsSpanTo text.old text.new) held after count.old count.new result × (held ≡ None → text.new ≡ text.old) ⌝) }
+{
+    span_report::confluo_span_report(alloc, unsafe { &mut *span.cast() }, text, count)
 }
 
 /// Frees the span. The handle leads to nothing then.

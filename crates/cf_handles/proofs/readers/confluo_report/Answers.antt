@@ -11,4 +11,4 @@ returns-clause-told c =
     let shown = c.show_text.ensures in
     told (ReportsTo c.args.text.now c.show_text.new.text) c.args.reader.now.seat.held _ c.in-Some.reader.now c.report.new.self shown.0 c.args.count.now
     c.show_text.new.count c.show_text.result c.in-Some.ensures.value
-    (if_lent c.get_mut.result c.in-Some.reader c.in-Some.is (c.get_mut.follows.holds c.report.new.self)) (made, c.report.ensures, shown.1.0) shown.1.1.0 shown.1.1.1
+    (if_lent c.get_mut.result c.in-Some.reader c.in-Some.is (c.get_mut.follows.holds c.report.new.self)) (made, c.report.ensures, shown.1) shown.2 shown.3
