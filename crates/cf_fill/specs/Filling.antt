@@ -126,8 +126,8 @@ Fills old new rows = (before : List RowValue) → IsFilled old before → IsFill
 abbrev pub most_waiting : ℕ
 most_waiting = 8191
 
--- How many rows wait for a batch while those at hand are loaded, and so many more were read. Of fewer than two batches at hand, a whole one
--- is being loaded, and the others wait.
+-- At most so many rows wait for a batch while those at hand are loaded, and so many more were read. Of fewer than two batches at hand, a
+-- whole one is being loaded, and the others wait; with no round all at hand are being loaded, maybe part by part.
 abbrev pub rows_waiting : ℕ → ℕ → ℕ
 rows_waiting at_hand ahead = at_hand % 4096 + ahead
 
