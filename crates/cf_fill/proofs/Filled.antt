@@ -26,7 +26,7 @@ use Rattle.cf_segments.proofs.Chains.{rows_are_log}
 use Rattle.cf_segments.proofs.Kept.{kept_base, kept_shape}
 use Rattle.cf_command.specs.declared.words.LogSizes.{LogSizes}
 use Rattle.cf_setup.specs.Setups.{SetupValue}
-use Rattle.cf_fill.specs.Filling.{FillingValue, KeepsLog, IsLoadedFor, IsLoadedSo, AreLoaded, HasBatch, IsFilled, LoadsWaiting, IsFilledFor, most_waiting, rows_waiting}
+use Rattle.cf_fill.specs.Filling.{FillingValue, KeepsLog, IsLoadedFor, IsLoadedSo, AreLoaded, HasBatch, IsFilled, LoadsWaiting, IsFilledFor, WaitFew, most_waiting}
 use Rattle.cf_fill.specs.Logs.{IsPlanOf, IsLogClosed, IsLogFound, IsLogSealed, IsUnmade}
 use Rattle.cf_fill.specs.Needs.{NeedsMore}
 use Rattle.cf_fill.specs.Seals.{AreSeals}
@@ -223,24 +223,45 @@ waits_few old new first rows is then keeps stops = elim (some_or_idle new (first
   | inr (inl many) ↦ (let none : length new.waiting ≡ 0 = ap (λ (rs : List RowValue). length rs) (then.idle (inr many)) in omega (arith, none))
   | inr (inr going) ↦ elim (cases_lt 0 new.loader.plan.rounds) [
     | inl due ↦ (
-      let size = length-append first rows in
-      let rounds : new.loader.plan.rounds ≡ old.loader.plan.rounds = ap (λ (p : LivePlan). p.rounds) keeps.plan in
-      let few = going.1 in
-      let went : old.loader.stopped ≡ false = false_from_ne_true old.loader.stopped (λ stopped. both_ways new.loader.stopped going.0 (stops stopped)) in
-      let room : room_of new.segments ≡ room_of old.segments = ap₂ (λ (n : ℕ) (h : ShapeValue). n * h.capacity) keeps.most keeps.shape in
-      let had = left_over old first is went (omega (arith, size, few, room)) (omega (arith, due, rounds)) in
-      let has = left_over new (first ++ rows) then going.0 few due in
-      omega (arith, size, had, has))
+        let size = length-append first rows in
+        let rounds : new.loader.plan.rounds ≡ old.loader.plan.rounds = ap (λ (p : LivePlan). p.rounds) keeps.plan in
+        let few = going.1 in
+        let went : old.loader.stopped ≡ false = false_from_ne_true old.loader.stopped (λ stopped. both_ways new.loader.stopped going.0 (stops stopped)) in
+        let room : room_of new.segments ≡ room_of old.segments = ap₂ (λ (n : ℕ) (h : ShapeValue). n * h.capacity) keeps.most keeps.shape in
+        let had = left_over old first is went (omega (arith, size, few, room)) (omega (arith, due, rounds)) in
+        let has = left_over new (first ++ rows) then going.0 few due in
+        omega (arith, size, had, has))
     | inr quiet ↦ (
-      let none : length new.waiting ≡ 0 = ap (λ (rs : List RowValue). length rs) ((then.going going.0 going.1).none (omega (arith, quiet))) in
-      omega (arith, none))
+        let none : length new.waiting ≡ 0 = ap (λ (rs : List RowValue). length rs) ((then.going going.0 going.1).none (omega (arith, quiet))) in
+        omega (arith, none))
   ]
 ]
 
 -- those that are read meanwhile end the next batch, and no more than a piece brings
-pub ahead_few : (wanted before rows size ahead : ℕ) → wanted + (before + size) % 4096 ≡ 4096 → size ≡ rows → ahead < wanted + 4096
-    → rows_waiting (before + rows) ahead ≤ most_waiting
-ahead_few wanted before rows size ahead is same few = omega (arith, is, same, few)
+pub ahead_few : (plan : LivePlan) (wanted before rows size ahead : ℕ) → wanted ≤ 4096
+    → (0 < plan.rounds → wanted + (before + size) % 4096 ≡ 4096) → size ≡ rows → ahead < wanted + 4096 → WaitFew plan (before + rows) ahead
+ahead_few plan wanted before rows size ahead most ends same few =
+    (omega (arith, most, few), λ due. let is = ends due in omega (arith, is, same, few))
+
+-- with no round no row waits
+pub waits_none : (f : FillingValue) (rows : List RowValue) → IsFilled f rows → f.loader.plan.rounds ≡ 0 → length f.waiting ≡ 0
+waits_none f rows is quiet = elim (some_or_idle f rows) [
+  | inl stopped ↦ ap (λ (rs : List RowValue). length rs) (is.idle (inl stopped))
+  | inr (inl many) ↦ ap (λ (rs : List RowValue). length rs) (is.idle (inr many))
+  | inr (inr going) ↦ ap (λ (rs : List RowValue). length rs) ((is.going going.0 going.1).none quiet)
+]
+
+-- So with those that were read meanwhile few wait.
+pub next_few : (old new : FillingValue) (first rows : List RowValue) (ahead : ℕ) → IsFilled new first → KeepsLog old new
+    → length new.waiting ≤ (length old.waiting + length rows) % 4096 → WaitFew old.loader.plan (length old.waiting + length rows) ahead
+    → length new.waiting + ahead ≤ most_waiting
+next_few old new first rows ahead is keeps wait few = elim (cases_lt 0 old.loader.plan.rounds) [
+  | inl due ↦ (let both = few.1 due in omega (arith, wait, both))
+  | inr quiet ↦ (
+      let rounds : new.loader.plan.rounds ≡ old.loader.plan.rounds = ap (λ (p : LivePlan). p.rounds) keeps.plan in
+      let none = waits_none new first is (omega (arith, quiet, rounds)) in
+      let most = few.0 in omega (arith, none, most))
+]
 
 -- A log that is filled for a setup.
 

@@ -126,10 +126,14 @@ Fills old new rows = (before : List RowValue) → IsFilled old before → IsFill
 abbrev pub most_waiting : ℕ
 most_waiting = 8191
 
--- At most so many rows wait for a batch while those at hand are loaded, and so many more were read. Of fewer than two batches at hand, a
--- whole one is being loaded, and the others wait; with no round all at hand are being loaded, maybe part by part.
+-- How many rows wait for a batch while those at hand are loaded, and so many more were read. Of fewer than two batches at hand, a whole one
+-- is being loaded, and the others wait.
 abbrev pub rows_waiting : ℕ → ℕ → ℕ
 rows_waiting at_hand ahead = at_hand % 4096 + ahead
+
+-- Few rows wait meanwhile. With no round all at hand are being loaded, so these are the ones that were read.
+abbrev pub WaitFew : LivePlan → ℕ → ℕ → Type 0
+WaitFew plan at_hand ahead = (ahead ≤ most_waiting) × (0 < plan.rounds → rows_waiting at_hand ahead ≤ most_waiting)
 
 -- These rows came into a log of the setup's shape and of so many segments, of which is asked what the setup asks.
 pub record IsFilledFor (setup : SetupValue) (sizes : LogSizes) (rounds : ℕ) (filling : FillingValue) (rows : List RowValue) : Type 0 where

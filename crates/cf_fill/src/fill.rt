@@ -6,7 +6,7 @@ ghost use Rattle.cf_row.specs.Schema6.{attrs_by};
 ghost use Rattle.cf_intake.specs.Causes.{HasHaltCause, HasStopCause};
 ghost use Rattle.cf_intake.specs.Parts.{source_in, attrs_in};
 ghost use Rattle.cf_intake.specs.Reading.{HasMore, IfReadOn, ReadsOn, ReadsRows, StopsOn, TakesPackets, pieces_left};
-ghost use Rattle.cf_fill.specs.Filling.{Fills, IsFilled, IsFilling, KeepsLog, most_waiting, rows_waiting};
+ghost use Rattle.cf_fill.specs.Filling.{Fills, IsFilled, IsFilling, KeepsLog, WaitFew, most_waiting};
 ghost use Rattle.cf_fill.specs.Taking.{GivesBoth};
 
 use crate::context::Context;
@@ -34,7 +34,7 @@ fn take_beside<R: Threads + Sync, F: Shelf, G: Gate>(
     ensures stops { filling.old.loader.stopped ≡ true → filling.new.loader.stopped ≡ true }
     // While the batch that is at hand is loaded, few rows wait.
     ensures few { IfOk result.1 (λ given. IfReadOn pieces.old (F.rest shelf.old)
-        (rows_waiting (length filling.old.waiting + length rows.old.items) (length given.items) ≤ most_waiting)) }
+        (WaitFew filling.old.loader.plan (length filling.old.waiting + length rows.old.items) (length given.items))) }
     ensures files { F.files shelf.new ≡ F.files shelf.old }
     ensures schema { pieces.new.schema ≡ pieces.old.schema }
     ensures left { IfOk result.1 (λ _. pieces_left pieces.new < pieces_left pieces.old) }

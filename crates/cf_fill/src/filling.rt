@@ -125,6 +125,13 @@ fn load_parts<R: Threads + Sync, G: Gate>(
     Ok(())
 }
 
+// How many rows end a batch behind so many and so many more.
+fn left_of_batch(before: usize, more: usize) -> usize
+    ensures { result + (before + more) % 4096 ≡ 4096 }
+{
+    BATCH - (before % BATCH + more % BATCH) % BATCH
+}
+
 impl Filling {
     /// An empty log of at most so many segments of the shape, of which is asked what the plan says.
     pub fn new(alloc: Global, shape: Shape, most: u32, plan: &LivePlan) -> Result<Filling, Memory>
@@ -181,11 +188,15 @@ impl Filling {
         self.segments.room()
     }
 
-    /// How many rows end the next batch, behind those that wait once so many more came.
+    /// How many rows end the next batch, once so many more came: behind those that wait, or with no round behind all that came.
     pub fn wanted(&self, more: usize) -> usize
-        ensures { result + (length self.now.waiting + more) % 4096 ≡ 4096 }
+        ensures some { (0 < result) × (result ≤ 4096) }
+        ensures ends { 0 < self.now.loader.plan.rounds → result + (length self.now.waiting + more) % 4096 ≡ 4096 }
     {
-        BATCH - (self.waiting.len() % BATCH + more % BATCH) % BATCH
+        if self.loader.makes_no_round() {
+            return left_of_batch(self.count as usize, more);
+        }
+        left_of_batch(self.waiting.len(), more)
     }
 
     // Counts rows that came. The answer is whether they are counted alone: there is no room for all, or the loader was stopped.

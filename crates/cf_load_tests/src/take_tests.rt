@@ -121,7 +121,9 @@ fn rows_are_loaded_as_they_come(rt: HostRuntime) -> Result<(), Fail> {
             assert!(rt; loaded.lives().is_empty() && are_same(loaded.finals(), batched.finals()));
             let tags = sealing.nums.iter().zip(sealing.writers.iter());
             for (place, (num, writer)) in (0..count).zip(tags) {
-                assert!(rt; *num / 4096 == place / 4096 && u32::from(*writer) == *num % u32::from(writers));
+                assert!(rt;
+                    *num / 4096 == place / 4096 && u32::from(*writer) == *num % u32::from(writers)
+                );
                 assert!(rt; writers > 1 || *num == place);
             }
         }

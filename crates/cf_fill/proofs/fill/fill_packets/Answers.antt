@@ -1,4 +1,4 @@
-use Rattle.std.proofs.Common.{rules, ◌≡◌, arith, ℕ, List, [], ◌++◌, Option, Err, All, sym, ap, subst, ◌∙◌}
+use Rattle.std.proofs.Common.{rules, ◌≡◌, arith, ℕ, List, [], ◌++◌, length, Option, Err, All, sym, ap, subst, ◌∙◌}
 use Rattle.std.proofs.lemmas.Result.{err_from_is_err_and, IfOk-at_ok}
 use Rattle.cf_row.specs.Row.{RowValue, Fits}
 use Rattle.cf_row.specs.declared.schema.Attr.{Attr}
@@ -11,7 +11,7 @@ use Rattle.cf_intake.specs.declared.refusal.Halt.{Halt}
 use Rattle.cf_intake.specs.declared.refusal.Halt.TheVariants.{Stopped}
 use Rattle.cf_intake.specs.declared.refusal.Stop.TheVariants as stops
 use Rattle.cf_fill.proofs.Both.{given_ok, given_failed, stops_both, taken_ok, took_read, took_stopped}
-use Rattle.cf_fill.proofs.Filled.{keeps_all, keeps_then, waits_few, waits_short}
+use Rattle.cf_fill.proofs.Filled.{keeps_all, keeps_then, next_few, waits_few, waits_short}
 use Rattle.cf_intake.specs.Reading.{TakesPackets}
 use Rattle.cf_intake.specs.Rows.{CaptureValue}
 use Rattle.cf_intake.proofs.Piecewise.{stopped_on, finished_so}
@@ -67,7 +67,7 @@ loop-shelf-preserved g c =
       few = (
           let wait = waits_few old new rows c.loop-shelf.rows.items v.taken.2 filled beside.keeps beside.stops in
           let ahead = IfOk-at_ok _ was beside.few before more v.taken.1 in
-          omega (arith, wait, ahead)
+          next_few old new more c.loop-shelf.rows.items (length c.in_ok-rows.rows.items) filled beside.keeps wait ahead
           );
       keeps = keeps_then c.args.filling.now old new v.keeps beside.keeps;
       taken = (more, IfOk-at_ok _ was beside.read before more v.taken.1, filled);

@@ -17,8 +17,8 @@ returns-clause-few g c =
     let few : IfOk c.join_mut.result.1 (λ given. IfReadOn c.args.pieces.now (g.F.Shelf.rest c.args.shelf.now) (length given.items < wanted + 4096)) =
     search rules in
     IfOk-weaker c.join_mut.result.1 _ _ (λ given h before these on.
-    ahead_few wanted (length c.args.filling.now.waiting) (length c.args.rows.now.items) c.len.result (length given.items) c.wanted-wanted.ensures
-    (search rules) (h before these on)) few
+    ahead_few c.args.filling.now.loader.plan wanted (length c.args.filling.now.waiting) (length c.args.rows.now.items) c.len.result (length given.items)
+    (c.wanted-wanted.ensures.some.1) c.wanted-wanted.ensures.ends (search rules) (h before these on)) few
 
 -- a log that rows fill, and rows, may go to another thread
 loader_send : IsSend loader.the_row

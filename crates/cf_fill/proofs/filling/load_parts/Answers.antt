@@ -10,8 +10,7 @@ pub most-requires-clause-loading : goal.most-requires-clause-loading
 most-requires-clause-loading g c =
     let v = c.loop-count.invariant in
     let had = c.requires.rows in
-    let going : c.loop-count.loader.stopped ≡ false = search rules in
-    (
+    let going : c.loop-count.loader.stopped ≡ false = search rules in (
       had.before ++ take c.loop-count.count c.args.rows.now,
       (front_loaded c.args.segments.now c.loop-count.segments c.args.rows.now c.args.loader.now c.loop-count.loader c.loop-count.count 0 v.loads going
           had.before had.loaded).loading,
