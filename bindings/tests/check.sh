@@ -21,17 +21,25 @@ build() {
     sed -n '/^\*\* EXAMPLE/,/^\*\*   bindings/{s/^\*\*   //; /^\*\*/d; /^bindings/d; p}' "$here/../confluo.h"
     echo 'return (int)code; }'
 } > "$folder/header.c"
+# A rolling log's, in C and in C++.
+{
+    echo '#include "confluo_rolling.h"'
+    echo '#include <stdio.h>'
+    echo 'int main(void) {'
+    sed -n '/^\*\* EXAMPLE/,/^\*\* WHAT/{s/^\*\*   //; /^\*\*/d; p}' "$here/../confluo_rolling.h"
+    echo 'return 0; }'
+} > "$folder/rolling_header.c"
 # shellcheck disable=SC2016
 sed -n '/^```c$/,/^```$/{/^```/d; p}' "$here/../../docs/LIBRARY.md" > "$folder/page.c"
 example_prints() {
     [ "$("$folder/example")" = "2000 records, 200000 bytes" ] || { echo "check-c: the example prints something else"; exit 1; }
 }
 for standard in c99 c11 c17; do
-    echo '#include "confluo.h"' | "$cc" -std=$standard -Wall -Wextra -Wpedantic -Werror -I"$here/.." -fsyntax-only -x c -
+    echo '#include "confluo_rolling.h"' | "$cc" -std=$standard -Wall -Wextra -Wpedantic -Werror -I"$here/.." -fsyntax-only -x c -
 done
 if echo 'int main() { return 0; }' | "$cc" -x c++ -fsyntax-only - 2> /dev/null; then
     for standard in c++98 c++11 c++20; do
-        echo '#include "confluo.h"' | "$cc" -std=$standard -Wall -Wextra -Werror -I"$here/.." -fsyntax-only -x c++ -
+        echo '#include "confluo_rolling.h"' | "$cc" -std=$standard -Wall -Wextra -Werror -I"$here/.." -fsyntax-only -x c++ -
     done
 fi
 for flags in -O2 -fsanitize=address,undefined -fsanitize=thread; do
@@ -43,7 +51,7 @@ for flags in -O2 -fsanitize=address,undefined -fsanitize=thread; do
     example_prints
     build header "$flags" "$folder/header.c"
     [ "$("$folder/header")" = "record 0" ] || { echo "check-c: the example of confluo.h prints something else"; exit 1; }
-    # A program written from the header alone, in C and in C++.
+    # Programs written from the headers alone, in C and in C++.
     for language in c:c99:-lc c++:c++20:-lstdc++; do
         links=${language##*:} language=${language%:*}
         words="-x ${language%:*} -std=${language#*:}"
@@ -57,13 +65,19 @@ for flags in -O2 -fsanitize=address,undefined -fsanitize=thread; do
         "$cc" "$flags" "$folder/program.o" "$out/libconfluo.a" -pthread "$links" -o "$folder/program"
         "$folder/program" > "$folder/report"
         cmp -s "$folder/report" "$here/program.report" || { echo "check-c: the program prints another report in $language"; exit 1; }
+        # shellcheck disable=SC2086
+        "$cc" $words -g -Wall -Wextra -Wpedantic -Werror -I"$here/.." "$flags" -c "$folder/rolling_header.c" -o "$folder/program.o"
+        "$cc" "$flags" "$folder/program.o" "$out/libconfluo.a" -pthread "$links" -o "$folder/program"
+        [ "$("$folder/program")" = "9888 records after 90112, 593280 bytes" ] || { echo "check-c: the example of confluo_rolling.h prints something else in $language"; exit 1; }
     done
     build page "$flags" "$folder/page.c"
     [ "$("$folder/page")" = "2000 records, 120000 bytes" ] || { echo "check-c: the example of docs/LIBRARY.md prints something else"; exit 1; }
-    for name in calls asks names batches closes inline raw waits threads spans; do
+    for name in calls asks names batches closes inline raw waits threads spans rolling; do
         build $name "$flags" "$here/$name.c"
         "$folder/$name"
     done
 done
-build refusals -fsanitize=address -Wl,--wrap=malloc,--wrap=realloc "$here/refusals.c" && "$folder/refusals"
+for name in refusals rolling_refusals; do
+    build $name -fsanitize=address -Wl,--wrap=malloc,--wrap=realloc "$here/$name.c" && "$folder/$name"
+done
 echo "check-c: the library is clean in C by $cc"

@@ -16,7 +16,7 @@ done)
 [ -z "$missing" ] || { echo "check-package: the shared object lacks $missing"; exit 1; }
 readelf -d "$OUT/libconfluo.so.0" | grep -q 'soname: \[libconfluo.so.0\]' || { echo "check-package: another soname"; exit 1; }
 ${MAKE:-make} --no-print-directory install DESTDIR="$folder" PREFIX=/usr > /dev/null
-for file in include/confluo.h lib/libconfluo.a lib/libconfluo.so.0 lib/libconfluo.so lib/pkgconfig/confluo.pc; do
+for file in include/confluo.h include/confluo_rolling.h lib/libconfluo.a lib/libconfluo.so.0 lib/libconfluo.so lib/pkgconfig/confluo.pc; do
     [ -e "$folder/usr/$file" ] || { echo "check-package: $file is not installed"; exit 1; }
 done
 if ! command -v pkg-config > /dev/null || ! command -v "$cc" > /dev/null; then
@@ -28,6 +28,9 @@ export PKG_CONFIG_PATH="$folder/usr/lib/pkgconfig" PKG_CONFIG_SYSROOT_DIR="$fold
 "$cc" -std=c11 -o "$folder/shared" example.c $(pkg-config --cflags --libs confluo) -pthread
 # shellcheck disable=SC2046
 "$cc" -std=c11 -o "$folder/static" example.c $(pkg-config --cflags confluo) "$folder/usr/lib/libconfluo.a" -pthread
+# The other header finds the first one there.
+# shellcheck disable=SC2046
+echo '#include <confluo_rolling.h>' | "$cc" -std=c11 $(pkg-config --cflags confluo) -fsyntax-only -x c -
 for linked in shared static; do
     printed=$(LD_LIBRARY_PATH="$folder/usr/lib" "$folder/$linked")
     [ "$printed" = "2000 records, 200000 bytes" ] || { echo "check-package: the $linked example prints $printed"; exit 1; }

@@ -8,7 +8,7 @@
         print(reader.ask("all").words)
 
 A log has a fixed number of writers, each for one thread at a time, and any number of readers. A Span asks logs that follow one another
-as one. Each object has a
+as one; a Rolling log opens them itself. Each object has a
 lock, so an object may be used from several threads; different objects of one log run at the same time. Numbers that
 do not fit are refused with ValueError, and never cut. What the library refuses is an Error, with its code. In a
 forked child the objects of the parent must not be used, and they refuse to be; open a log of its own there. Do not
@@ -24,6 +24,7 @@ from .errors import Code, Error, SetupError
 from .log import Appended, Frame, Log, Reader, Room, Row, Span, Writer, check, version
 from .names import Attribute, Lane, Names, Question, Trigger
 from .over import Over, over
+from .rolling import Rolling, RollingReader, RollingWriter
 
 __all__ = [
     "Answer",
@@ -40,6 +41,9 @@ __all__ = [
     "Quad",
     "Question",
     "Reader",
+    "Rolling",
+    "RollingReader",
+    "RollingWriter",
     "Room",
     "Row",
     "SetupError",
