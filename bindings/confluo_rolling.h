@@ -15,7 +15,7 @@
 ** EXAMPLE
 **
 **   const char *setup = "schema records ts:u64,len:u32\nask all total len *\n";
-**   const confluo_sizes sizes = {.capacity = 4096, .writers = 1, .nodes = 64};
+**   const confluo_sizes sizes = {.capacity = 4096, .writers = 1, .nodes = 64, .reserved = 0};
 **   confluo_rolling *rolling = NULL;
 **   confluo_rolling_writer *writer = NULL;
 **   confluo_rolling_reader *reader = NULL;

@@ -3,7 +3,8 @@
 //! A [`Log`] is opened from the text of a setup, which names what is kept and what is asked. It takes a fixed number of
 //! records, at most 65,536. A [`Writer`] appends records, a [`Reader`] asks the questions of the setup; each may run in
 //! a thread of its own at the same time as all others, and none takes a lock. An [`Answer`] is exactly the
-//! question's meaning on the records below the tail that it names. A [`Span`] asks logs that follow one another as one.
+//! question's meaning on the records below the tail that it names. A [`Span`] asks logs that follow one another as one, and a
+//! [`Rolling`] log opens them itself.
 //!
 //! ```
 //! use confluo::{Body, Log, Sizes};
@@ -59,6 +60,7 @@ mod log;
 mod names;
 mod raw;
 mod reader;
+mod rolling;
 mod row;
 mod shared;
 mod span;
@@ -72,6 +74,7 @@ pub use error::{
 pub use log::{check, Log, Sizes};
 pub use names::{Asks, Attribute, Lane, LaneKind, Op, Part, Question, Setup, Trigger};
 pub use reader::{Reader, Rows};
+pub use rolling::{Placed, Rolling, RollingReader, RollingWriter};
 pub use row::{Row, Value};
 pub use span::Span;
 pub use writer::{Appended, Batch, Capture, Room, Writer};

@@ -5,7 +5,7 @@ use crate::raw::About;
 use crate::writer::Capture;
 
 /// What the setup of a log says. The log and its readers share it, from [`Log::setup`] and [`Reader::setup`](crate::Reader::setup).
-#[derive(Debug)]
+#[derive(Clone, Debug)]
 pub struct Setup {
     pub(crate) text: String,
     pub(crate) width: u64,

@@ -43,7 +43,7 @@ impl Shared {
     }
 
     /// Waits until the tail is above `after`, the log is closed, or the time is over. Answers the tail.
-    pub(crate) fn wait(&self, after: u32, time: Duration, mut tail: impl FnMut() -> u32) -> u32 {
+    pub(crate) fn wait<T: Copy + PartialOrd>(&self, after: T, time: Duration, mut tail: impl FnMut() -> T) -> T {
         let began = Instant::now();
         self.waiters.fetch_add(1, Ordering::SeqCst);
         let mut guard = self.lock.lock().unwrap_or_else(PoisonError::into_inner);
