@@ -19,7 +19,7 @@ sys.dont_write_bytecode = True
 import crate_table  # noqa: E402
 
 ROOT = pathlib.Path(__file__).resolve().parent.parent
-MOST_REPEATS = 1335
+MOST_REPEATS = 1374
 LONGEST_CHAIN = 13
 CLAUSE = re.compile(r"\s*(requires|ensures)\b")
 
