@@ -592,12 +592,12 @@ static inline uint32_t confluo_rolling_row(confluo_rolling_reader *reader, uint3
 static inline size_t confluo_rolling_words(confluo_rolling_reader *reader, size_t from, uint64_t *out, size_t out_len) {
     return reader != NULL && reader->has_answer_private ? confluo_span_words(reader->span_private, from, out, out_len) : 0;
 }
-/* With confluo_span_report of confluo.h, and its text above: the report of the records that the reader has seen.
-**
-** static inline uint32_t confluo_rolling_report(confluo_rolling_reader *reader, char *text, size_t text_len, size_t *count) {
-**     return confluo_span_report(reader != NULL ? reader->span_private : NULL, text, text_len, count);
-** }
-*/
+static inline uint32_t confluo_rolling_report(confluo_rolling_reader *reader, char *text, size_t text_len, size_t *count) {
+    return confluo_span_report(reader != NULL ? reader->span_private : NULL, text, text_len, count);
+}
+static inline uint32_t confluo_rolling_make_report(confluo_rolling_reader *reader, char **text, size_t *count) {
+    return confluo_span_make_report(reader != NULL ? reader->span_private : NULL, text, count);
+}
 static inline uint64_t confluo_before_private(const confluo_rolling_reader *reader) {
     return (reader->segment_private->number_private + 1 - reader->segments_private) * reader->rolling_private->sizes_private.capacity;
 }

@@ -229,8 +229,8 @@ static void report_is(confluo_span *span, const char *wanted, const char *what) 
 /* The report of three logs is that of one large log with the same records, and that of one log is its reader's. */
 static void *reports(void *given) {
     static const char text[] =
-        "schema records ts:u64,host:u32,len:u32\nbucket ts 4000\nindex hosts host\ntally keys host len *\n"
-        "aggregate sums len *\ntrigger heavy sums sum > 150\ntrigger light sums least < 30\n"
+        "schema records ts:u64,host:u32,len:u32\nwidth 4000\nindex hosts host\ntally keys host len *\n"
+        "filter every *\naggregate sums every len\ntrigger heavy sums sum > 150\ntrigger light sums least < 30\n"
         "ask all total len *\nask third find hosts 2 2\nask each groups keys\nask fired fired heavy\nask some list len > 45\n";
     confluo_reader *large = filled(text, 40, 0, 10), *parts[3];
     confluo_span *span = NULL;

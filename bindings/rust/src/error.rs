@@ -495,8 +495,8 @@ mod tests {
     #[test]
     fn versions_fit() {
         let cases = [
-            (21_999, false),
-            (23_000, true),
+            (23_999, false),
+            (24_000, true),
             (29_007, true),
             (999_999, true),
             (1_000_000, false),

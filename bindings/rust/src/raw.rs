@@ -117,7 +117,7 @@ pub struct Head {
 }
 
 /// `CONFLUO_VERSION` of the header that this crate is written for.
-pub const VERSION: u32 = 23_000;
+pub const VERSION: u32 = 24_000;
 
 pub const OK: u32 = 0;
 pub const MEMORY: u32 = 1;

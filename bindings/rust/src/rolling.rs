@@ -432,6 +432,15 @@ impl RollingReader {
         self.span.groups(lane)
     }
 
+    /// The report of the records that it has seen, as [`Span::report`] gives it.
+    ///
+    /// # Errors
+    ///
+    /// [`ReportError::Memory`].
+    pub fn report(&mut self) -> Result<String, ReportError> {
+        self.span.report()
+    }
+
     /// Reads back the record at that offset.
     ///
     /// # Errors

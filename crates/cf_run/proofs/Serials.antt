@@ -20,7 +20,8 @@ use Rattle.cf_intake.specs.declared.series.Series.{Series}
 use Rattle.cf_intake.proofs.OneSeries.{one_series}
 use Rattle.cf_intake.proofs.SingleReads.{rows_given}
 use Rattle.cf_follow.proofs.Fronts.{rows_front, rows_whole}
-use Rattle.cf_long.specs.Ends.{HaveCome, HaveEnded}
+use Rattle.cf_long.specs.Ahead.{HaveEnded}
+use Rattle.cf_long.specs.Ends.{HaveCome}
 use Rattle.cf_long.specs.Ends.HaveCome.{midway, ended}
 use Rattle.cf_run.specs.Lengths.{IsLeftOf}
 
