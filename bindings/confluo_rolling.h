@@ -144,6 +144,10 @@ static inline CONFLUO_CHECKED CONFLUO_NEEDS(6) uint32_t
 confluo_rolling_row(confluo_rolling_reader *reader, uint32_t offset, uint32_t *number, confluo_value *values, size_t values_len,
                     size_t *count);
 static inline size_t confluo_rolling_words(confluo_rolling_reader *reader, size_t from, uint64_t *out, size_t out_len);
+static inline CONFLUO_CHECKED CONFLUO_NEEDS(4) uint32_t
+confluo_rolling_report(confluo_rolling_reader *reader, char *text, size_t text_len, size_t *count);
+static inline CONFLUO_CHECKED CONFLUO_NEEDS(2) uint32_t
+confluo_rolling_make_report(confluo_rolling_reader *reader, char **text, size_t *count);
 
 /* Says how many segments the reader has, and, unless `before` is NULL, the place of its offset 0: how many records are in the segments
 ** before. The thread that has `reader`.

@@ -290,7 +290,8 @@ static void who_was_away(void) {
     confluo_rolling_reader *reader = reader_of(rolling);
     confluo_head head = {7, 7, 7};
     uint64_t quad[4] = {7, 7, 7, 7}, place = 7, before = 7;
-    size_t segments = 7;
+    size_t segments = 7, length = 7, count = 7;
+    char *text = NULL;
     is(append_to(away, 1), CONFLUO_OK, "append");
     is(confluo_rolling_ask(reader, 0, &head), CONFLUO_OK, "ask");
     for (uint64_t k = 1; k < 41; k++) is(append_to(writer, 1), CONFLUO_OK, "append");
@@ -303,6 +304,12 @@ static void who_was_away(void) {
     is(quad[0], 1, "of the last answer");
     is(confluo_rolling_segments(reader, &segments, &before), CONFLUO_OK, "segments");
     is(segments == 2 && before == 36, 1, "the last two segments");
+    is(confluo_rolling_make_report(reader, &text, &length), CONFLUO_OK, "report");
+    is(text != NULL && length == strlen(text) && strncmp(text, "records 6\n", 10) == 0, 1, "of the records that it sees");
+    is(confluo_rolling_report(reader, NULL, 0, &count), CONFLUO_OK, "report without room");
+    is(count, length, "as long");
+    is(confluo_rolling_report(NULL, NULL, 0, &count), CONFLUO_NOTHING, "the report of nothing");
+    free(text);
     confluo_free_rolling(rolling), confluo_free_rolling_writer(writer), confluo_free_rolling_writer(away);
     confluo_free_rolling_reader(reader);
 }

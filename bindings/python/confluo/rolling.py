@@ -246,6 +246,10 @@ class RollingReader(Part):
         """All groups of an aggregate or a tally, given by its name or its number, on the records that it has seen."""
         return self._by(lambda it: it.groups(lane))
 
+    def report(self) -> str:
+        """The report of the records that it has seen, as `report` of a Span gives it."""
+        return self._by(lambda it: it.report())
+
     def row(self, offset: int) -> Row:
         """The record at an offset that it has seen."""
         return self._by(lambda it: it.row(offset))

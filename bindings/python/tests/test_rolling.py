@@ -144,6 +144,7 @@ class Rolling(unittest.TestCase):
             self.refused(confluo.Code.UNFIT, writer.append_values, 0, [])
             self.assertEqual((reader.tail(), reader.before), (401, 1200))
             self.assertEqual(reader.row(400).number, 599)
+            self.assertTrue(reader.report().startswith("records 401\n"))
             self.refused(confluo.Code.NO_ROW, reader.row, 401)
         with confluo.Rolling("schema records ts:u64,mac:b6\n", 2, keep=1) as rolling:
             writer, reader = rolling.writer(), rolling.reader()

@@ -1,6 +1,6 @@
 //! Logs that go on in their next segment by themselves.
 use crate::answer::{Answer, Groups};
-use crate::error::{AppendError, AskError, Code, GroupsError, OpenError, RowError, SpanError, TakeError};
+use crate::error::{AppendError, AskError, Code, GroupsError, OpenError, ReportError, RowError, SpanError, TakeError};
 use crate::log::{Log, Sizes};
 use crate::names::Setup;
 use crate::raw;

@@ -212,6 +212,7 @@ fn frames_and_rows_go_on() -> Result<(), Box<dyn Error>> {
     assert_eq!((reader.tail()?, reader.before()), (401, 1_200));
     assert_eq!(reader.row(400)?.number, 999);
     assert_eq!(reader.row(401), Err(RowError::NoRow));
+    assert!(reader.report()?.starts_with("records 401\n"));
     let rolling = Rolling::open("schema records ts:u64,mac:b6\n", sizes(2, 1, 0), 1)?;
     let (mut writer, mut reader) = (rolling.writer()?, rolling.reader()?);
     let values = [Value::Number(1), Value::Bytes(vec![2, 0, 0, 0, 0, 1])];
