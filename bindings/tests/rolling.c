@@ -276,11 +276,12 @@ static int stop_once(uint32_t keep, unsigned long after) {
     confluo_free_rolling_reader(reader);
     return seen < finished;
 }
-static void a_slow_writer(uint32_t keep) {
-    enum { ROUNDS = 40 };
-    int waited = 0;
-    for (unsigned long round = 0; round < ROUNDS && !failed; round++) waited += stop_once(keep, round + 3);
-    printf("rolling: of %d writers that were stopped %d were in the midst of a record\n", (int)ROUNDS, waited);
+/* Until some were stopped in the midst of a record, which is a matter of luck. */
+static void slow_writers(void) {
+    int rounds = 0, waited = 0;
+    for (; rounds < 300 && waited < 5 && !failed; rounds++) waited += stop_once(0, 3 + (unsigned long)rounds);
+    printf("rolling: of %d writers that were stopped %d were in the midst of a record\n", rounds, waited);
+    for (rounds = 0; rounds < 40 && !failed; rounds++) (void)stop_once(2, 3 + (unsigned long)rounds);
 }
 
 /* A writer and a reader that nobody called while segments came and went. */
@@ -517,7 +518,7 @@ int main(void) {
     in_a_small_stack(alone);
     waits();
     come_and_go(1), come_and_go(3);
-    if (!is_watched) a_slow_writer(0), a_slow_writer(2);
+    if (!is_watched) slow_writers();
     many_threads(0), many_threads(3);
     return failed;
 }

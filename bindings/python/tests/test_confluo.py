@@ -34,11 +34,11 @@ class Calls(unittest.TestCase):
 
     def test_the_example_of_the_documents(self):
         page = (HERE.parents[2] / "docs" / "LIBRARY.md").read_text()
-        example = re.search(r"```python\n(.*?)```", page, re.S).group(1)
-        printed = io.StringIO()
-        with contextlib.redirect_stdout(printed):
-            exec(example, {"confluo": confluo})
-        self.assertEqual(printed.getvalue(), "[Quad(count=2000, sum=120000, least=60, greatest=60)]\n")
+        for example in re.findall(r"```python\n(.*?)```", page, re.S):
+            printed = io.StringIO()
+            with contextlib.redirect_stdout(printed):
+                exec(example, {"confluo": confluo})
+            self.assertEqual(printed.getvalue().strip(), example.rsplit("  # ", 1)[1].strip())
 
     def test_refusals(self):
         log = confluo.Log("schema packet\nask all list *\n", capacity=1)
